@@ -1,0 +1,4 @@
+pub mod Schedule
+pub mod Padding
+pub mod Hash
+pub mod Examples
