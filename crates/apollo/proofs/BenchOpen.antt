@@ -1,0 +1,173 @@
+-- Item 11 of the bench sheet, and open's part of item 7. Assumes nothing.
+use Prim.Native.Nat.{ℕ, _+_, _-_, _*_, _≤_}
+use mathlib.Core.Path.{_≡_, refl, sym, ap, _∙_}
+use mathlib.Core.List.{List, [], _∷_, _++_, flatten, append-nil}
+use mathlib.Core.Bool.{true, false, _&&_, not, cond}
+use native.Mathlib.Nat.{zero-mod}
+use native.Mathlib.Omega.{arith}
+use lib.ListN.{length, take, drop}
+use lib.Seq.{take-at}
+use lib.Dec.{eqb, ltb}
+use borrow.Author.Tests.{lt-ltb, le-ltb, eq-eqb}
+use Rattle.sha256.specs.Fips.{sha256}
+use Rattle.apollo.specs.declared.Replica.{Replica}
+use Rattle.apollo.specs.Bytes.{number4, zeros}
+use Rattle.apollo.specs.Setup.{leader}
+use Rattle.apollo.specs.Frame.{round, height, digest, sealed, blockHead, makeBlock}
+use Rattle.apollo.specs.Log.{slot, genesis, store, highest}
+use Rattle.apollo.specs.Replica.{fresh, zeroReplica, leads, validSetup, validReplica, validMasks}
+use Rattle.apollo.specs.Enter.{State, Effect, commitLimit, commit, tipped, holding, ownBlock, proposing, enterRound}
+use Rattle.apollo.specs.Outcome.{Outcome, refused, taken, guarded}
+use Rattle.apollo.specs.Open.{openWith}
+use Rattle.apollo.specs.Tick.{tickWith}
+use Rattle.apollo.specs.Calls.{openCall, tickCall}
+use Rattle.apollo.specs.BenchSheet.{setup, after, number, newRound, block}
+use Rattle.apollo.proofs.Tests.{both, cond-true, cond-false}
+use Rattle.apollo.proofs.Validity.{SetupFacts, setup-facts, valid-of}
+use Rattle.apollo.proofs.Slots.{length-zeros, length-store}
+use Rattle.apollo.proofs.Made.{block-length, block-made}
+
+-- the state before and after an open is taken, the round not yet entered
+abbrev unopened : (log masks : List ℕ) → State
+unopened log masks = record { replica = zeroReplica; log = log; masks = masks }
+
+abbrev opened : (id f timeout T : ℕ) → State
+opened id f timeout T = record { replica = fresh id f timeout T; log = zeros (512 * T); masks = zeros T }
+
+module _ (id f timeout T : ℕ) (log masks entry out : List ℕ) (valid : validSetup (fresh id f timeout T) log ≡ true)
+    (lent : validMasks (fresh id f timeout T) masks ≡ true) (room : 1024 ≤ length out) where
+  opens : openCall id f timeout T log masks entry out
+      ≡ cond (ltb 400 (length entry)) (refused (unopened log masks) out 5 0)
+      (taken (enterRound sha256 entry (opened id f timeout T)) out)
+  unfolding openWith
+  opens =
+      let r : Replica = fresh id f timeout T in
+      let v : not (validSetup r log && validMasks r masks) ≡ false =
+      ap not (both (validSetup r log) (validMasks r masks) valid lent) in
+      cond-false _ _ v ∙ cond-false _ _ (le-ltb (length out) 1024 room)
+
+  pub open-fits : length entry ≤ 400
+      → openCall id f timeout T log masks entry out ≡ taken (enterRound sha256 entry (opened id f timeout T)) out
+  open-fits l = opens ∙ cond-false _ _ (le-ltb 400 (length entry) l)
+
+  pub open-400 : length entry ≡ 400 → number (openCall id f timeout T log masks entry out) ≡ 0
+  unfolding taken
+  open-400 l = ap number (open-fits (omega arith))
+
+  pub open-401 : length entry ≡ 401 → number (openCall id f timeout T log masks entry out) ≡ 5
+  unfolding refused
+  open-401 l = ap number (opens ∙ cond-true _ _ (lt-ltb 400 (length entry) (omega arith)))
+
+module _ (f timeout : ℕ) (log masks entry out : List ℕ) (valid : validSetup (fresh 0 f timeout 1) log ≡ true)
+    (lent : validMasks (fresh 0 f timeout 1) masks ≡ true) (room : 1024 ≤ length out) (l : length entry ≤ 400) where
+  new : State
+  new = opened 0 f timeout 1
+
+  first : List ℕ
+  unfolding new
+  first = ownBlock sha256 entry new
+
+  leader-1 : leader (setup f 1) 1 ≡ 0
+  unfolding leader
+  leader-1 = zero-mod (2 * f + 1)
+
+  proposes : openCall 0 f timeout 1 log masks entry out
+      ≡ taken (record { state = proposing sha256 entry new; emitted = first ∷ [] }) out
+  unfolding new first enterRound leads fresh
+  proposes =
+      open-fits 0 f timeout 1 log masks entry out valid lent room l
+      ∙ ap (λ (e : Effect). taken e out) (cond-true _ _ (eq-eqb (leader (setup f 1) 1) 0 leader-1))
+
+  parent-length : length (digest (slot (zeros 512) 0)) ≡ 32
+  unfolding slot genesis zeros
+  parent-length = refl
+
+  first-length : length first ≡ 512
+  unfolding new first ownBlock fresh
+  first-length = block-length 0 1 (0 + 1) (digest (slot (zeros 512) 0)) entry parent-length l
+
+  first-block : block (setup f 1) first ≡ true
+  unfolding new first ownBlock fresh
+  first-block =
+      block-made 0 1 (0 + 1) (digest (slot (zeros 512) 0)) entry parent-length l (setup f 1) (sym leader-1)
+      (omega arith) (omega arith) (omega arith) (omega arith) (omega arith)
+
+  first-out : take 512 ((first ++ []) ++ drop 512 out) ≡ first
+  first-out = rw append-nil (take-at first (drop 512 out) 512 first-length)
+
+  first-round : round ((first ++ []) ++ drop 512 out) ≡ 1
+  unfolding new first ownBlock fresh number4 makeBlock sealed blockHead
+  first-round = refl
+
+  pub open-emits : (number (openCall 0 f timeout 1 log masks entry out) ≡ 0)
+      × (openCall 0 f timeout 1 log masks entry out .answer .frames ≡ 1)
+      × (block (setup f 1) (take 512 (openCall 0 f timeout 1 log masks entry out .out)) ≡ true)
+      × (round (openCall 0 f timeout 1 log masks entry out .out) ≡ 1)
+      × (newRound (openCall 0 f timeout 1 log masks entry out) ≡ 2)
+  unfolding taken flatten
+  open-emits = (
+    ap number proposes,
+    ap (λ (o : Outcome). o .answer .frames) proposes,
+    ap (λ (o : Outcome). block (setup f 1) (take 512 (o .out))) proposes ∙ ap (block (setup f 1)) first-out ∙ first-block,
+    ap (λ (o : Outcome). round (o .out)) proposes ∙ first-round,
+    ap newRound proposes ∙ (unfold new proposing holding tipped commit fresh in refl),
+  )
+
+  stored : List ℕ
+  unfolding first
+  stored = store (zeros 512) 1 first
+
+  none-committed : (k : ℕ) → k ≡ 0 → (highest stored k ≡ 0) × (height (slot stored (highest stored k)) ≡ 0)
+  unfolding highest slot genesis number4 zeros
+  none-committed k z = (ap (highest stored) z, ap (λ j. height (slot stored (highest stored j))) z)
+
+  -- the record that the open leaves is valid, with R = T + 1
+  left-valid : validReplica (proposing sha256 entry new .replica) (proposing sha256 entry new .log) ≡ true
+  unfolding new first stored proposing holding tipped commit commitLimit fresh leads
+  left-valid =
+      let s : SetupFacts (fresh 0 f timeout 1) log = setup-facts (fresh 0 f timeout 1) log valid in
+      let low : 1 ≤ f = s .f-low in
+      let c : (highest stored (1 - f) ≡ 0) × (height (slot stored (highest stored (1 - f))) ≡ 0) =
+      none-committed (1 - f) (omega arith) in
+      let size : length (zeros 512) ≡ 512 = length-zeros 512 in
+      let kept : length stored ≡ length (zeros 512) = length-store (zeros 512) 1 first (omega arith) (omega arith) first-length in
+      let a : highest stored (1 - f) ≡ 0 = c .0 in
+      let b : height (slot stored (highest stored (1 - f))) ≡ 0 = c .1 in
+      valid-of (proposing sha256 entry new .replica) stored (record {
+        setup =
+            record {
+              id-below = s .id-below;
+              f-low = s .f-low;
+              f-high = s .f-high;
+              timeout-low = s .timeout-low;
+              timeout-high = s .timeout-high;
+              last-low = omega arith;
+              last-high = omega arith;
+              log-length = omega arith;
+            };
+        round-low = omega arith;
+        round-high = omega arith;
+        timer-high = omega arith;
+        tip-below = omega arith;
+        tip-height = omega arith;
+        committed-high = omega arith;
+        committed-under = omega arith;
+        committed-height = omega arith;
+        led = refl;
+      })
+
+  left-over : (entry′ out′ : List ℕ) → tickCall (proposing sha256 entry new) entry′ out′ ≡ refused (proposing sha256 entry new) out′ 3 0
+  unfolding tickWith guarded
+  left-over entry′ out′ =
+      let s : State = proposing sha256 entry new in
+      let v : not (validReplica (s .replica) (s .log) && validMasks (s .replica) (s .masks)) ≡ false =
+      ap not (both (validReplica (s .replica) (s .log)) (validMasks (s .replica) (s .masks)) left-valid
+      (unfold new proposing holding tipped commit fresh zeros in refl)) in
+      let over : eqb (s .replica .round .0) (s .replica .«last_round» .0 + 1) ≡ true =
+      unfold new proposing holding tipped commit fresh in refl in
+      cond-false _ _ v ∙ cond-true _ _ over
+
+  pub then-over : (entry′ out′ : List ℕ) → number (tickCall (after (openCall 0 f timeout 1 log masks entry out)) entry′ out′) ≡ 3
+  unfolding taken refused
+  then-over entry′ out′ =
+      ap (λ (o : Outcome). number (tickCall (after o) entry′ out′)) proposes ∙ ap number (left-over entry′ out′)

@@ -1,0 +1,123 @@
+-- Items 6 and 7 of the bench sheet: stale branches, and the length of the entry. Assumes nothing.
+use Prim.Native.Nat.{ℕ, _+_, _-_, _*_, _/_, _%_, _≤_}
+use mathlib.Core.Path.{_≡_, ap}
+use mathlib.Core.List.{List, [], _∷_, flatten}
+use mathlib.Core.Option.{Option, none, some}
+use mathlib.Core.Bool.{true, _&&_, not}
+use native.Mathlib.Omega.{arith}
+use lib.ListN.{length, take}
+use lib.Dec.{eqb, ltb}
+use Rattle.sha256.specs.Fips.{sha256}
+use Rattle.apollo.specs.Bytes.{same, within}
+use Rattle.apollo.specs.Setup.{Setup, setupOf}
+use Rattle.apollo.specs.Frame.{signer, round, frames, blockForm, blameForm, checked}
+use Rattle.apollo.specs.Log.{attach}
+use Rattle.apollo.specs.Masks.{bit, mask}
+use Rattle.apollo.specs.Enter.{State}
+use Rattle.apollo.specs.Outcome.{refused, taken}
+use Rattle.apollo.specs.Branch.{lastOf, childOf, Verdict, firstUncertified, grown, faulty, judged, judgedAll, placed, branched, branchWith}
+use Rattle.apollo.specs.Blame.{heard, blameWith}
+use Rattle.apollo.specs.Tick.{tickWith}
+use Rattle.apollo.specs.Calls.{branchCall, blameCall, tickCall}
+use Rattle.apollo.specs.BenchSheet.{Callable, blocks, number}
+use Rattle.apollo.proofs.Tests.{by-cond}
+use Rattle.apollo.proofs.Judging.{passes, too-long, stale-branch, fresh-branch}
+
+-- after 10 a branch is answered 0, 11, 12 or 13
+placed-number : (P : ℕ → Type 0) → P 0 → P 11 → P 12 → P 13 → (entry out : List ℕ) (s : State) (x : List ℕ)
+    (xs : List (List ℕ)) (a : Option ℕ) → P (number (placed sha256 entry out s x xs a))
+unfolding placed refused taken
+placed-number P p0 p11 p12 p13 entry out s x xs none = p11
+placed-number P p0 p11 p12 p13 entry out s x xs (some a) =
+    let c : ℕ = 512 * s .replica .«committed_round» .0 in
+    by-cond (λ o. P (number o)) (eqb (firstUncertified (setupOf (s .replica)) (s .masks) a (x ∷ xs)) 0)
+    (λ _. by-cond (λ o. P (number o)) (same (take c (grown (s .log) a (x ∷ xs))) (take c (s .log))) (λ _. p0) (λ _. p12))
+    (λ _. p13)
+
+module _ {s : State} {out : List ℕ} (c : Callable s out) (entry : List ℕ) (l : length entry ≤ 400) (x : List ℕ)
+    (xs : List (List ℕ)) (three : s .replica .round .0 ≡ 3) (fit : length (x ∷ xs) ≤ s .replica .«last_round» .0)
+    (good : blocks (setupOf (s .replica)) x xs ≡ true) where
+  pub ends-in-2 : round (lastOf x xs) ≡ 2 → number (branchCall s (flatten (x ∷ xs)) entry out) ≡ 10
+  unfolding refused
+  ends-in-2 e = ap number (stale-branch c entry l x xs fit good (omega arith))
+
+  pub ends-in-3 : round (lastOf x xs) ≡ 3 → ¬ (number (branchCall s (flatten (x ∷ xs)) entry out) ≡ 10)
+  ends-in-3 e =
+      rw (fresh-branch c entry l x xs fit good (omega arith))
+      (placed-number (λ k. ¬ (k ≡ 10)) (λ z. omega arith) (λ z. omega arith) (λ z. omega arith) (λ z. omega arith) entry out s x
+      xs (attach (s .log) x (round x - 1)))
+
+-- the frames of a branch are answered 0, 7, 8 or 9
+module _ (P : ℕ → Type 0) (p0 : P 0) (p7 : P 7) (p8 : P 8) (p9 : P 9) (s : Setup) where
+  faulty-number : (x : List ℕ) → P (faulty sha256 s x)
+  unfolding faulty
+  faulty-number x =
+      by-cond P (not (checked sha256 x)) (λ _. p7) (λ _. by-cond P (not (blockForm s x)) (λ _. p8) (λ _. p0))
+
+  judged-number : (k : ℕ) (x : List ℕ) (xs : List (List ℕ)) → P (judged sha256 s k x xs .number)
+  unfolding judged
+  judged-number k x [] = p0
+  judged-number k x (y ∷ ys) =
+      let ih : P (judged sha256 s (k + 1) y ys .number) = judged-number (k + 1) y ys in
+      by-cond (λ (v : Verdict). P (v .number)) (eqb (faulty sha256 s y) 0)
+      (λ _. by-cond (λ (v : Verdict). P (v .number)) (childOf x y) (λ _. ih) (λ _. p9)) (λ _. faulty-number y)
+
+  all-number : (x : List ℕ) (xs : List (List ℕ)) → P (judgedAll sha256 s x xs .number)
+  unfolding judgedAll
+  all-number x xs =
+      by-cond (λ (v : Verdict). P (v .number)) (eqb (faulty sha256 s x) 0) (λ _. judged-number 1 x xs) (λ _. faulty-number x)
+
+Not5 : ℕ → Type 0
+Not5 k = ¬ (k ≡ 5)
+
+branched-not-5 : (entry out : List ℕ) (s : State) (xs : List (List ℕ)) → Not5 (number (branched sha256 entry out s xs))
+unfolding branched refused Not5
+branched-not-5 entry out s [] = λ e. omega arith
+branched-not-5 entry out s (x ∷ xs) =
+    let verdict : Verdict = judgedAll sha256 (setupOf (s .replica)) x xs in
+    by-cond (λ o. Not5 (number o)) (eqb (verdict .number) 0)
+    (λ _. by-cond (λ o. Not5 (number o)) (ltb (round (lastOf x xs)) (s .replica .round .0)) (λ _ e. omega arith)
+    (λ _. placed-number Not5 (λ e. omega arith) (λ e. omega arith) (λ e. omega arith) (λ e. omega arith) entry out s x xs
+    (attach (s .log) x (round x - 1))))
+    (λ _. all-number Not5 (λ e. omega arith) (λ e. omega arith) (λ e. omega arith) (λ e. omega arith) (setupOf (s .replica)) x xs)
+
+heard-not-5 : (entry out : List ℕ) (s : State) (x : List ℕ) → Not5 (number (heard sha256 entry out s x))
+unfolding heard refused taken Not5
+heard-not-5 entry out s x =
+    by-cond (λ o. Not5 (number o)) (not (checked sha256 x)) (λ _ e. omega arith)
+    (λ _. by-cond (λ o. Not5 (number o)) (not (blameForm (setupOf (s .replica)) x)) (λ _ e. omega arith)
+    (λ _. by-cond (λ o. Not5 (number o)) (ltb (s .replica .round .0) (round x)) (λ _ e. omega arith)
+    (λ _. by-cond (λ o. Not5 (number o)) (bit (signer x) (mask (s .masks) (round x))) (λ _ e. omega arith) (λ _ e. omega arith))))
+
+module _ {s : State} {out : List ℕ} (c : Callable s out) (bytes entry : List ℕ) where
+  module _ (l : length entry ≡ 400) where
+    pub branch-400 : ¬ (number (branchCall s bytes entry out) ≡ 5)
+    unfolding branchWith refused Not5
+    branch-400 =
+        rw (passes c entry (omega arith) _)
+        (by-cond (λ o. Not5 (number o))
+        (eqb (length bytes % 512) 0 && within 1 (length bytes / 512) (s .replica .«last_round» .0))
+        (λ _. branched-not-5 entry out s (frames (length bytes / 512) bytes)) (λ _ e. omega arith))
+
+    pub blame-400 : ¬ (number (blameCall s bytes entry out) ≡ 5)
+    unfolding blameWith refused Not5
+    blame-400 =
+        rw (passes c entry (omega arith) _)
+        (by-cond (λ o. Not5 (number o)) (eqb (length bytes) 512) (λ _. heard-not-5 entry out s bytes) (λ _ e. omega arith))
+
+    pub tick-400 : number (tickCall s entry out) ≡ 0
+    unfolding tickWith taken
+    tick-400 = ap number (passes c entry (omega arith) _)
+
+  module _ (l : length entry ≡ 401) where
+    pub branch-401 : number (branchCall s bytes entry out) ≡ 5
+    unfolding branchWith refused
+    branch-401 = ap number (too-long c entry (omega arith) _)
+
+    pub blame-401 : number (blameCall s bytes entry out) ≡ 5
+    unfolding blameWith refused
+    blame-401 = ap number (too-long c entry (omega arith) _)
+
+    pub tick-401 : number (tickCall s entry out) ≡ 5
+    unfolding tickWith refused
+    tick-401 = ap number (too-long c entry (omega arith) _)

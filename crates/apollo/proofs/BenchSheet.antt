@@ -1,0 +1,46 @@
+-- The bench sheet of document 01, whole. Assumes nothing.
+use mathlib.Core.Path.{refl}
+use Rattle.apollo.specs.BenchSheet.{BenchSheet, setup}
+use Rattle.apollo.proofs.BenchCommit.{leaders, chain-1-2, chain-1, chain-1-3, chain-1-2-3, mask-3, mask-1, mask-21}
+use Rattle.apollo.proofs.BenchRefusals.{ends-in-2, ends-in-3, branch-400, blame-400, tick-400, branch-401, blame-401, tick-401}
+use Rattle.apollo.proofs.BenchTicks.{first-blames, second-blames}
+use Rattle.apollo.proofs.BenchOpen.{open-400, open-401, open-emits, then-over}
+use Rattle.apollo.proofs.BenchBranches.{uncertified-9, number-9, replica-1, replica-0, committed-10, undone-10, uncertified-10, held-10}
+
+pub benchSheet : BenchSheet
+benchSheet =
+    record {
+      item-1 = leaders;
+      item-2 = λ r log f. (chain-1-2 r log f, λ t e. chain-1 r log f t);
+      item-3 = chain-1-3;
+      item-4 = chain-1-2-3;
+      item-5 =
+          λ T masks r. (mask-3 (setup 1 T) masks r refl, mask-1 (setup 1 T) masks r refl, mask-21 (setup 2 T) masks r refl);
+      item-6 =
+          λ s x xs entry out c l three fit good.
+          (ends-in-2 c entry l x xs three fit good, ends-in-3 c entry l x xs three fit good);
+      item-7 = (
+        λ id f timeout T log masks entry out v m room.
+            (open-400 id f timeout T log masks entry out v m room, open-401 id f timeout T log masks entry out v m room),
+        λ s bytes entry out c. (
+          λ l. (branch-400 c bytes entry l, blame-400 c bytes entry l, tick-400 c bytes entry l),
+          λ l. (branch-401 c bytes entry l, blame-401 c bytes entry l, tick-401 c bytes entry l),
+        ),
+      );
+      item-8 =
+          λ s entry out entry′ out′ c l l′ room full.
+          (first-blames c entry l full, second-blames c entry l entry′ out′ l′ room full);
+      item-9 =
+          λ s x entry out h l.
+          (uncertified-9 h entry l, λ m. (number-9 h entry l m, replica-1 h entry l m, replica-0 h entry l m));
+      item-10 =
+          λ s entry out h l. (
+            committed-10 h,
+            λ x good r p. (undone-10 h entry l x good r p, λ two three. uncertified-10 h entry l x good r p two),
+            λ y held good child four. held-10 h entry l held y good child four,
+          );
+      item-11 =
+          λ f timeout log masks entry out entry′ out′ v m room l.
+          let e = open-emits f timeout log masks entry out v m room l in
+          (e .0, e .1, e .2, e .3, e .4, then-over f timeout log masks entry out v m room l entry′ out′);
+    }

@@ -1,0 +1,125 @@
+-- Item 8 of the bench sheet: the tick that blames. Assumes nothing.
+use Prim.Native.Nat.{ℕ, _-_, _*_, _≤_}
+use mathlib.Core.Path.{_≡_, refl, sym, ap, _∙_, subst}
+use mathlib.Core.List.{List, [], _∷_, _++_, flatten, append-assoc}
+use native.Mathlib.Omega.{arith}
+use lib.ListN.{length, take, drop}
+use lib.Seq.{take-at}
+use borrow.Author.Tests.{eq-eqb, ne-eqb}
+use Rattle.sha256.specs.Fips.{sha256}
+use Rattle.apollo.specs.declared.Ticks.{Ticks}
+use Rattle.apollo.specs.Setup.{setupOf}
+use Rattle.apollo.specs.Frame.{round, sealed, blameHead, makeBlame}
+use Rattle.apollo.specs.Replica.{leads, withRound, withTimer}
+use Rattle.apollo.specs.Enter.{State, Effect, waiting, hearing, settle}
+use Rattle.apollo.specs.Outcome.{Outcome, taken}
+use Rattle.apollo.specs.Tick.{blaming, ticked, tickWith}
+use Rattle.apollo.specs.Calls.{tickCall}
+use Rattle.apollo.specs.BenchSheet.{setup, Callable, Blames, after, number}
+use Rattle.apollo.proofs.Tests.{cond-true, cond-false}
+use Rattle.apollo.proofs.Validity.{SetupFacts, Facts, facts, valid-of}
+use Rattle.apollo.proofs.Judging.{passes}
+use Rattle.apollo.proofs.Made.{blame-length, blame-round, blame-form, blame-checked}
+
+module _ {s : State} {out : List ℕ} (c : Callable s out) (entry : List ℕ) (l : length entry ≤ 400) where
+  -- what a tick gives, by the ticks left
+  tick-1 : s .replica .timer .0 ≡ 1 → tickCall s entry out ≡ taken (blaming sha256 entry s) out
+  unfolding tickWith ticked
+  tick-1 e =
+      passes c entry l _
+      ∙ ap (λ (m : Effect). taken m out)
+      (cond-false _ _ (ne-eqb (s .replica .timer .0) 0 (λ z. omega arith))
+      ∙ cond-true _ _ (eq-eqb (s .replica .timer .0) 1 e))
+
+  tick-2 : s .replica .timer .0 ≡ 2
+      → tickCall s entry out ≡ taken (record { state = waiting s (s .replica .round .0) (s .replica .timer .0 - 1); emitted = [] }) out
+  unfolding tickWith ticked
+  tick-2 e =
+      passes c entry l _
+      ∙ ap (λ (m : Effect). taken m out)
+      (cond-false _ _ (ne-eqb (s .replica .timer .0) 0 (λ z. omega arith))
+      ∙ cond-false _ _ (ne-eqb (s .replica .timer .0) 1 (λ z. omega arith)))
+
+  -- with one tick left the blame is emitted
+  blames : Blames (setupOf (s .replica)) (taken (blaming sha256 entry s) out) (s .replica .id) (s .replica .round .0)
+  unfolding taken blaming flatten
+  blames =
+      let R : ℕ = s .replica .round .0 in
+      let i : ℕ = s .replica .id in
+      let f : Facts (s .replica) (s .log) = facts (s .replica) (s .log) (c .valid) in
+      let e : Effect = settle sha256 entry (hearing (waiting s R 0) R i) R in
+      let rest : List ℕ = drop (512 * length (makeBlame sha256 i R ∷ e .emitted)) out in
+      let a : (makeBlame sha256 i R ++ flatten (e .emitted)) ++ rest ≡ makeBlame sha256 i R ++ (flatten (e .emitted) ++ rest) =
+      append-assoc (makeBlame sha256 i R) (flatten (e .emitted)) rest in
+      let t : take 512 ((makeBlame sha256 i R ++ flatten (e .emitted)) ++ rest) ≡ makeBlame sha256 i R =
+      ap (take 512) a ∙ take-at (makeBlame sha256 i R) _ 512 (blame-length i R) in
+      let high : R ≤ s .replica .«last_round» .0 = c .running in
+      let last : s .replica .«last_round» .0 ≤ 4096 = f .setup .last-high in
+      record {
+        taken = refl;
+        emitted = omega arith;
+        form =
+            rw t (blame-form (setupOf (s .replica)) i R (f .setup .id-below) (f .round-low) (c .running) (omega arith));
+        check = rw t (blame-checked i R);
+        by = unfold makeBlame sealed blameHead in refl;
+        for = rw a (blame-round i R (flatten (e .emitted) ++ rest) (omega arith));
+      }
+
+  pub first-blames : s .replica .timer ≡ s .replica .timeout → s .replica .timeout .0 ≡ 1
+      → Blames (setupOf (s .replica)) (tickCall s entry out) (s .replica .id) (s .replica .round .0)
+  first-blames full e = rw (tick-1 (ap (λ (t : Ticks). t .0) full ∙ e)) blames
+
+-- a state that waits with one tick less is as callable
+lower : {s : State} {out : List ℕ} → Callable s out → (out′ : List ℕ) → 1024 ≤ length out′ → (n : ℕ) → n ≤ s .replica .timeout .0
+    → Callable (waiting s (s .replica .round .0) n) out′
+unfolding waiting leads
+lower {s} c out′ room n l =
+    let f : Facts (s .replica) (s .log) = facts (s .replica) (s .log) (c .valid) in
+    let g : SetupFacts (s .replica) (s .log) = f .setup in
+    record {
+      valid =
+          valid-of (withTimer (withRound (s .replica) (s .replica .round .0)) n) (s .log) (record {
+            setup =
+                record {
+                  id-below = g .id-below;
+                  f-low = g .f-low;
+                  f-high = g .f-high;
+                  timeout-low = g .timeout-low;
+                  timeout-high = g .timeout-high;
+                  last-low = g .last-low;
+                  last-high = g .last-high;
+                  log-length = g .log-length;
+                };
+            round-low = f .round-low;
+            round-high = f .round-high;
+            timer-high = l;
+            tip-below = f .tip-below;
+            tip-height = f .tip-height;
+            committed-high = f .committed-high;
+            committed-under = f .committed-under;
+            committed-height = f .committed-height;
+            led = f .led;
+          });
+      lent = c .lent;
+      running = c .running;
+      room = room;
+    }
+
+pub second-blames : {s : State} {out : List ℕ} → Callable s out → (entry : List ℕ) → length entry ≤ 400 → (entry′ out′ : List ℕ)
+    → length entry′ ≤ 400 → 1024 ≤ length out′ → s .replica .timer ≡ s .replica .timeout → s .replica .timeout .0 ≡ 2
+    → (number (tickCall s entry out) ≡ 0) × (tickCall s entry out .answer .frames ≡ 0)
+    × Blames (setupOf (s .replica)) (tickCall (after (tickCall s entry out)) entry′ out′) (s .replica .id) (s .replica .round .0)
+unfolding taken waiting
+second-blames {s} {out} c entry l entry′ out′ l′ room full e =
+    let t : s .replica .timer .0 ≡ s .replica .timeout .0 = ap (λ (t : Ticks). t .0) full in
+    let n : ℕ = s .replica .timer .0 - 1 in
+    let w : State = waiting s (s .replica .round .0) n in
+    let first : tickCall s entry out ≡ taken (record { state = w; emitted = [] }) out = tick-2 c entry l (t ∙ e) in
+    let d : Callable w out′ = lower c out′ room n (omega arith) in
+    let second : tickCall w entry′ out′ ≡ taken (blaming sha256 entry′ w) out′ = tick-1 d entry′ l′ (omega arith) in
+    let blamed : Blames (setupOf (s .replica)) (tickCall w entry′ out′) (s .replica .id) (s .replica .round .0) =
+    rw second (blames d entry′ l′) in (
+      ap number first,
+      ap (λ (o : Outcome). o .answer .frames) first,
+      subst (λ (o : Outcome). Blames (setupOf (s .replica)) (tickCall (after o) entry′ out′) (s .replica .id) (s .replica .round .0)) (sym first) blamed,
+    )

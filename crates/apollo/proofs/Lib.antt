@@ -1,0 +1,13 @@
+pub mod Masks
+pub mod Tests
+pub mod Validity
+pub mod Slots
+pub mod Judging
+pub mod Made
+pub mod BenchCommit
+pub mod BenchRefusals
+pub mod BenchTicks
+pub mod BenchOpen
+pub mod BenchBranches
+pub mod BenchSheet
+pub mod BenchWitness

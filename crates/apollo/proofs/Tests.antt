@@ -1,0 +1,53 @@
+-- Tests: what a choice is where its test is known, and equality of lists as a test. Assumes nothing.
+use Prim.Native.Nat.{ℕ}
+use mathlib.Core.Path.{_≡_, refl, sym, subst, subst⁻¹}
+use mathlib.Core.List.{List, [], _∷_}
+use mathlib.Core.Bool.{Bool, true, false, _&&_, cond, true≢false}
+use lib.Dec.{eqb}
+use borrow.Author.Tests.{eq-eqb, eqb-true}
+use Rattle.apollo.specs.Bytes.{same}
+
+pub and-true : (a b : Bool) → (a && b) ≡ true → (a ≡ true) × (b ≡ true)
+and-true true b e = (refl, e)
+and-true false b e = absurd (true≢false (sym e))
+
+pub both : (a b : Bool) → a ≡ true → b ≡ true → (a && b) ≡ true
+both true b e d = d
+both false b e d = e
+
+-- what holds in both cases of a test holds of the choice
+pub by-cond : {A : Type 0} (P : A → Type 0) (b : Bool) {x y : A} → (b ≡ true → P x) → (b ≡ false → P y) → P (cond b x y)
+by-cond P true h k = h refl
+by-cond P false h k = k refl
+
+pub cond-true : {A : Type 0} {b : Bool} (x y : A) → b ≡ true → cond b x y ≡ x
+cond-true {b} x y e = subst⁻¹ (λ (c : Bool). cond c x y ≡ x) e refl
+
+pub cond-false : {A : Type 0} {b : Bool} (x y : A) → b ≡ false → cond b x y ≡ y
+cond-false {b} x y e = subst⁻¹ (λ (c : Bool). cond c x y ≡ y) e refl
+
+pub same-refl : (xs : List ℕ) → same xs xs ≡ true
+unfolding same
+same-refl [] = refl
+same-refl (x ∷ xs) = both (eqb x x) (same xs xs) (eq-eqb x x refl) (same-refl xs)
+
+pub same-of : {xs ys : List ℕ} → xs ≡ ys → same xs ys ≡ true
+same-of {xs} {ys} e = subst (λ zs. same xs zs ≡ true) e (same-refl xs)
+
+pub same-true : (xs ys : List ℕ) → same xs ys ≡ true → xs ≡ ys
+unfolding same
+same-true [] [] e = refl
+same-true [] (y ∷ ys) e = absurd (true≢false (sym e))
+same-true (x ∷ xs) [] e = absurd (true≢false (sym e))
+same-true (x ∷ xs) (y ∷ ys) e =
+    let p : (eqb x y ≡ true) × (same xs ys ≡ true) = and-true (eqb x y) (same xs ys) e in
+    let h : x ≡ y = eqb-true x y (p .0) in
+    let t : xs ≡ ys = same-true xs ys (p .1) in
+    cc
+
+pub different : (xs ys : List ℕ) → ¬ (xs ≡ ys) → same xs ys ≡ false
+different xs ys ne = go (same xs ys) refl
+  where
+    go : (b : Bool) → same xs ys ≡ b → same xs ys ≡ false
+    go true e = absurd (ne (same-true xs ys e))
+    go false e = e

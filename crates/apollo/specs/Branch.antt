@@ -1,0 +1,93 @@
+-- Document 01, "Hand in a branch".
+use Prim.Native.Nat.{ℕ, _+_, _-_, _*_, _/_, _%_}
+use mathlib.Core.List.{List, [], _∷_}
+use mathlib.Core.Option.{Option, none, some}
+use mathlib.Core.Bool.{Bool, _&&_, not, cond}
+use lib.ListN.{length, take}
+use lib.Dec.{eqb, ltb}
+use Rattle.apollo.specs.Bytes.{same, within}
+use Rattle.apollo.specs.Setup.{Setup, setupOf}
+use Rattle.apollo.specs.Frame.{round, height, frames, blockForm, linked, checked}
+use Rattle.apollo.specs.Log.{store, clearAbove, attach}
+use Rattle.apollo.specs.Masks.{gap}
+use Rattle.apollo.specs.Enter.{State, Effect, holding, enterRound}
+use Rattle.apollo.specs.Outcome.{Outcome, refused, taken, guarded}
+use Rattle.apollo.specs.Refusal.{badLength, badDigest, badForm, notChild, stale, unattached, revertsCommitted, notCertified}
+
+-- the last frame of a branch of x and the frames after it
+unfoldable pub lastOf : (x : List ℕ) (xs : List (List ℕ)) → List ℕ
+lastOf x [] = x
+lastOf x (y ∷ ys) = lastOf y ys
+
+-- frame y is the child of frame x
+unfoldable pub childOf : (x y : List ℕ) → Bool
+childOf x y = linked x y && ltb (round x) (round y)
+
+-- the first skipped round that is not certified, for frames on a parent in round lo; 0 if none
+unfoldable pub firstUncertified : Setup → (masks : List ℕ) (lo : ℕ) → List (List ℕ) → ℕ
+firstUncertified s masks lo [] = 0
+firstUncertified s masks lo (x ∷ xs) =
+    cond (eqb (gap s masks lo (round x - lo - 1)) 0) (firstUncertified s masks (round x) xs)
+    (gap s masks lo (round x - lo - 1))
+
+-- the log with each frame in the slot of its round
+unfoldable pub storeAll : (log : List ℕ) → List (List ℕ) → List ℕ
+storeAll log [] = log
+storeAll log (x ∷ xs) = storeAll (store log (round x) x) xs
+
+-- the log that taking these frames on round a makes
+unfoldable pub grown : (log : List ℕ) (a : ℕ) → List (List ℕ) → List ℕ
+grown log a xs = storeAll (clearAbove log a) xs
+
+-- number and place of a refusal, 0 and 0 if there is none
+pub record Verdict : Type 0 where
+  pub number : ℕ
+  pub place : ℕ
+
+module _ (hash : List ℕ → List ℕ) where
+  -- 7 and 8 of one frame
+  unfoldable pub faulty : Setup → List ℕ → ℕ
+  faulty s x = cond (not (checked hash x)) badDigest (cond (not (blockForm s x)) badForm 0)
+
+  -- 7, 8 and 9 of the frames after x, from index k on
+  unfoldable pub judged : Setup → (k : ℕ) (x : List ℕ) → List (List ℕ) → Verdict
+  judged s k x [] = record { number = 0; place = 0 }
+  judged s k x (y ∷ ys) =
+      cond (eqb (faulty s y) 0) (cond (childOf x y) (judged s (k + 1) y ys) (record { number = notChild; place = k }))
+      (record { number = faulty s y; place = k })
+
+  -- 7, 8 and 9 of all frames
+  unfoldable pub judgedAll : Setup → (x : List ℕ) (xs : List (List ℕ)) → Verdict
+  judgedAll s x xs = cond (eqb (faulty s x) 0) (judged s 1 x xs) (record { number = faulty s x; place = 0 })
+
+  -- the branch is taken on round a
+  unfoldable pub adopting : (entry : List ℕ) → State → (a : ℕ) (x : List ℕ) (xs : List (List ℕ)) → Effect
+  adopting entry s a x xs =
+      enterRound hash entry (holding s (grown (s .log) a (x ∷ xs)) (round (lastOf x xs)) (height (lastOf x xs)))
+
+  -- 11, 13, 12, and taken, by where x attaches
+  unfoldable pub placed : (entry out : List ℕ) → State → (x : List ℕ) (xs : List (List ℕ)) → Option ℕ → Outcome
+  placed entry out s x xs none = refused s out unattached 0
+  placed entry out s x xs (some a) =
+      let committed : ℕ = 512 * s .replica .«committed_round» .0 in
+      cond (eqb (firstUncertified (setupOf (s .replica)) (s .masks) a (x ∷ xs)) 0)
+      (cond (same (take committed (grown (s .log) a (x ∷ xs))) (take committed (s .log)))
+      (taken (adopting entry s a x xs) out) (refused s out revertsCommitted 0))
+      (refused s out notCertified (firstUncertified (setupOf (s .replica)) (s .masks) a (x ∷ xs)))
+
+  -- 7, 8, 9, 10, and what follows them
+  unfoldable pub branched : (entry out : List ℕ) → State → List (List ℕ) → Outcome
+  branched entry out s [] = refused s out badLength 0
+  branched entry out s (x ∷ xs) =
+      let verdict : Verdict = judgedAll (setupOf (s .replica)) x xs in
+      cond (eqb (verdict .number) 0)
+      (cond (ltb (round (lastOf x xs)) (s .replica .round .0)) (refused s out stale 0)
+      (placed entry out s x xs (attach (s .log) x (round x - 1))))
+      (refused s out (verdict .number) (verdict .place))
+
+  -- hand in a branch
+  unfoldable pub branchWith : State → (bytes entry out : List ℕ) → Outcome
+  branchWith s bytes entry out =
+      guarded s entry out
+      (cond (eqb (length bytes % 512) 0 && within 1 (length bytes / 512) (s .replica .«last_round» .0))
+      (branched entry out s (frames (length bytes / 512) bytes)) (refused s out badLength 0))

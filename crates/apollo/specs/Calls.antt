@@ -1,0 +1,24 @@
+-- Document 01, "A card": the six calls, with SHA-256 for the names ("Names").
+use Prim.Native.Nat.{ℕ}
+use mathlib.Core.List.{List}
+use Rattle.sha256.specs.Fips.{sha256}
+use Rattle.apollo.specs.Enter.{State}
+use Rattle.apollo.specs.Outcome.{Outcome}
+use Rattle.apollo.specs.Open.{openWith}
+use Rattle.apollo.specs.Branch.{branchWith}
+use Rattle.apollo.specs.Blame.{blameWith}
+use Rattle.apollo.specs.Tick.{tickWith}
+pub use Rattle.apollo.specs.Read.{readCall}
+pub use Rattle.apollo.specs.Fetch.{fetchCall, mayCopy}
+
+abbrev pub openCall : (id f timeout lastRound : ℕ) (log masks entry out : List ℕ) → Outcome
+openCall = openWith sha256
+
+abbrev pub branchCall : State → (bytes entry out : List ℕ) → Outcome
+branchCall = branchWith sha256
+
+abbrev pub blameCall : State → (bytes entry out : List ℕ) → Outcome
+blameCall = blameWith sha256
+
+abbrev pub tickCall : State → (entry out : List ℕ) → Outcome
+tickCall = tickWith sha256

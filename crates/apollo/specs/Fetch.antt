@@ -1,0 +1,46 @@
+-- Document 01, "Fetch".
+use Prim.Native.Nat.{ℕ, _*_, _/_, min}
+use mathlib.Core.List.{List, [], _∷_, _++_, flatten}
+use mathlib.Core.Bool.{Bool, not, cond}
+use lib.ListN.{length, take, drop}
+use lib.Dec.{eqb, ltb}
+use Rattle.apollo.specs.declared.Replica.{Replica}
+use Rattle.apollo.specs.declared.Fetched.{Fetched}
+use Rattle.apollo.specs.Bytes.{within}
+use Rattle.apollo.specs.Frame.{height}
+use Rattle.apollo.specs.Log.{chain}
+use Rattle.apollo.specs.Replica.{validReplica}
+use Rattle.apollo.specs.Refusal.{badReplica, outTooShort, absent}
+
+-- the answer, and the out buffer after the call
+pub record FetchOutcome : Type 0 where
+  pub answer : Fetched
+  pub out : List ℕ
+
+-- a refusal
+abbrev pub notFetched : (out : List ℕ) (number : ℕ) → FetchOutcome
+notFetched out number = record { answer = record { number = number; count = 0 }; out = out }
+
+-- the frames of height above h
+unfoldable pub above : (h : ℕ) → List (List ℕ) → List (List ℕ)
+above h [] = []
+above h (x ∷ xs) = cond (ltb h (height x)) (x ∷ above h xs) (above h xs)
+
+-- the chain (line) frames of height above h
+abbrev pub fetchable : Replica → (log : List ℕ) (h : ℕ) → List (List ℕ)
+fetchable r log h = above h (chain log (r .«last_round» .0))
+
+-- the counts that a taken fetch may have: from 1 to the smaller of all such frames and what fits
+unfoldable pub mayCopy : Replica → (log : List ℕ) (h : ℕ) (out : List ℕ) (count : ℕ) → Bool
+mayCopy r log h out count = within 1 count (min (length (fetchable r log h)) (length out / 512))
+
+-- fetch above height h, copying `count` frames where taken: 2, 4, 15, and taken
+unfoldable pub fetchCall : Replica → (log : List ℕ) (h : ℕ) (out : List ℕ) (count : ℕ) → FetchOutcome
+fetchCall r log h out count =
+    cond (not (validReplica r log)) (notFetched out badReplica)
+    (cond (ltb (length out) 1024) (notFetched out outTooShort)
+    (cond (eqb (length (fetchable r log h)) 0) (notFetched out absent)
+    (record {
+      answer = record { number = 0; count = count };
+      out = flatten (take count (fetchable r log h)) ++ drop (512 * count) out;
+    })))

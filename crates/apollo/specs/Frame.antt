@@ -1,0 +1,78 @@
+-- Document 01, "Names" and "Frames": the fields of a frame, the form of a block and of a blame, the check, and the frames made.
+use Prim.Native.Nat.{ℕ, zero, suc, _+_, _-_}
+use mathlib.Core.List.{List, [], _∷_, _++_}
+use mathlib.Core.Bool.{Bool, _&&_}
+use lib.ListN.{length, take, drop, getD}
+use lib.Dec.{eqb, leb, ltb}
+use Rattle.apollo.specs.Bytes.{part, number2, number4, bytes2, bytes4, zeros, same, within}
+use Rattle.apollo.specs.Setup.{Setup, replicas, leader}
+
+-- kind, signer, entry length, round, height
+abbrev pub kind : List ℕ → ℕ
+kind x = getD x 0 0
+
+abbrev pub signer : List ℕ → ℕ
+signer x = getD x 1 0
+
+abbrev pub entryLength : List ℕ → ℕ
+entryLength x = number2 x 2
+
+abbrev pub round : List ℕ → ℕ
+round x = number4 x 4
+
+abbrev pub height : List ℕ → ℕ
+height x = number4 x 8
+
+-- parent's name
+abbrev pub parent : List ℕ → List ℕ
+parent x = part x 12 32
+
+-- check, which is also the name
+abbrev pub digest : List ℕ → List ℕ
+digest x = part x 480 32
+
+-- the first n whole frames of some bytes
+unfoldable pub frames : ℕ → List ℕ → List (List ℕ)
+frames zero xs = []
+frames (suc n) xs = take 512 xs ∷ frames n (drop 512 xs)
+
+-- the bytes from `start` up to, not including, `end` are zero
+abbrev pub blank : List ℕ → (start end : ℕ) → Bool
+blank x start end = same (part x start (end - start)) (zeros (end - start))
+
+-- form of a block and of a blame
+unfoldable pub blockForm : Setup → List ℕ → Bool
+blockForm s x =
+    eqb (kind x) 1 && eqb (signer x) (leader s (round x)) && leb (entryLength x) 400 && within 1 (round x) (s .lastRound)
+    && within 1 (height x) (round x) && blank x (44 + entryLength x) 480
+
+unfoldable pub blameForm : Setup → List ℕ → Bool
+blameForm s x =
+    eqb (kind x) 2 && ltb (signer x) (replicas s) && blank x 2 4 && within 1 (round x) (s .lastRound) && blank x 8 480
+
+-- frame x names frame p as its parent, and its height is one more
+unfoldable pub linked : (p x : List ℕ) → Bool
+linked p x = same (digest p) (parent x) && eqb (height p + 1) (height x)
+
+-- bytes 0–479 of the block and of the blame that replica `id` makes for round r
+unfoldable pub blockHead : (id r h : ℕ) (parent entry : List ℕ) → List ℕ
+blockHead id r h parent entry =
+    1 ∷ id ∷ (bytes2 (length entry) ++ (bytes4 r ++ (bytes4 h ++ (parent ++ (entry ++ zeros (436 - length entry))))))
+
+unfoldable pub blameHead : (id r : ℕ) → List ℕ
+blameHead id r = 2 ∷ id ∷ 0 ∷ 0 ∷ (bytes4 r ++ zeros 472)
+
+module _ (hash : List ℕ → List ℕ) where
+  -- the check is right
+  unfoldable pub checked : List ℕ → Bool
+  checked x = same (digest x) (hash (take 480 x))
+
+  -- bytes 0–479 with their check
+  unfoldable pub sealed : List ℕ → List ℕ
+  sealed x = x ++ hash x
+
+  unfoldable pub makeBlock : (id r h : ℕ) (parent entry : List ℕ) → List ℕ
+  makeBlock id r h parent entry = sealed (blockHead id r h parent entry)
+
+  unfoldable pub makeBlame : (id r : ℕ) → List ℕ
+  makeBlame id r = sealed (blameHead id r)

@@ -1,0 +1,17 @@
+pub mod Bytes
+pub mod Setup
+pub mod Frame
+pub mod Log
+pub mod Masks
+pub mod Replica
+pub mod Enter
+pub mod Refusal
+pub mod Outcome
+pub mod Open
+pub mod Branch
+pub mod Blame
+pub mod Tick
+pub mod Read
+pub mod Fetch
+pub mod Calls
+pub mod BenchSheet
