@@ -15,25 +15,25 @@ pub length-zeros : (n : ℕ) → length (zeros n) ≡ n
 unfolding zeros
 length-zeros n = length-replicate n 0
 
-part-left : (P Q : List ℕ) (k n : ℕ) → k + n ≤ length P → part (P ++ Q) k n ≡ part P k n
+pub part-left : (P Q : List ℕ) (k n : ℕ) → k + n ≤ length P → part (P ++ Q) k n ≡ part P k n
 part-left P Q k n h =
     ap (take n) (drop-append-le k P Q (omega arith)) ∙ take-append-le n (drop k P) Q (simp length-drop (omega arith))
 
-part-right : (P Q : List ℕ) (k n m : ℕ) → k ≡ length P + m → part (P ++ Q) k n ≡ part Q m n
+pub part-right : (P Q : List ℕ) (k n m : ℕ) → k ≡ length P + m → part (P ++ Q) k n ≡ part Q m n
 part-right P Q k n m e = ap (λ j. take n (drop j (P ++ Q))) e ∙ ap (take n) (drop-append-add P Q m)
 
-part-take : (xs : List ℕ) (m k n : ℕ) → k + n ≤ m → m ≤ length xs → part (take m xs) k n ≡ part xs k n
+pub part-take : (xs : List ℕ) (m k n : ℕ) → k + n ≤ m → m ≤ length xs → part (take m xs) k n ≡ part xs k n
 part-take xs m k n h l =
     sym (part-left (take m xs) (drop m xs) k n (simp length-take (omega arith))) ∙ ap (λ ys. part ys k n) (take-append-drop m xs)
 
-part-drop : (xs : List ℕ) (m k n : ℕ) → part (drop m xs) k n ≡ part xs (m + k) n
+pub part-drop : (xs : List ℕ) (m k n : ℕ) → part (drop m xs) k n ≡ part xs (m + k) n
 part-drop xs m k n = ap (take n) (drop-drop k m xs)
 
 zeros-add : (n m : ℕ) → zeros n ++ zeros m ≡ zeros (n + m)
 unfolding zeros
 zeros-add n m = replicate-append-replicate n m 0
 
-part-zeros : (m k n : ℕ) → k + n ≤ m → part (zeros m) k n ≡ zeros n
+pub part-zeros : (m k n : ℕ) → k + n ≤ m → part (zeros m) k n ≡ zeros n
 part-zeros m k n h =
     let e : k + (n + (m - k - n)) ≡ m = omega arith in
     let s : zeros k ++ (zeros n ++ zeros (m - k - n)) ≡ zeros m =

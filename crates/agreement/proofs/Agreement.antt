@@ -1,0 +1,174 @@
+-- Demand 3, and the two facts beyond it. Assumes what the statements say, and nothing else.
+use Prim.Native.Nat.{ℕ, _≤_, _<_}
+use mathlib.Core.Path.{_≡_, refl, sym, ap, _∙_, subst}
+use mathlib.Core.Logic.{_⊎_, inl, inr, ⊎-elim}
+use mathlib.Core.Option.{Option, none, some}
+use mathlib.Core.List.{List, [], _∷_, _++_, append-assoc, append-nil}
+use mathlib.Core.Bool.{Bool, true, false}
+use native.Mathlib.Omega.{arith}
+use lib.Dec.{leb, eqb}
+use borrow.Author.Tests.{leb-true, leb-false}
+use Rattle.sha256.specs.Fips.{sha256}
+use Rattle.apollo.specs.Setup.{Setup, replicas}
+use Rattle.apollo.specs.Frame.{signer, checked}
+use Rattle.apollo.specs.Log.{slot, chain}
+use Rattle.apollo.specs.Enter.{State}
+use Rattle.apollo.specs.Outcome.{Outcome}
+use Rattle.agreement.specs.Run.{Call, opening, act, Event, handed, emitted, In, Seen, World, start, framesIn, hand, note, after, opened, answer, callAt, step, run}
+use Rattle.apollo.specs.Calls.{openCall}
+use Rattle.agreement.specs.Premises.{Each, Lawful, Unforged}
+use Rattle.agreement.specs.Claim.{committed, Begins, Agreement, NeverInvalid, OnlyGrows}
+use Rattle.agreement.proofs.Tests.{by-cond}
+use Rattle.agreement.proofs.Slots.{chain-slots, chain-more}
+use Rattle.agreement.proofs.Past.{Grows, hand-grows, Given, hand-back}
+use Rattle.agreement.proofs.Good.{Extends}
+use Rattle.agreement.proofs.World.{Inv, Stepped, note-grows, note-handed, step-stepped, start-inv, run-inv}
+use Rattle.agreement.proofs.Honest.{Honest, same-committed, no-revert, emitted-stands}
+
+-- a list begins another with which its replica shares the slots up to the committed round
+begins : (c d : State) → c .replica .«committed_round» .0 ≤ d .replica .«committed_round» .0
+    → ((q : ℕ) → 1 ≤ q → q ≤ c .replica .«committed_round» .0 → slot (c .log) q ≡ slot (d .log) q) → Begins (committed c) (committed d)
+unfolding committed
+begins c d l e =
+    let n : ℕ = c .replica .«committed_round» .0 in
+    let r : Begins (chain (d .log) n) (chain (d .log) (d .replica .«committed_round» .0)) = chain-more (d .log) n _ l in
+    (r .0, r .1 ∙ ap (λ xs. xs ++ r .0) (sym (chain-slots (c .log) (d .log) n e)))
+
+begins-trans : (xs ys zs : List (List ℕ)) → Begins xs ys → Begins ys zs → Begins xs zs
+begins-trans xs ys zs p q = (p .0 ++ q .0, q .1 ∙ ap (λ us. us ++ q .0) (p .1) ∙ append-assoc xs (p .0) (q .0))
+
+-- the past grew, with no frame handed in
+abbrev Added : List Event → List Event → Type 0
+Added past now = Grows past now × ((x : List ℕ) → In (handed x) now → In (handed x) past)
+
+noted : (i : ℕ) (o : Outcome) (past : List Event) → Added past (note i o past)
+noted i o past = (note-grows i o past, note-handed i o past)
+
+call-added : (w : World) (i : ℕ) (c : Option State) (d : Call) → Added (w .past) (callAt w i c d .past)
+unfolding callAt opened after
+call-added w i c (opening id f timeout last log masks entry out) =
+    let o : Outcome = openCall id f timeout last log masks entry out in
+    by-cond (λ (u : World). Added (w .past) (u .past)) (eqb (o .answer .number) 0) (λ _. noted i o (w .past)) (λ _. noted i o (w .past))
+call-added w i none (act a) = (λ e p. p, λ x p. p)
+call-added w i (some c) (act a) = noted i (answer c a) (w .past)
+
+step-grows : (w : World) (i : ℕ) (d : Call) → Grows (w .past) (step w i d .past)
+unfolding step
+step-grows w i d e p =
+    call-added (record { states = w .states; past = hand (framesIn d) (w .past) }) i (w .states i) d .0 e (hand-grows (framesIn d) (w .past) e p)
+
+step-handed : (w : World) (i : ℕ) (d : Call) (x : List ℕ) → In (handed x) (step w i d .past)
+    → In (handed x) (w .past) ⊎ Given (handed x) (framesIn d)
+unfolding step
+step-handed w i d x p =
+    hand-back (framesIn d) (w .past) (handed x)
+    (call-added (record { states = w .states; past = hand (framesIn d) (w .past) }) i (w .states i) d .1 x p)
+
+module _ (s : Setup) where
+  run-grown : (es : List (ℕ × Call)) (w : World) → Each (Lawful s) w es → Inv s w → (i : ℕ) (c : State) → w .states i ≡ some c
+      → (d : State) × (run w es .states i ≡ some d) × Begins (committed c) (committed d)
+  unfolding run
+  run-grown [] w l v i c e = (c, e, ([], sym (append-nil (committed c))))
+  run-grown (a ∷ bs) w l v i c e =
+      let t : Stepped s w (step w (a .0) (a .1)) = step-stepped s w (a .0) (a .1) v (l .0) in
+      let m : (d : State) × (step w (a .0) (a .1) .states i ≡ some d) × Extends c d = t .grown i c e in
+      let r : (d : State) × (run (step w (a .0) (a .1)) bs .states i ≡ some d) × Begins (committed (m .0)) (committed d) =
+      run-grown bs (step w (a .0) (a .1)) (l .1) (t .inv) i (m .0) (m .1) in (
+        r .0,
+        r .1,
+        begins-trans (committed c) (committed (m .0)) (committed (r .0))
+            (begins c (m .0) (m .2 .further) (λ q o n. sym (m .2 .same-slots q o n))) (r .2),
+      )
+
+  -- no frame is forged, so a frame seen that names a correct signer was emitted by it
+  module _ (correct : ℕ → Bool) where
+    abbrev Authentic : World → Type 0
+    Authentic w =
+        (x : List ℕ) → Seen x (w .past) → signer x < replicas s → correct (signer x) ≡ true → In (emitted (signer x) x) (w .past)
+
+    step-authentic : (w : World) (i : ℕ) (d : Call) → Inv s (step w i d) → Unforged s correct w i d → Authentic w → Authentic (step w i d)
+    step-authentic w i d v u h x (inr p) l c =
+        subst (λ k. In (emitted k x) (step w i d .past)) (sym (v .tidy .signed (p .0) x (p .1))) (p .1)
+    step-authentic w i d v u h x (inl p) l c =
+        step-grows w i d (emitted (signer x) x)
+        (⊎-elim (λ q. h x (inl q) l c) (λ (q : Given (handed x) (framesIn d)). forged (q .0) (q .1) (q .2) (cc (q .3)))
+        (step-handed w i d x p))
+      where
+        forged : (y : List ℕ) → In y (framesIn d) → checked sha256 y ≡ true → y ≡ x → In (emitted (signer x) x) (w .past)
+        forged y q r e =
+            u x (subst (λ z. In z (framesIn d)) e q) (ap (checked sha256) (sym e) ∙ r) l c
+
+    run-authentic : (es : List (ℕ × Call)) (w : World) → Each (Lawful s) w es → Each (Unforged s correct) w es → Inv s w → Authentic w
+        → Authentic (run w es)
+    unfolding run
+    run-authentic [] w l u v h = h
+    run-authentic (a ∷ bs) w l u v h =
+        let t : Inv s (step w (a .0) (a .1)) = step-stepped s w (a .0) (a .1) v (l .0) .inv in
+        run-authentic bs (step w (a .0) (a .1)) (l .1) (u .1) t (step-authentic w (a .0) (a .1) t (u .0) h)
+
+    start-authentic : Authentic start
+    unfolding start
+    start-authentic x (inl p) = absurd p
+    start-authentic x (inr p) = absurd (p .1)
+
+pub agreement : Agreement
+agreement s correct calls p =
+    record {
+      prefixes = prefixes;
+      kept = λ a. let r = v .reverting a in no-revert s correct (w .past) h (r .0) (r .1) (r .2) (r .3);
+      stands = λ i j x c q ci e k m. emitted-stands s correct (w .past) h i j x c q (v .good j c m) ci e k;
+    }
+  where
+    w : World
+    w = run start calls
+
+    v : Inv s w
+    v = run-inv s calls start (p .lawful) (start-inv s)
+
+    h : Honest s correct (w .past)
+    h =
+        record {
+          mostly = p .mostly;
+          authentic = run-authentic s correct calls start (p .lawful) (p .unforged) (start-inv s) (start-authentic s correct);
+          patient = p .patient;
+          distinct = p .distinct;
+          tidy = v .tidy;
+        }
+
+    prefixes : (i j : ℕ) (c d : State) → w .states i ≡ some c → w .states j ≡ some d
+        → Begins (committed c) (committed d) ⊎ Begins (committed d) (committed c)
+    prefixes i j c d ec ed = go (leb (c .replica .«committed_round» .0) (d .replica .«committed_round» .0)) refl
+      where
+        begins-by : (i j : ℕ) (c d : State) → w .states i ≡ some c → w .states j ≡ some d
+            → c .replica .«committed_round» .0 ≤ d .replica .«committed_round» .0 → Begins (committed c) (committed d)
+        begins-by i j c d ec ed l = begins c d l (same-committed s correct (w .past) h i j c d (v .good i c ec) (v .good j d ed) l)
+
+        go : (b : Bool) → leb (c .replica .«committed_round» .0) (d .replica .«committed_round» .0) ≡ b
+            → Begins (committed c) (committed d) ⊎ Begins (committed d) (committed c)
+        go true e = inl (begins-by i j c d ec ed (leb-true _ _ e))
+        go false e =
+            let l : d .replica .«committed_round» .0 < c .replica .«committed_round» .0 = leb-false _ _ e in
+            inr (begins-by j i d c ed ec (omega arith))
+
+pub never-invalid : NeverInvalid
+never-invalid s calls l = run-inv s calls start l (start-inv s) .valid
+
+run-append : (es bs : List (ℕ × Call)) (w : World) → run w (es ++ bs) ≡ run (run w es) bs
+unfolding run
+run-append [] bs w = refl
+run-append (e ∷ es) bs w = run-append es bs (step w (e .0) (e .1))
+
+each-append : (P : World → ℕ → Call → Type 0) (es bs : List (ℕ × Call)) (w : World) → Each P w (es ++ bs)
+    → Each P w es × Each P (run w es) bs
+unfolding run
+each-append P [] bs w l = (tt, l)
+each-append P (e ∷ es) bs w l =
+    let r : Each P (step w (e .0) (e .1)) es × Each P (run (step w (e .0) (e .1)) es) bs = each-append P es bs (step w (e .0) (e .1)) (l .1) in
+    ((l .0, r .0), r .1)
+
+pub only-grows : OnlyGrows
+only-grows s calls more l i c e =
+    let p : Each (Lawful s) start calls × Each (Lawful s) (run start calls) more = each-append (Lawful s) calls more start l in
+    let r : (d : State) × (run (run start calls) more .states i ≡ some d) × Begins (committed c) (committed d) =
+    run-grown s more (run start calls) (p .1) (run-inv s calls start (p .0) (start-inv s)) i c e in
+    (r .0, ap (λ (u : World). u .states i) (run-append calls more start) ∙ r .1, r .2)

@@ -1,0 +1,128 @@
+-- Branch: the state stays good, what was committed is kept, no refusal 2 is met, and refusal 12 only where a linked log would revert a
+-- committed slot. Assumes that a digest has 32 bytes.
+use Prim.Native.Nat.{ℕ, _+_, _-_, _*_, _/_, _%_, _≤_}
+use mathlib.Core.Path.{_≡_, refl, sym, ap, _∙_}
+use mathlib.Core.Option.{Option, none, some}
+use mathlib.Core.List.{List, [], _∷_}
+use mathlib.Core.Bool.{false, not, _&&_}
+use native.Mathlib.Omega.{arith}
+use lib.ListN.{length, take}
+use lib.Dec.{eqb, ltb}
+use borrow.Author.Tests.{eqb-true, ltb-false}
+use Rattle.apollo.specs.Setup.{Setup, setupOf}
+use Rattle.apollo.specs.Bytes.{same, within}
+use Rattle.apollo.specs.Frame.{round, height, frames, blockForm, checked}
+use Rattle.apollo.specs.Log.{attach}
+use Rattle.apollo.specs.Replica.{leads}
+use Rattle.apollo.specs.Enter.{State, tipped, holding, commit}
+use Rattle.apollo.specs.Outcome.{taken}
+use Rattle.apollo.specs.Branch.{lastOf, childOf, firstUncertified, grown, Verdict, faulty, judged, judgedAll, adopting, placed, branched, branchWith}
+use Rattle.agreement.specs.Run.{Event}
+use Rattle.agreement.proofs.Tests.{clash, same-true, same-of, by-cond}
+use Rattle.agreement.proofs.Slots.{slots-take}
+use Rattle.agreement.proofs.Frames.{Whole, frames-whole}
+use Rattle.agreement.proofs.Stored.{Stored}
+use Rattle.agreement.proofs.Good.{setup-is, hold-good, hold-extends, committed-low, limit-tip}
+use Rattle.agreement.proofs.Effects.{Standing, standing-later, kept-trans, enter-kept}
+use Rattle.agreement.proofs.Adopt.{Block, Row, branch-row, Known, grown-stored}
+use Rattle.agreement.proofs.Outcomes.{Fine, taken-fine, refused-fine, refused-plain, guarded-fine}
+
+-- the judgement of frames gives 0, 7, 8 or 9
+module _ (hash : List ℕ → List ℕ) (s : Setup) where
+  abbrev Low : ℕ → Type 0
+  Low k = (eqb k 2 ≡ false) × (eqb k 12 ≡ false)
+
+  faulty-low : (x : List ℕ) → Low (faulty hash s x)
+  unfolding faulty
+  faulty-low x = by-cond Low (not (checked hash x)) (λ _. (refl, refl)) (λ _. by-cond Low (not (blockForm s x)) (λ _. (refl, refl)) (λ _. (refl, refl)))
+
+  judged-low : (k : ℕ) (x : List ℕ) (ys : List (List ℕ)) → Low (judged hash s k x ys .number)
+  unfolding judged
+  judged-low k x [] = (refl, refl)
+  judged-low k x (y ∷ ys) =
+      by-cond (λ (v : Verdict). Low (v .number)) (eqb (faulty hash s y) 0)
+      (λ _. by-cond (λ (v : Verdict). Low (v .number)) (childOf x y) (λ _. judged-low (k + 1) y ys) (λ _. (refl, refl)))
+      (λ _. faulty-low y)
+
+  judgedAll-low : (x : List ℕ) (ys : List (List ℕ)) → Low (judgedAll hash s x ys .number)
+  unfolding judgedAll
+  judgedAll-low x ys =
+      by-cond (λ (v : Verdict). Low (v .number)) (eqb (faulty hash s x) 0) (λ _. judged-low 1 x ys) (λ _. faulty-low x)
+
+module _ (s : Setup) (hash : List ℕ → List ℕ) (wide : (xs : List ℕ) → length (hash xs) ≡ 32) (past : List Event) (i : ℕ) (entry : List ℕ)
+    (c : State) (st : Standing s past i c) (rests : leads (c .replica) ≡ false) where
+  -- a branch that passed 7 to 10
+  module _ (fits : length entry ≤ 400) (x : List ℕ) (xs : List (List ℕ)) (block : Block s hash x) (row : Row s hash x xs)
+      (known : Known s hash past (x ∷ xs)) (whole : Whole (x ∷ xs)) (late : c .replica .round .0 ≤ round (lastOf x xs)) where
+    abbrev done : ℕ
+    done = c .replica .«committed_round» .0
+
+    -- the log that would be made
+    abbrev New : ℕ → Type 0
+    New a = Stored s past (c .masks) (grown (c .log) a (x ∷ xs)) (round (lastOf x xs)) (height (lastOf x xs))
+
+    adopted : (out : List ℕ) (a : ℕ) → New a → take (512 * done) (grown (c .log) a (x ∷ xs)) ≡ take (512 * done) (c .log)
+        → Fine s past i c (taken (adopting hash entry c a x xs) out)
+    unfolding adopting
+    adopted out a new keep =
+        let log : List ℕ = grown (c .log) a (x ∷ xs) in
+        let t : ℕ = round (lastOf x xs) in
+        let h : ℕ = height (lastOf x xs) in
+        let fit : 512 * done ≤ 512 * s .lastRound =
+        omega (arith, committed-low s past i c (st .good), limit-tip s past i c (st .good), st .good .stored .chain .low) in
+        let slots = slots-take log (c .log) done (omega (arith, new .size)) (omega (arith, st .good .stored .size)) keep in
+        taken-fine s past i c _ out
+        (kept-trans s past i c (holding c log t h) _ (hold-extends s past i c (st .good) log t h late slots)
+        (enter-kept s hash wide entry fits past i (holding c log t h)
+        (standing-later s past i c (holding c log t h) st (hold-good s past i c (st .good) log t h new late)
+        (unfold holding tipped commit in omega arith))))
+
+    placed-fine : (out : List ℕ) (p : Option ℕ) → attach (c .log) x (round x - 1) ≡ p → Fine s past i c (placed hash entry out c x xs p)
+    unfolding placed
+    placed-fine out none e = refused-plain s past i c st rests out 11 0 refl refl
+    placed-fine out (some a) e =
+        by-cond (Fine s past i c) (eqb (firstUncertified (setupOf (c .replica)) (c .masks) a (x ∷ xs)) 0)
+        (λ u. by-cond (Fine s past i c) (same (take (512 * done) (grown (c .log) a (x ∷ xs))) (take (512 * done) (c .log)))
+        (λ k. adopted out a (new (eqb-true _ _ u)) (same-true _ _ k))
+        (λ k. refused-fine s past i c st rests out 12 0 (λ z. omega (arith, z))
+        (λ _. record {
+          log = grown (c .log) a (x ∷ xs);
+          tip = round (lastOf x xs);
+          level = height (lastOf x xs);
+          stored = new (eqb-true _ _ u);
+          beyond = late;
+          differs = λ z. clash (same-of z) k;
+        })))
+        (λ u. refused-plain s past i c st rests out 13 _ refl refl)
+      where
+        new : firstUncertified (setupOf (c .replica)) (c .masks) a (x ∷ xs) ≡ 0 → New a
+        new u =
+            grown-stored s hash past (c .masks) (c .log) _ _ a x xs (st .good .stored) e block row known whole
+            (ap (λ k. firstUncertified k (c .masks) a (x ∷ xs)) (sym (setup-is s i (c .replica) (st .good .fixed))) ∙ u)
+
+  branched-fine : (out : List ℕ) (fs : List (List ℕ)) → length entry ≤ 400 → Known s hash past fs → Whole fs
+      → Fine s past i c (branched hash entry out c fs)
+  unfolding branched
+  branched-fine out [] fits known whole = refused-plain s past i c st rests out 6 0 refl refl
+  branched-fine out (x ∷ xs) fits known whole =
+      by-cond (Fine s past i c) (eqb (judgedAll hash (setupOf (c .replica)) x xs .number) 0)
+      (λ j. by-cond (Fine s past i c) (ltb (round (lastOf x xs)) (c .replica .round .0))
+      (λ _. refused-plain s past i c st rests out 10 0 refl refl)
+      (λ l. let r : Block s hash x × Row s hash x xs = rows (eqb-true _ _ j) in
+      placed-fine fits x xs (r .0) (r .1) known whole (ltb-false _ _ l) out _ refl))
+      (λ j. let l : Low hash s (judgedAll hash (setupOf (c .replica)) x xs .number) = judgedAll-low hash (setupOf (c .replica)) x xs in
+      refused-plain s past i c st rests out _ _ (l .0) (l .1))
+    where
+      rows : judgedAll hash (setupOf (c .replica)) x xs .number ≡ 0 → Block s hash x × Row s hash x xs
+      rows e =
+          branch-row s hash x xs
+          (ap (λ k. judgedAll hash k x xs .number) (sym (setup-is s i (c .replica) (st .good .fixed))) ∙ e)
+
+  pub branch-fine : (bytes out : List ℕ) → Known s hash past (frames (length bytes / 512) bytes)
+      → Fine s past i c (branchWith hash c bytes entry out)
+  unfolding branchWith
+  branch-fine bytes out known =
+      guarded-fine s past i c st rests entry out _
+      (λ low fits. by-cond (Fine s past i c) (eqb (length bytes % 512) 0 && within 1 (length bytes / 512) (c .replica .«last_round» .0))
+      (λ _. branched-fine out (frames (length bytes / 512) bytes) fits known (frames-whole (length bytes / 512) bytes (omega arith)))
+      (λ _. refused-plain s past i c st rests out 6 0 refl refl))

@@ -1,0 +1,272 @@
+-- The effects that emit a block: an own block, entering a round, and what follows a blame. Assumes that a digest has 32 bytes.
+use Prim.Native.Nat.{ℕ, suc, _+_, _≤_, _<_}
+use mathlib.Core.Path.{_≡_, refl, sym, ap, _∙_, subst}
+use mathlib.Core.Logic.{_⊎_, inl, inr}
+use mathlib.Core.List.{List, [], _∷_}
+use mathlib.Core.Bool.{true, false, _&&_}
+use native.Mathlib.Omega.{arith}
+use lib.ListN.{length}
+use lib.Dec.{eqb, leb}
+use borrow.Author.Tests.{eqb-true, leb-true}
+use Rattle.apollo.specs.Setup.{Setup, setupOf, leader}
+use Rattle.apollo.specs.Frame.{kind, signer, round, height, parent, digest}
+use Rattle.apollo.specs.Log.{slot, store}
+use Rattle.apollo.specs.Masks.{certified}
+use Rattle.apollo.specs.Replica.{leads}
+use Rattle.apollo.specs.Enter.{State, Effect, commit, tipped, waiting, hearing, holding, ownBlock, proposing, enterRound, settle}
+use Rattle.agreement.specs.Run.{Event, emitted, In, emit}
+use Rattle.agreement.proofs.Tests.{either, and-true, by-cond}
+use Rattle.agreement.proofs.Leaders.{leaders-differ}
+use Rattle.agreement.proofs.Slots.{store-other}
+use Rattle.agreement.proofs.Frames.{block-kind, block-signer, block-round, block-height, block-parent, block-length, slot-length, digest-width, Whole}
+use Rattle.agreement.proofs.Past.{emitted-is}
+use Rattle.agreement.proofs.Stored.{Stored, tip-level, store-stored}
+use Rattle.agreement.proofs.Good.{Blamed, setup-is, Good, good-grows, wait-good, hear-good, hold-good, committed-low, limit-tip, Extends, extends-refl, extends-trans, hold-extends, wait-extends}
+
+module _ (s : Setup) where
+  -- Of the frames emitted: each names its replica as the signer; a replica emits one block a round at most, for rounds that it leads.
+  pub record Tidy (past : List Event) : Type 0 where
+    pub signed : (j : ℕ) (x : List ℕ) → In (emitted j x) past → signer x ≡ j
+    pub once : (j : ℕ) (x y : List ℕ) → In (emitted j x) past → In (emitted j y) past → kind x ≡ 1 → kind y ≡ 1 → round x ≡ round y → x ≡ y
+    pub led : (j : ℕ) (x : List ℕ) → In (emitted j x) past → kind x ≡ 1 → leader s (round x) ≡ j
+    pub high : (j : ℕ) (x : List ℕ) → In (emitted j x) past → kind x ≡ 1 → 1 ≤ round x
+
+  -- a good state, whose replica emitted no block for R or above
+  pub record Standing (past : List Event) (i : ℕ) (c : State) : Type 0 where
+    pub good : Good s past i c
+    pub mine : (x : List ℕ) → In (emitted i x) past → kind x ≡ 1 → round x < c .replica .round .0
+    pub tidy : Tidy past
+
+  -- R does not fall
+  pub standing-later : (past : List Event) (i : ℕ) (c d : State) → Standing past i c → Good s past i d
+      → c .replica .round .0 ≤ d .replica .round .0 → Standing past i d
+  standing-later past i c d st g l = record { good = g; mine = λ x p k. omega (arith, st .mine x p k); tidy = st .tidy }
+
+  pub wait-standing : (past : List Event) (i : ℕ) (c : State) → Standing past i c → (R timer : ℕ) → c .replica .round .0 ≤ R
+      → R ≤ suc (s .lastRound) → timer ≤ c .replica .timeout .0
+      → ((q : ℕ) → c .replica .round .0 ≤ q → q < R → certified s (c .masks) q ≡ true) → Standing past i (waiting c R timer)
+  wait-standing past i c st R timer up low short pass =
+      standing-later past i c (waiting c R timer) st (wait-good s past i c (st .good) R timer up low short pass)
+      (unfold waiting in omega arith)
+
+  -- only the ticks left change
+  pub rest-standing : (past : List Event) (i : ℕ) (c : State) → Standing past i c → (timer : ℕ) → timer ≤ c .replica .timeout .0
+      → Standing past i (waiting c (c .replica .round .0) timer)
+  rest-standing past i c st timer short =
+      wait-standing past i c st (c .replica .round .0) timer (omega arith) (st .good .reach) short (λ q a b. absurd (omega arith))
+
+  pub rest-leads : (c : State) (timer : ℕ) → leads (c .replica) ≡ false → leads (waiting c (c .replica .round .0) timer .replica) ≡ false
+  unfolding waiting leads
+  rest-leads c timer e = e
+
+  -- a bit is set for a blame that was seen
+  pub hear-standing : (past : List Event) (i : ℕ) (c : State) → Standing past i c → (r k : ℕ) → 1 ≤ r → Blamed past k r
+      → Standing past i (hearing c r k)
+  hear-standing past i c st r k o b =
+      standing-later past i c (hearing c r k) st (hear-good s past i c (st .good) r k o b) (unfold hearing in omega arith)
+
+  -- What a call's effect does to state c: it stands, leads no round that it waits for, keeps what was committed, and emits whole frames.
+  pub record Kept (past : List Event) (i : ℕ) (c : State) (e : Effect) : Type 0 where
+    pub standing : Standing (emit i (e .emitted) past) i (e .state)
+    pub rests : leads (e .state .replica) ≡ false
+    pub extends : Extends c (e .state)
+    pub whole : Whole (e .emitted)
+
+  -- an effect that emits nothing
+  pub silent : (past : List Event) (i : ℕ) (c d : State) → Standing past i d → leads (d .replica) ≡ false → Extends c d
+      → Kept past i c (record { state = d; emitted = [] })
+  unfolding emit
+  silent past i c d st l x = record { standing = st; rests = l; extends = x; whole = tt }
+
+  pub kept-trans : (past : List Event) (i : ℕ) (c d : State) (e : Effect) → Extends c d → Kept past i d e → Kept past i c e
+  kept-trans past i c d e x k =
+      record { standing = k .standing; rests = k .rests; extends = extends-trans c d (e .state) x (k .extends); whole = k .whole }
+
+  -- a replica that leads R
+  pub leads-parts : (past : List Event) (i : ℕ) (c : State) → Good s past i c → leads (c .replica) ≡ true
+      → (c .replica .round .0 ≤ s .lastRound) × (leader s (c .replica .round .0) ≡ i)
+  unfolding leads
+  leads-parts past i c g e =
+      let p : (leb (c .replica .round .0) (c .replica .«last_round» .0) ≡ true)
+      × (eqb (leader (setupOf (c .replica)) (c .replica .round .0)) (c .replica .id) ≡ true) = and-true _ _ e in
+      let l : c .replica .round .0 ≤ c .replica .«last_round» .0 = leb-true _ _ (p .0) in (
+        omega (arith, g .fixed .last-is),
+        ap (λ k. leader k (c .replica .round .0)) (sym (setup-is s i (c .replica) (g .fixed))) ∙ eqb-true _ _ (p .1) ∙ g .fixed .id-is,
+      )
+
+module _ (s : Setup) (hash : List ℕ → List ℕ) (wide : (xs : List ℕ) → length (hash xs) ≡ 32) (entry : List ℕ)
+    (fits : length entry ≤ 400) where
+  -- the block that a replica makes for R, where it leads R
+  module _ (past : List Event) (i : ℕ) (c : State) (st : Standing s past i c) (led : leads (c .replica) ≡ true) where
+    abbrev R : ℕ
+    R = c .replica .round .0
+
+    abbrev z : List ℕ
+    z = ownBlock hash entry c
+
+    abbrev now : List Event
+    now = emitted i z ∷ past
+
+    abbrev g : Good s past i c
+    g = st .good
+
+    R-low : R ≤ s .lastRound
+    R-low = leads-parts s past i c g led .0
+
+    R-led : leader s R ≡ i
+    R-led = leads-parts s past i c g led .1
+
+    one : 1 ≤ R
+    one = omega (arith, g .tip-below)
+
+    short : s .lastRound ≤ 4096
+    short = omega (arith, g .fixed .last-is, g .fixed .last-top)
+
+    up-length : length (digest (slot (c .log) (c .replica .«tip_round» .0))) ≡ 32
+    up-length =
+        digest-width (slot (c .log) (c .replica .«tip_round» .0))
+        (slot-length (c .log) (c .replica .«tip_round» .0) (omega (arith, g .stored .size, g .stored .chain .low)))
+
+    z-kind : kind z ≡ 1
+    unfolding ownBlock
+    z-kind = block-kind hash wide _ _ _ _ _
+
+    z-signer : signer z ≡ i
+    unfolding ownBlock
+    z-signer = block-signer hash wide _ _ _ _ _ ∙ g .fixed .id-is
+
+    z-round : round z ≡ R
+    unfolding ownBlock
+    z-round = block-round hash wide _ _ _ _ _ (omega (arith, R-low, short))
+
+    z-height : height z ≡ c .replica .«tip_height» .0 + 1
+    unfolding ownBlock
+    z-height =
+        block-height hash wide _ _ _ _ _
+        (omega (arith, g .stored .level-is, tip-level s past _ _ _ _ (g .stored), g .stored .chain .low, short))
+
+    z-parent : parent z ≡ digest (slot (c .log) (c .replica .«tip_round» .0))
+    unfolding ownBlock
+    z-parent = block-parent hash wide _ _ _ _ _ up-length
+
+    z-length : length z ≡ 512
+    unfolding ownBlock
+    z-length = block-length hash wide _ _ _ _ _ up-length fits
+
+    grown : Good s now i c
+    grown = good-grows s past now i c (λ e p. inr p) g
+
+    z-stored : Stored s now (c .masks) (store (c .log) R z) R (c .replica .«tip_height» .0 + 1)
+    z-stored =
+        subst (Stored s now (c .masks) (store (c .log) R z) R) z-height
+        (store-stored s now (c .masks) (c .log) _ _ (grown .stored) R z (g .tip-below) R-low z-kind z-length
+        (record { round-is = z-round; signed = z-signer ∙ sym R-led; seen = inr (i, inl refl) })
+        (record { named = sym z-parent; rise = omega (arith, z-height, g .stored .level-is) }) (g .waits))
+
+    z-good : Good s now i (proposing hash entry c)
+    unfolding proposing
+    z-good = hold-good s now i c grown (store (c .log) R z) R _ z-stored (omega arith)
+
+    -- a frame emitted is the new block, or is older
+    new-or-old : (j : ℕ) (x : List ℕ) → In (emitted j x) now → ((j ≡ i) × (x ≡ z)) ⊎ In (emitted j x) past
+    new-or-old j x (inl e) = inl (emitted-is j i x z e)
+    new-or-old j x (inr p) = inr p
+
+    -- no block of this replica stood for R
+    older : (j : ℕ) (x : List ℕ) → j ≡ i → In (emitted j x) past → kind x ≡ 1 → round x ≡ R → ⊥
+    older j x e p k r = omega (arith, st .mine x (subst (λ m. In (emitted m x) past) e p) k)
+
+    z-once : (j : ℕ) (x y : List ℕ) → ((j ≡ i) × (x ≡ z)) ⊎ In (emitted j x) past → ((j ≡ i) × (y ≡ z)) ⊎ In (emitted j y) past
+        → kind x ≡ 1 → kind y ≡ 1 → round x ≡ round y → x ≡ y
+    z-once j x y (inl a) (inl b) p q e = a .1 ∙ sym (b .1)
+    z-once j x y (inl a) (inr b) p q e = absurd (older j y (a .0) b q (sym e ∙ ap round (a .1) ∙ z-round))
+    z-once j x y (inr a) (inl b) p q e = absurd (older j x (b .0) a p (e ∙ ap round (b .1) ∙ z-round))
+    z-once j x y (inr a) (inr b) p q e = st .tidy .once j x y a b p q e
+
+    -- what holds of the new block and of every older one
+    by-age : (P : ℕ → List ℕ → Type 0) → P i z → ((j : ℕ) (x : List ℕ) → In (emitted j x) past → kind x ≡ 1 → P j x) → (j : ℕ) (x : List ℕ)
+        → In (emitted j x) now → kind x ≡ 1 → P j x
+    by-age P new old j x p k = go (new-or-old j x p)
+      where
+        go : ((j ≡ i) × (x ≡ z)) ⊎ In (emitted j x) past → P j x
+        go (inl e) = subst (λ m. P m x) (sym (e .0)) (subst (P i) (sym (e .1)) new)
+        go (inr q) = old j x q k
+
+    z-signed : (j : ℕ) (x : List ℕ) → In (emitted j x) now → signer x ≡ j
+    z-signed j x p = go (new-or-old j x p)
+      where
+        go : ((j ≡ i) × (x ≡ z)) ⊎ In (emitted j x) past → signer x ≡ j
+        go (inl e) = ap signer (e .1) ∙ z-signer ∙ sym (e .0)
+        go (inr q) = st .tidy .signed j x q
+
+    z-tidy : Tidy s now
+    z-tidy =
+        record {
+          signed = z-signed;
+          once = λ j x y p q. z-once j x y (new-or-old j x p) (new-or-old j y q);
+          led = by-age (λ j x. leader s (round x) ≡ j) (ap (leader s) z-round ∙ R-led) (st .tidy .led);
+          high = by-age (λ j x. 1 ≤ round x) (omega (arith, z-round, one)) (st .tidy .high);
+        }
+
+    z-mine : (x : List ℕ) → In (emitted i x) now → kind x ≡ 1 → round x < R + 1
+    z-mine x p k =
+        by-age (λ j y. j ≡ i → round y < R + 1) (λ _. omega (arith, z-round))
+        (λ j y q m e. omega (arith, st .mine y (subst (λ k. In (emitted k y) past) e q) m)) i x p k refl
+
+    z-rests : leads (proposing hash entry c .replica) ≡ false
+    unfolding proposing holding tipped commit
+    z-rests = go (either (leads (proposing hash entry c .replica)))
+      where
+        go : (leads (proposing hash entry c .replica) ≡ true) ⊎ (leads (proposing hash entry c .replica) ≡ false)
+            → leads (proposing hash entry c .replica) ≡ false
+        go (inr e) = e
+        go (inl e) =
+            absurd (leaders-differ s R (R + 1) one (omega arith) (omega (arith, g .fixed .f-is, g .fixed .f-one))
+            (R-led ∙ sym (leads-parts s now i (proposing hash entry c) z-good e .1)))
+
+    z-extends : Extends c (proposing hash entry c)
+    unfolding proposing
+    z-extends =
+        hold-extends s past i c g (store (c .log) R z) R _ (omega arith)
+        (λ q o l. store-other (c .log) R z q one (omega (arith, R-low, g .stored .size)) z-length
+        (λ e. omega (arith, committed-low s past i c g, limit-tip s past i c g, g .tip-below)))
+
+    propose-kept : Kept s past i c (record { state = proposing hash entry c; emitted = z ∷ [] })
+    unfolding emit proposing holding tipped commit
+    propose-kept =
+        record {
+          standing = record { good = z-good; mine = z-mine; tidy = z-tidy };
+          rests = z-rests;
+          extends = z-extends;
+          whole = (z-length, tt);
+        }
+
+  pub enter-kept : (past : List Event) (i : ℕ) (c : State) → Standing s past i c → Kept s past i c (enterRound hash entry c)
+  unfolding enterRound
+  enter-kept past i c st =
+      by-cond (Kept s past i c) (leads (c .replica)) (λ e. propose-kept past i c st e)
+      (λ e. silent s past i c (waiting c (c .replica .round .0) (c .replica .timeout .0))
+      (rest-standing s past i c st (c .replica .timeout .0) (omega arith)) (rest-leads s c (c .replica .timeout .0) e)
+      (wait-extends c (c .replica .round .0) (c .replica .timeout .0)))
+
+  -- after a blame for round r
+  pub settle-kept : (past : List Event) (i : ℕ) (c : State) (r : ℕ) → r ≤ s .lastRound → leads (c .replica) ≡ false → Standing s past i c
+      → Kept s past i c (settle hash entry c r)
+  unfolding settle
+  settle-kept past i c r low rests st =
+      by-cond (Kept s past i c) (eqb r (c .replica .round .0) && certified (setupOf (c .replica)) (c .masks) r)
+      (λ e. pass (and-true _ _ e)) (λ e. silent s past i c c st rests (extends-refl c))
+    where
+      d : State
+      d = waiting c (r + 1) (c .replica .timer .0)
+
+      pass : (eqb r (c .replica .round .0) ≡ true) × (certified (setupOf (c .replica)) (c .masks) r ≡ true)
+          → Kept s past i c (enterRound hash entry d)
+      pass p =
+          let here : r ≡ c .replica .round .0 = eqb-true _ _ (p .0) in
+          let shown : certified s (c .masks) r ≡ true =
+          ap (λ k. certified k (c .masks) r) (sym (setup-is s i (c .replica) (st .good .fixed))) ∙ p .1 in
+          kept-trans s past i c d _ (wait-extends c (r + 1) (c .replica .timer .0))
+          (enter-kept past i d
+          (wait-standing s past i c st (r + 1) (c .replica .timer .0) (omega arith) (omega arith) (st .good .timer-low)
+          (λ q a b. let e : q ≡ r = omega arith in ap (certified s (c .masks)) e ∙ shown)))

@@ -1,0 +1,171 @@
+-- Open: one that is taken makes a good state, and none meets refusal 2 or 12. Assumes that a digest has 32 bytes.
+use Prim.Native.Nat.{ℕ, zero, suc, _-_, _*_, _≤_}
+use mathlib.Core.Path.{_≡_, refl, sym, ap, _∙_}
+use mathlib.Core.Logic.{inl, _≢_}
+use mathlib.Core.List.{List}
+use mathlib.Core.Bool.{Bool, true, false, not, _&&_}
+use native.Mathlib.Omega.{arith}
+use lib.ListN.{length, getD, replicate, getD-replicate, List·getD-eq-default, length-replicate}
+use lib.Dec.{leb, ltb, eqb}
+use borrow.Author.Tests.{leb-true, leb-false, ltb-true, ltb-false, eqb-false, not-false}
+use Rattle.apollo.specs.Setup.{Setup}
+use Rattle.apollo.specs.Bytes.{zeros}
+use Rattle.apollo.specs.Frame.{height}
+use Rattle.apollo.specs.Log.{genesis, slot, filled}
+use Rattle.apollo.specs.Masks.{bit, mask}
+use Rattle.apollo.specs.Replica.{fresh, validSetup, validMasks}
+use Rattle.apollo.specs.Enter.{State, commitLimit, enterRound}
+use Rattle.apollo.specs.Outcome.{Outcome, refused, taken}
+use Rattle.apollo.specs.Open.{openWith}
+use Rattle.agreement.specs.Run.{Event, emitted, In}
+use Rattle.agreement.proofs.Tests.{clash, and-true, by-cond}
+use Rattle.agreement.proofs.Slots.{length-zeros, part-zeros, filled-genesis, filled-nil, slot-beyond, highest-le}
+use Rattle.agreement.proofs.Frames.{height-genesis}
+use Rattle.agreement.proofs.Stored.{Linked}
+use Rattle.agreement.proofs.Good.{Fixed, Good}
+use Rattle.agreement.proofs.Effects.{Tidy, enter-kept}
+use Rattle.agreement.proofs.Outcomes.{Fine, taken-fine}
+
+bit-zero : (k : ℕ) → bit k 0 ≡ false
+unfolding bit
+bit-zero zero = refl
+bit-zero (suc k) = bit-zero k
+
+mask-zero : (n q : ℕ) → mask (zeros n) q ≡ 0
+unfolding zeros
+mask-zero n q = go (leb n (q - 1)) refl
+  where
+    go : (b : Bool) → leb n (q - 1) ≡ b → _≡_ {A = ℕ} (getD (replicate n 0) (q - 1) 0) 0
+    go true e = List·getD-eq-default (replicate n 0) 0 (omega (arith, length-replicate {A = ℕ} n 0, leb-true n (q - 1) e))
+    go false e = getD-replicate n (q - 1) 0 0 (leb-false _ _ e)
+
+slot-zero : (T q : ℕ) → q ≤ T → slot (zeros (512 * T)) q ≡ genesis
+unfolding slot genesis
+slot-zero T zero l = refl
+slot-zero T (suc k) l = part-zeros (512 * T) (512 * k) 512 (omega arith)
+
+module _ (s : Setup) (past : List Event) (i : ℕ) where
+  module _ (id f timeout last : ℕ) (fixed : Fixed s i id f timeout last) where
+    abbrev log : List ℕ
+    log = zeros (512 * last)
+
+    unfilled : (q : ℕ) → filled (slot log q) ≡ false
+    unfilled q = go (leb q last) refl
+      where
+        go : (b : Bool) → leb q last ≡ b → filled (slot log q) ≡ false
+        go true e = ap filled (slot-zero last q (leb-true _ _ e)) ∙ filled-genesis
+        go false e = ap filled (slot-beyond log last q (length-zeros _) (leb-false _ _ e)) ∙ filled-nil
+
+    first-chain : Linked s past (zeros last) log 0
+    first-chain =
+        record {
+          top = inl refl;
+          low = omega arith;
+          origin = slot-zero last 0 (omega arith);
+          bare = λ q l e. slot-zero last q (omega (arith, fixed .last-is));
+          above = λ q l. unfilled q;
+          fact = λ q e. absurd (clash e (unfilled q));
+          link = λ q e. absurd (clash e (unfilled q));
+          level = λ q e. absurd (clash e (unfilled q));
+          skip = λ q o l e. absurd (omega arith);
+        }
+
+    height-zero : height (slot log 0) ≡ 0
+    height-zero = ap height (slot-zero last 0 (omega arith)) ∙ height-genesis
+
+    abbrev first : State
+    first = record { replica = fresh id f timeout last; log = log; masks = zeros last }
+
+    first-good : Good s past i first
+    unfolding fresh commitLimit
+    first-good =
+        record {
+          fixed = fixed;
+          masks-length = length-zeros last ∙ fixed .last-is;
+          stored =
+              record {
+                chain = first-chain;
+                level-is = height-zero;
+                size = length-zeros (512 * last) ∙ ap (λ k. 512 * k) (fixed .last-is);
+              };
+          tip-below = omega arith;
+          reach = omega arith;
+          timer-low = omega arith;
+          committed-is = omega (arith, highest-le log (0 - f));
+          committed-height = sym height-zero;
+          waits = λ q a b. absurd (omega arith);
+          bits = λ q k o l e. absurd (clash e (ap (bit k) (mask-zero last q) ∙ bit-zero k));
+        }
+
+  -- what is shown of an answer to open
+  pub record OpenFine (id f last : ℕ) (o : Outcome) : Type 0 where
+    pub valid-ok : o .answer .number ≢ 2
+    pub kept-ok : o .answer .number ≢ 12
+    pub quiet : o .answer .number ≢ 0 → o .answer .frames ≡ 0
+    pub fine : o .answer .number ≡ 0 → id ≡ i → f ≡ s .f → last ≡ s .lastRound → ((x : List ℕ) → In (emitted i x) past → ⊥) → Tidy s past
+        → (c : State) × Fine s past i c o
+
+  refusal : (id f last : ℕ) (c : State) (out : List ℕ) (k : ℕ) → eqb k 2 ≡ false → eqb k 12 ≡ false → eqb k 0 ≡ false
+      → OpenFine id f last (refused c out k 0)
+  unfolding refused
+  refusal id f last c out k a b d =
+      record {
+        valid-ok = eqb-false k 2 a;
+        kept-ok = eqb-false k 12 b;
+        quiet = λ _. refl;
+        fine = λ e. absurd (eqb-false k 0 d e);
+      }
+
+  ranges : (id f timeout last : ℕ) (log masks : List ℕ)
+      → (validSetup (fresh id f timeout last) log && validMasks (fresh id f timeout last) masks) ≡ true → id ≡ i → f ≡ s .f
+      → last ≡ s .lastRound → Fixed s i id f timeout last
+  unfolding validSetup fresh
+  ranges id f timeout last log masks v ei ef el =
+      let p3 = and-true _ _ (and-true _ _ (and-true _ _ v .0) .0) in
+      let p2 = and-true _ _ (p3 .0) in
+      let p1 = and-true _ _ (p2 .0) in
+      let d = and-true _ _ (p3 .1) in
+      let c = and-true _ _ (p2 .1) in
+      let b = and-true _ _ (p1 .1) in
+      record {
+        id-is = ei;
+        f-is = ef;
+        last-is = el;
+        id-low = ltb-true _ _ (p1 .0);
+        f-one = leb-true _ _ (b .0);
+        f-top = leb-true _ _ (b .1);
+        timeout-one = leb-true _ _ (c .0);
+        timeout-top = leb-true _ _ (c .1);
+        last-one = leb-true _ _ (d .0);
+        last-top = leb-true _ _ (d .1);
+      }
+
+  module _ (hash : List ℕ → List ℕ) (wide : (xs : List ℕ) → length (hash xs) ≡ 32) (id f timeout last : ℕ) (log masks entry out : List ℕ) where
+    abbrev new : State
+    new = record { replica = fresh id f timeout last; log = zeros (512 * last); masks = zeros last }
+
+    made : (validSetup (fresh id f timeout last) log && validMasks (fresh id f timeout last) masks) ≡ true → length entry ≤ 400
+        → OpenFine id f last (taken (enterRound hash entry new) out)
+    unfolding taken
+    made v fits =
+        record {
+          valid-ok = λ z. omega (arith, z);
+          kept-ok = λ z. omega (arith, z);
+          quiet = λ ne. absurd (ne refl);
+          fine = λ _ ei ef el none tidy.
+              let x : Fixed s i id f timeout last = ranges id f timeout last log masks v ei ef el in (
+                new,
+                taken-fine s past i new (enterRound hash entry new) out
+                    (enter-kept s hash wide entry fits past i new
+                    (record { good = first-good id f timeout last x; mine = λ y p k. absurd (none y p); tidy = tidy })),
+              );
+        }
+
+    pub open-fine : OpenFine id f last (openWith hash id f timeout last log masks entry out)
+    unfolding openWith
+    open-fine =
+        by-cond (OpenFine id f last) (not (validSetup (fresh id f timeout last) log && validMasks (fresh id f timeout last) masks))
+        (λ _. refusal id f last _ out 1 refl refl refl)
+        (λ v. by-cond (OpenFine id f last) (ltb (length out) 1024) (λ _. refusal id f last _ out 4 refl refl refl)
+        (λ _. by-cond (OpenFine id f last) (ltb 400 (length entry)) (λ _. refusal id f last _ out 5 refl refl refl)
+        (λ l. made (not-false _ v) (ltb-false _ _ l))))

@@ -1,0 +1,12 @@
+-- Tests and choices read as facts. Assumes nothing.
+use mathlib.Core.Path.{_≡_, refl, sym, _∙_}
+use mathlib.Core.Logic.{_⊎_, inl, inr}
+use mathlib.Core.Bool.{Bool, true, false, true≢false}
+pub use Rattle.apollo.proofs.Tests.{and-true, same-true, same-of, by-cond}
+
+pub clash : {b : Bool} → b ≡ true → b ≡ false → ⊥
+clash p q = true≢false (sym p ∙ q)
+
+pub either : (b : Bool) → (b ≡ true) ⊎ (b ≡ false)
+either true = inl refl
+either false = inr refl

@@ -1,0 +1,86 @@
+-- Tick: the state stays good, and no refusal 2 or 12 is met. Assumes that a digest has 32 bytes.
+use Prim.Native.Nat.{ℕ, _-_, _≤_}
+use mathlib.Core.Path.{_≡_, refl, sym, ap, _∙_}
+use mathlib.Core.Logic.{inl, inr}
+use mathlib.Core.List.{List, _∷_}
+use mathlib.Core.Bool.{false}
+use native.Mathlib.Omega.{arith}
+use lib.ListN.{length}
+use lib.Dec.{eqb}
+use Rattle.apollo.specs.Setup.{Setup}
+use Rattle.apollo.specs.Frame.{kind, signer, round, makeBlame}
+use Rattle.apollo.specs.Replica.{leads}
+use Rattle.apollo.specs.Enter.{State, waiting, hearing, settle}
+use Rattle.apollo.specs.Tick.{blaming, ticked, tickWith}
+use Rattle.agreement.specs.Run.{Event, emitted, In, emit}
+use Rattle.agreement.proofs.Tests.{by-cond}
+use Rattle.agreement.proofs.Frames.{blame-kind, blame-signer, blame-round, blame-length}
+use Rattle.agreement.proofs.Past.{emitted-is}
+use Rattle.agreement.proofs.Good.{good-grows, extends-refl, wait-extends, hear-extends}
+use Rattle.agreement.proofs.Effects.{Standing, rest-standing, rest-leads, Kept, silent, kept-trans, hear-standing, settle-kept}
+use Rattle.agreement.proofs.Outcomes.{Fine, taken-fine, guarded-fine}
+
+module _ (s : Setup) (hash : List ℕ → List ℕ) (wide : (xs : List ℕ) → length (hash xs) ≡ 32) (past : List Event) (i : ℕ) (entry : List ℕ)
+    (c : State) (st : Standing s past i c) (rests : leads (c .replica) ≡ false) where
+  abbrev R : ℕ
+  R = c .replica .round .0
+
+  abbrev x : List ℕ
+  x = makeBlame hash (c .replica .id) R
+
+  -- a blame emitted changes no block
+  blame-standing : Standing s (emitted i x ∷ past) i c
+  blame-standing =
+      record {
+        good = good-grows s past (emitted i x ∷ past) i c (λ e p. inr p) (st .good);
+        mine = λ y p k. st .mine y (back i y p k) k;
+        tidy =
+            record {
+              signed = signed;
+              once = λ j y z p q a b. st .tidy .once j y z (back j y p a) (back j z q b) a b;
+              led = λ j y p a. st .tidy .led j y (back j y p a) a;
+              high = λ j y p a. st .tidy .high j y (back j y p a) a;
+            };
+      }
+    where
+      back : (j : ℕ) (y : List ℕ) → In (emitted j y) (emitted i x ∷ past) → kind y ≡ 1 → In (emitted j y) past
+      back j y (inl h) k = absurd (omega (arith, ap kind (emitted-is j i y x h .1), k, blame-kind hash wide (c .replica .id) R))
+      back j y (inr h) k = h
+
+      signed : (j : ℕ) (y : List ℕ) → In (emitted j y) (emitted i x ∷ past) → signer y ≡ j
+      signed j y (inl h) =
+          let e : (j ≡ i) × (y ≡ x) = emitted-is j i y x h in
+          ap signer (e .1) ∙ blame-signer hash wide _ _ ∙ st .good .fixed .id-is ∙ sym (e .0)
+      signed j y (inr h) = st .tidy .signed j y h
+
+  module _ (low : R ≤ s .lastRound) (fits : length entry ≤ 400) where
+    blaming-kept : Kept s past i c (blaming hash entry c)
+    unfolding blaming emit
+    blaming-kept =
+        let d : State = waiting c R 0 in
+        let k : Kept s (emitted i x ∷ past) i c (settle hash entry (hearing d R (c .replica .id)) R) =
+        kept-trans s (emitted i x ∷ past) i c d _ (wait-extends c R 0)
+        (kept-trans s (emitted i x ∷ past) i d (hearing d R (c .replica .id)) _ (hear-extends d R (c .replica .id))
+        (settle-kept s hash wide entry fits (emitted i x ∷ past) i (hearing d R (c .replica .id)) R low (unfold hearing in rest-leads s c 0 rests)
+        (hear-standing s (emitted i x ∷ past) i d (rest-standing s (emitted i x ∷ past) i c blame-standing 0 (omega arith)) R (c .replica .id)
+        (omega (arith, st .good .tip-below)) (
+          x,
+          inr (i, inl refl),
+          blame-kind hash wide _ _,
+          blame-signer hash wide _ _,
+          blame-round hash wide _ _ (omega (arith, st .good .fixed .last-is, st .good .fixed .last-top)),
+        )))) in
+        record { standing = k .standing; rests = k .rests; extends = k .extends; whole = (blame-length hash wide _ _, k .whole) }
+
+    ticked-kept : Kept s past i c (ticked hash entry c)
+    unfolding ticked
+    ticked-kept =
+        by-cond (Kept s past i c) (eqb (c .replica .timer .0) 0) (λ _. silent s past i c c st rests (extends-refl c))
+        (λ _. by-cond (Kept s past i c) (eqb (c .replica .timer .0) 1) (λ _. blaming-kept)
+        (λ _. silent s past i c (waiting c R (c .replica .timer .0 - 1))
+        (rest-standing s past i c st (c .replica .timer .0 - 1) (omega (arith, st .good .timer-low)))
+        (rest-leads s c (c .replica .timer .0 - 1) rests) (wait-extends c R (c .replica .timer .0 - 1))))
+
+  pub tick-fine : (out : List ℕ) → Fine s past i c (tickWith hash c entry out)
+  unfolding tickWith
+  tick-fine out = guarded-fine s past i c st rests entry out _ (λ low fits. taken-fine s past i c _ out (ticked-kept low fits))

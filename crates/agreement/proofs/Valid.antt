@@ -1,0 +1,75 @@
+-- A good state of a replica that does not lead R meets no refusal 2. Assumes nothing.
+use Prim.Native.Nat.{ℕ, _+_, _*_, _≤_}
+use mathlib.Core.Path.{_≡_, sym, ap, _∙_, subst}
+use mathlib.Core.List.{List}
+use mathlib.Core.Bool.{Bool, true, false, _&&_, not}
+use native.Mathlib.Omega.{arith}
+use borrow.Author.Tests.{lt-ltb, le-leb, eq-eqb}
+use Rattle.apollo.specs.Setup.{Setup}
+use Rattle.apollo.specs.Bytes.{within}
+use Rattle.apollo.specs.Log.{slot}
+use Rattle.apollo.specs.Replica.{leads, validSetup, validReplica, validMasks}
+use Rattle.apollo.specs.Enter.{State, commitLimit}
+use Rattle.agreement.specs.Run.{Event}
+use Rattle.agreement.proofs.Slots.{highest-filled}
+use Rattle.agreement.proofs.Chain.{Held, held-level, rises}
+use Rattle.agreement.proofs.Good.{Good, committed-low, limit-tip}
+
+both : {a b : Bool} → a ≡ true → b ≡ true → (a && b) ≡ true
+both {a} {b} p q = rw (p, q)
+
+inside : (lo n hi : ℕ) → lo ≤ n → n ≤ hi → within lo n hi ≡ true
+inside lo n hi p q = both (le-leb lo n p) (le-leb n hi q)
+
+module _ (s : Setup) (past : List Event) (i : ℕ) (c : State) (g : Good s past i c) where
+  committed-held : Held (slot (c .log)) (c .replica .«committed_round» .0)
+  committed-held =
+      subst (Held (slot (c .log))) (sym (g .committed-is)) (highest-filled (c .log) (commitLimit (c .replica)))
+
+  committed-tip : c .replica .«committed_round» .0 ≤ c .replica .«tip_round» .0
+  committed-tip = omega (arith, committed-low s past i c g, limit-tip s past i c g)
+
+  tip-height : c .replica .«tip_height» .0 ≤ c .replica .«tip_round» .0
+  tip-height =
+      omega (arith, g .stored .level-is, held-level (s .lastRound) _ _ (slot (c .log)) _ (g .stored .chain) _ (g .stored .chain .top))
+
+  height-tip : c .replica .«committed_height» .0 ≤ c .replica .«tip_height» .0
+  height-tip =
+      omega (
+        arith,
+        g .stored .level-is,
+        g .committed-height,
+        rises (s .lastRound) _ _ (slot (c .log)) _ (g .stored .chain) _ _ committed-tip committed-held (g .stored .chain .top),
+      )
+
+  height-round : c .replica .«committed_height» .0 ≤ c .replica .«committed_round» .0
+  height-round =
+      omega (arith, g .committed-height, held-level (s .lastRound) _ _ (slot (c .log)) _ (g .stored .chain) _ committed-held)
+
+  pub valid : leads (c .replica) ≡ false → (validReplica (c .replica) (c .log) && validMasks (c .replica) (c .masks)) ≡ true
+  unfolding validReplica validSetup
+  valid rests =
+      both
+      (both
+      (both
+      (both
+      (both
+      (both
+      (both
+      (both
+      (both
+      (both
+      (both (both (both (lt-ltb _ _ (g .fixed .id-low)) (inside 1 _ 7 (g .fixed .f-one) (g .fixed .f-top)))
+      (inside 1 _ 60000 (g .fixed .timeout-one) (g .fixed .timeout-top)))
+      (inside 1 _ 4096 (g .fixed .last-one) (g .fixed .last-top)))
+      (eq-eqb _ _ (g .stored .size ∙ ap (λ k. 512 * k) (sym (g .fixed .last-is)))))
+      (inside 1 (c .replica .round .0) (c .replica .«last_round» .0 + 1) (omega (arith, g .tip-below))
+      (omega (arith, g .reach, g .fixed .last-is))))
+      (le-leb _ _ (g .timer-low)))
+      (lt-ltb _ _ (g .tip-below)))
+      (le-leb _ _ tip-height))
+      (le-leb _ _ committed-tip))
+      (le-leb _ _ height-tip))
+      (le-leb _ _ height-round))
+      (ap not rests))
+      (eq-eqb _ _ (g .masks-length ∙ sym (g .fixed .last-is)))

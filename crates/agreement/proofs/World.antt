@@ -1,0 +1,310 @@
+-- The invariant of every list of calls that keeps the rules about opens, with nobody presumed correct: SHA-256 takes the place of the hash.
+use Prim.Native.Nat.{ℕ, _/_, _<_}
+use mathlib.Core.Path.{_≡_, refl, sym, ap, _∙_, subst}
+use mathlib.Core.Logic.{_⊎_, inl, inr, _≢_, ⊎-elim}
+use mathlib.Core.Option.{Option, none, some}
+use mathlib.Core.List.{List, [], _∷_}
+use mathlib.Core.Bool.{Bool, true, false, cond}
+use native.Mathlib.Omega.{arith}
+use lib.ListN.{length}
+use lib.Seq.{take-all}
+use lib.Dec.{eqb}
+use borrow.Author.Tests.{eqb-true, eqb-false}
+use Rattle.sha256.specs.Fips.{sha256}
+use Rattle.sha256.proofs.Hash.{digest-length}
+use Rattle.apollo.specs.Setup.{Setup}
+use Rattle.apollo.specs.Frame.{kind, round, frames, checked}
+use Rattle.apollo.specs.Replica.{leads}
+use Rattle.apollo.specs.Enter.{State}
+use Rattle.apollo.specs.Outcome.{Outcome}
+use Rattle.apollo.specs.Calls.{openCall}
+use Rattle.agreement.specs.Run.{Act, branch, blame, tick, Call, opening, act, Event, handed, emitted, answered, In, Seen, World, start, bytesIn, framesIn, hand, emit, note, stateOf, after, opened, answer, callAt, step, run}
+use Rattle.agreement.specs.Premises.{Each, Lawful}
+use Rattle.agreement.proofs.Tests.{by-cond}
+use Rattle.agreement.proofs.Past.{Grows, emitted-is, emit-grows, emit-back, hand-grows, hand-in, Given, hand-back}
+use Rattle.agreement.proofs.Stored.{stored-map}
+use Rattle.agreement.proofs.Good.{Good, good-grows, Extends, extends-refl}
+use Rattle.agreement.proofs.Effects.{Tidy, Standing}
+use Rattle.agreement.proofs.Adopt.{Known}
+use Rattle.agreement.proofs.Outcomes.{Reverts, Fine}
+use Rattle.agreement.proofs.Tick.{tick-fine}
+use Rattle.agreement.proofs.Blame.{blame-fine}
+use Rattle.agreement.proofs.Branch.{branch-fine}
+use Rattle.agreement.proofs.Open.{OpenFine, open-fine}
+
+-- what an answer adds to the past: itself, and frames that its replica emitted
+pub note-grows : (i : ℕ) (o : Outcome) (past : List Event) → Grows past (note i o past)
+unfolding note
+note-grows i o past e p = inr (emit-grows i (frames (o .answer .frames) (o .out)) past e p)
+
+note-back : (i : ℕ) (o : Outcome) (past : List Event) (e : Event) → In e (note i o past)
+    → In e past ⊎ ((e ≡ answered (o .answer .number)) ⊎ ((x : List ℕ) × (e ≡ emitted i x)))
+unfolding note
+note-back i o past e (inl p) = inr (inl p)
+note-back i o past e (inr p) = ⊎-elim inl (λ q. inr (inr q)) (emit-back i (frames (o .answer .frames) (o .out)) past e p)
+
+note-answered : (i : ℕ) (o : Outcome) (past : List Event) (k : ℕ) → In (answered k) (note i o past)
+    → (o .answer .number ≡ k) ⊎ In (answered k) past
+note-answered i o past k p = go (note-back i o past (answered k) p)
+  where
+    go : In (answered k) past ⊎ ((answered k ≡ answered (o .answer .number)) ⊎ ((x : List ℕ) × (answered k ≡ emitted i x)))
+        → (o .answer .number ≡ k) ⊎ In (answered k) past
+    go (inl q) = inr q
+    go (inr (inl q)) = inl (cc)
+    go (inr (inr q)) = let e : answered k ≡ emitted i (q .0) = q .1 in let z : _≡_ {A = ℕ} 0 1 = cc in absurd (omega arith)
+
+note-other : (i : ℕ) (o : Outcome) (past : List Event) (j : ℕ) (x : List ℕ) → j ≢ i → In (emitted j x) (note i o past)
+    → In (emitted j x) past
+note-other i o past j x ne p = go (note-back i o past (emitted j x) p)
+  where
+    go : In (emitted j x) past ⊎ ((emitted j x ≡ answered (o .answer .number)) ⊎ ((y : List ℕ) × (emitted j x ≡ emitted i y)))
+        → In (emitted j x) past
+    go (inl q) = q
+    go (inr (inl q)) = let z : _≡_ {A = ℕ} 0 1 = cc in absurd (omega arith)
+    go (inr (inr q)) = absurd (ne (emitted-is j i x (q .0) (q .1) .0))
+
+pub note-handed : (i : ℕ) (o : Outcome) (past : List Event) (x : List ℕ) → In (handed x) (note i o past) → In (handed x) past
+note-handed i o past x p = go (note-back i o past (handed x) p)
+  where
+    go : In (handed x) past ⊎ ((handed x ≡ answered (o .answer .number)) ⊎ ((y : List ℕ) × (handed x ≡ emitted i y))) → In (handed x) past
+    go (inl q) = q
+    go (inr (inl q)) = let z : _≡_ {A = ℕ} 0 1 = cc in absurd (omega arith)
+    go (inr (inr q)) = let e : handed x ≡ emitted i (q .0) = q .1 in let z : _≡_ {A = ℕ} 0 1 = cc in absurd (omega arith)
+
+-- what is handed in adds frames handed in
+hand-other : (xs : List (List ℕ)) (past : List Event) (e : Event) → ((x : List ℕ) → e ≢ handed x) → In e (hand xs past) → In e past
+hand-other xs past e ne p = ⊎-elim (λ q. q) (λ (q : Given e xs). absurd (ne (q .0) (q .3))) (hand-back xs past e p)
+
+module _ (s : Setup) where
+  pub record Inv (w : World) : Type 0 where
+    pub good : (i : ℕ) (c : State) → w .states i ≡ some c → Good s (w .past) i c
+    pub mine : (i : ℕ) (c : State) → w .states i ≡ some c → (x : List ℕ) → In (emitted i x) (w .past) → kind x ≡ 1
+        → round x < c .replica .round .0
+    pub rests : (i : ℕ) (c : State) → w .states i ≡ some c → leads (c .replica) ≡ false
+    pub asleep : (i : ℕ) → w .states i ≡ none → (x : List ℕ) → In (emitted i x) (w .past) → ⊥
+    pub tidy : Tidy s (w .past)
+    pub valid : In (answered 2) (w .past) → ⊥
+    pub reverting : In (answered 12) (w .past) → (i : ℕ) × (c : State) × Good s (w .past) i c × Reverts s (w .past) c
+
+  reverts-grows : (past now : List Event) → Grows past now → (c : State) → Reverts s past c → Reverts s now c
+  reverts-grows past now g c r =
+      record {
+        log = r .log;
+        tip = r .tip;
+        level = r .level;
+        stored = stored-map s past now _ _ _ _ _ g (λ q e. e) (r .stored);
+        beyond = r .beyond;
+        differs = r .differs;
+      }
+
+  tidy-back : (past now : List Event) → ((j : ℕ) (x : List ℕ) → In (emitted j x) now → In (emitted j x) past) → Tidy s past → Tidy s now
+  tidy-back past now b t =
+      record {
+        signed = λ j x p. t .signed j x (b j x p);
+        once = λ j x y p q. t .once j x y (b j x p) (b j y q);
+        led = λ j x p. t .led j x (b j x p);
+        high = λ j x p. t .high j x (b j x p);
+      }
+
+  -- the past grew by no frame emitted and no answer 2 or 12
+  inv-more : (w : World) (now : List Event) → Grows (w .past) now
+      → ((j : ℕ) (x : List ℕ) → In (emitted j x) now → In (emitted j x) (w .past))
+      → (In (answered 2) now → In (answered 2) (w .past)) → (In (answered 12) now → In (answered 12) (w .past)) → Inv w
+      → Inv (record { states = w .states; past = now })
+  inv-more w now g b two twelve v =
+      record {
+        good = λ i c e. good-grows s (w .past) now i c g (v .good i c e);
+        mine = λ i c e x p. v .mine i c e x (b i x p);
+        rests = v .rests;
+        asleep = λ i e x p. v .asleep i e x (b i x p);
+        tidy = tidy-back (w .past) now b (v .tidy);
+        valid = λ p. v .valid (two p);
+        reverting = λ p. let r = v .reverting (twelve p) in
+            (r .0, r .1, good-grows s (w .past) now (r .0) (r .1) g (r .2), reverts-grows (w .past) now g (r .1) (r .3));
+      }
+
+  hand-inv : (w : World) (xs : List (List ℕ)) → Inv w → Inv (record { states = w .states; past = hand xs (w .past) })
+  hand-inv w xs =
+      inv-more w (hand xs (w .past)) (hand-grows xs (w .past))
+      (λ j x. hand-other xs (w .past) (emitted j x) (λ y e. let z : _≡_ {A = ℕ} 0 1 = cc in omega arith))
+      (hand-other xs (w .past) (answered 2) (λ y e. let z : _≡_ {A = ℕ} 0 1 = cc in omega arith))
+      (hand-other xs (w .past) (answered 12) (λ y e. let z : _≡_ {A = ℕ} 0 1 = cc in omega arith))
+
+  -- the world after an answer
+  module _ (w : World) (i : ℕ) (o : Outcome) (v : Inv w) (c : State) (fine : Fine s (w .past) i c o)
+      (before : o .answer .number ≡ 12 → Good s (w .past) i c) where
+    abbrev now : List Event
+    now = note i o (w .past)
+
+    grows : Grows (w .past) now
+    grows = note-grows i o (w .past)
+
+    -- what holds of the new state, and of every other as before
+    each : (P : ℕ → State → Type 0) → P i (stateOf o) → ((j : ℕ) (d : State) → j ≢ i → w .states j ≡ some d → P j d) → (j : ℕ) (d : State)
+        → cond (eqb i j) (some (stateOf o)) (w .states j) ≡ some d → P j d
+    each P new old j d = go (eqb i j) refl
+      where
+        go : (b : Bool) → eqb i j ≡ b → cond b (some (stateOf o)) (w .states j) ≡ some d → P j d
+        go true e h = let q : stateOf o ≡ d = cc in subst (λ k. P k d) (eqb-true _ _ e) (subst (P i) q new)
+        go false e h = old j d (λ z. eqb-false _ _ e (sym z)) h
+
+    still-asleep : (j : ℕ) → cond (eqb i j) (some (stateOf o)) (w .states j) ≡ none → (x : List ℕ) → In (emitted j x) now → ⊥
+    still-asleep j = go (eqb i j) refl
+      where
+        go : (b : Bool) → eqb i j ≡ b → cond b (some (stateOf o)) (w .states j) ≡ none → (x : List ℕ) → In (emitted j x) now → ⊥
+        go true e h x p = let z : _≡_ {A = ℕ} 0 1 = cc in omega arith
+        go false e h x p = v .asleep j h x (note-other i o (w .past) j x (λ z. eqb-false _ _ e (sym z)) p)
+
+    sealed : (e : Event) → In e (emit i (frames (o .answer .frames) (o .out)) (w .past)) → In e now
+    unfolding note
+    sealed e p = inr p
+
+    opens : (j : ℕ) (x : List ℕ) → In (emitted j x) now → In (emitted j x) (emit i (frames (o .answer .frames) (o .out)) (w .past))
+    unfolding note
+    opens j x (inl e) = let z : _≡_ {A = ℕ} 0 1 = cc in absurd (omega arith)
+    opens j x (inr p) = p
+
+    reverted : (o .answer .number ≡ 12) ⊎ In (answered 12) (w .past) → (j : ℕ) × (d : State) × Good s now j d × Reverts s now d
+    reverted (inl e) = (i, c, good-grows s (w .past) now i c grows (before e), reverts-grows (w .past) now grows c (fine .reverts e))
+    reverted (inr p) =
+        let r = v .reverting p in
+        (r .0, r .1, good-grows s (w .past) now (r .0) (r .1) grows (r .2), reverts-grows (w .past) now grows (r .1) (r .3))
+
+    pub after-inv : Inv (after w i o)
+    unfolding after
+    after-inv =
+        record {
+          good =
+              each (λ j d. Good s now j d) (good-grows s _ now i (stateOf o) sealed (fine .standing .good))
+              (λ j d ne e. good-grows s (w .past) now j d grows (v .good j d e));
+          mine =
+              each (λ j d. (x : List ℕ) → In (emitted j x) now → kind x ≡ 1 → round x < d .replica .round .0)
+              (λ x p. fine .standing .mine x (opens i x p)) (λ j d ne e x p. v .mine j d e x (note-other i o (w .past) j x ne p));
+          rests = each (λ j d. leads (d .replica) ≡ false) (fine .rests) (λ j d ne e. v .rests j d e);
+          asleep = still-asleep;
+          tidy = tidy-back _ now opens (fine .standing .tidy);
+          valid = λ p. ⊎-elim (fine .valid-ok) (v .valid) (note-answered i o (w .past) 2 p);
+          reverting = λ p. reverted (note-answered i o (w .past) 12 p);
+        }
+
+  -- the one frame of a blame is seen
+  known-one : (past : List Event) (bytes : List ℕ) → Known s sha256 past (frames (length bytes / 512) bytes) → length bytes ≡ 512
+      → checked sha256 bytes ≡ true → Seen bytes past
+  unfolding frames
+  known-one past bytes k e =
+      let one : length bytes / 512 ≡ 1 = omega arith in
+      let h : Known s sha256 past (frames 1 bytes) = subst (λ n. Known s sha256 past (frames n bytes)) one k in
+      h bytes (inl (sym (take-all 512 bytes (omega arith))))
+
+  -- each call other than open keeps the state: the one place that names them
+  act-fine : (past : List Event) (i : ℕ) (c : State) (a : Act) → Known s sha256 past (frames (length (bytesIn a) / 512) (bytesIn a))
+      → Standing s past i c → leads (c .replica) ≡ false → Fine s past i c (answer c a)
+  unfolding answer bytesIn
+  act-fine past i c (branch bytes entry out) k st r = branch-fine s sha256 digest-length past i entry c st r bytes out k
+  act-fine past i c (blame bytes entry out) k st r = blame-fine s sha256 digest-length past i entry c st r bytes out (known-one past bytes k)
+  act-fine past i c (tick entry out) k st r = tick-fine s sha256 digest-length past i entry c st r out
+
+  -- What a call does to the states: each that was there is still there, and extended.
+  abbrev pub Grown : World → World → Type 0
+  Grown w u = (i : ℕ) (c : State) → w .states i ≡ some c → (d : State) × (u .states i ≡ some d) × Extends c d
+
+  pub record Stepped (w u : World) : Type 0 where
+    pub inv : Inv u
+    pub grown : Grown w u
+
+  module _ (w : World) (i : ℕ) (v : Inv w) where
+    some-none : (o : Option State) (c : State) → o ≡ none → o ≡ some c → ⊥
+    some-none o c p q = let z : _≡_ {A = ℕ} 0 1 = cc in omega arith
+
+    after-grown : (o : Outcome) → ((c : State) → w .states i ≡ some c → Extends c (stateOf o)) → Grown w (after w i o)
+    unfolding after
+    after-grown o x j c h = go (eqb i j) refl
+      where
+        go : (b : Bool) → eqb i j ≡ b → (d : State) × (cond b (some (stateOf o)) (w .states j) ≡ some d) × Extends c d
+        go true e = (stateOf o, refl, x c (ap (w .states) (eqb-true _ _ e) ∙ h))
+        go false e = (c, h, extends-refl c)
+
+    open-stepped : (id f timeout last : ℕ) (log masks entry out : List ℕ) → Lawful s w i (opening id f timeout last log masks entry out)
+        → Stepped w (opened w i (openCall id f timeout last log masks entry out))
+    unfolding opened
+    open-stepped id f timeout last log masks entry out l =
+        by-cond (Stepped w) (eqb (o .answer .number) 0) (λ e. yes-case (eqb-true _ _ e)) (λ e. no-case (eqb-false _ _ e))
+      where
+        o : Outcome
+        o = openCall id f timeout last log masks entry out
+
+        r : OpenFine s (w .past) i id f last o
+        r = open-fine s (w .past) i sha256 digest-length id f timeout last log masks entry out
+
+        yes-case : o .answer .number ≡ 0 → Stepped w (after w i o)
+        yes-case e =
+            let p = l e in
+            let x : (c : State) × Fine s (w .past) i c o = r .fine e (p .1) (p .2) (p .3) (v .asleep i (p .0)) (v .tidy) in
+            record {
+              inv = after-inv w i o v (x .0) (x .1) (λ t. absurd (r .kept-ok t));
+              grown = after-grown o (λ c h. absurd (some-none (w .states i) c (p .0) h));
+            }
+
+        no-case : o .answer .number ≢ 0 → Stepped w (record { states = w .states; past = note i o (w .past) })
+        no-case ne =
+            record {
+              inv =
+                  inv-more w (note i o (w .past)) (note-grows i o (w .past)) (silent (r .quiet ne))
+                  (λ p. ⊎-elim (λ e. absurd (r .valid-ok e)) (λ q. q) (note-answered i o (w .past) 2 p))
+                  (λ p. ⊎-elim (λ e. absurd (r .kept-ok e)) (λ q. q) (note-answered i o (w .past) 12 p)) v;
+              grown = λ j c e. (c, e, extends-refl c);
+            }
+          where
+            silent : o .answer .frames ≡ 0 → (j : ℕ) (x : List ℕ) → In (emitted j x) (note i o (w .past)) → In (emitted j x) (w .past)
+            silent z j x p = quiet (subst (λ n. In (emitted j x) (answered (o .answer .number) ∷ emit i (frames n (o .out)) (w .past))) z (unfold note in p))
+              where
+                quiet : In (emitted j x) (answered (o .answer .number) ∷ emit i (frames 0 (o .out)) (w .past)) → In (emitted j x) (w .past)
+                quiet (inl e) = let z : _≡_ {A = ℕ} 0 1 = cc in absurd (omega arith)
+                quiet (inr q) = unfold frames emit in q
+
+    call-stepped : (c : Option State) (d : Call) → w .states i ≡ c → Lawful s w i d → Known s sha256 (w .past) (framesIn d)
+        → Stepped w (callAt w i c d)
+    unfolding callAt framesIn
+    call-stepped none (opening id f timeout last log masks entry out) e l k = open-stepped id f timeout last log masks entry out l
+    call-stepped (some c) (opening id f timeout last log masks entry out) e l k = open-stepped id f timeout last log masks entry out l
+    call-stepped none (act a) e l k = absurd (some-none (w .states i) (l .0) e (l .1))
+    call-stepped (some c) (act a) e l k =
+        let fine : Fine s (w .past) i c (answer c a) =
+        act-fine (w .past) i c a k (record { good = v .good i c e; mine = v .mine i c e; tidy = v .tidy }) (v .rests i c e) in
+        record {
+          inv = after-inv w i (answer c a) v c fine (λ _. v .good i c e);
+          grown = after-grown (answer c a) (λ d h. let q : c ≡ d = cc in subst (λ k. Extends k (stateOf (answer c a))) q (fine .extends));
+        }
+
+  pub step-stepped : (w : World) (i : ℕ) (d : Call) → Inv w → Lawful s w i d → Stepped w (step w i d)
+  unfolding step
+  step-stepped w i d v l =
+      let t : Stepped u (callAt u i (w .states i) d) =
+      call-stepped u i (hand-inv w (framesIn d) v) (w .states i) d refl (lawful d l)
+      (λ x p r. inl (hand-in (framesIn d) (w .past) x p r)) in
+      record { inv = t .inv; grown = t .grown }
+    where
+      u : World
+      u = record { states = w .states; past = hand (framesIn d) (w .past) }
+
+      lawful : (d : Call) → Lawful s w i d → Lawful s (record { states = w .states; past = hand (framesIn d) (w .past) }) i d
+      lawful (opening id f timeout last log masks entry out) p = p
+      lawful (act a) p = p
+
+  pub start-inv : Inv start
+  unfolding start
+  start-inv =
+      record {
+        good = λ i c e. absurd (let z : _≡_ {A = ℕ} 0 1 = cc in omega arith);
+        mine = λ i c e. absurd (let z : _≡_ {A = ℕ} 0 1 = cc in omega arith);
+        rests = λ i c e. absurd (let z : _≡_ {A = ℕ} 0 1 = cc in omega arith);
+        asleep = λ i e x p. p;
+        tidy = record { signed = λ j x p. absurd p; once = λ j x y p. absurd p; led = λ j x p. absurd p; high = λ j x p. absurd p };
+        valid = λ p. p;
+        reverting = λ p. absurd p;
+      }
+
+  pub run-inv : (es : List (ℕ × Call)) (w : World) → Each (Lawful s) w es → Inv w → Inv (run w es)
+  unfolding run
+  run-inv [] w l v = v
+  run-inv (e ∷ es) w l v = run-inv es (step w (e .0) (e .1)) (l .1) (step-stepped w (e .0) (e .1) v (l .0) .inv)

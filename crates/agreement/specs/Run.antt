@@ -1,0 +1,103 @@
+-- Demand 3's list of calls, at all replicas in the order in which they came, and the world that it leaves. Read and fetch change
+-- no record, log or masks: they may stand anywhere, and are left out.
+use Prim.Native.Nat.{ℕ, _/_}
+use mathlib.Core.Path.{_≡_}
+use mathlib.Core.Logic.{_⊎_}
+use mathlib.Core.Option.{Option, none, some}
+use mathlib.Core.List.{List, [], _∷_}
+use mathlib.Core.Bool.{cond}
+use lib.ListN.{length}
+use lib.Dec.{eqb}
+use Rattle.sha256.specs.Fips.{sha256}
+use Rattle.apollo.specs.Frame.{frames, checked}
+use Rattle.apollo.specs.Enter.{State}
+use Rattle.apollo.specs.Outcome.{Outcome}
+use Rattle.apollo.specs.Calls.{openCall, branchCall, blameCall, tickCall}
+
+-- a call other than open, with the bytes handed in and the buffers lent, whatever they hold
+pub data Act : Type 0 where
+  branch : (bytes entry out : List ℕ) → Act
+  blame : (bytes entry out : List ℕ) → Act
+  tick : (entry out : List ℕ) → Act
+
+pub data Call : Type 0 where
+  opening : (id f timeout lastRound : ℕ) (log masks entry out : List ℕ) → Call
+  act : Act → Call
+
+-- what comes to pass: a frame with a right check is handed in; a replica emits a frame (puts it out); a call is answered
+pub data Event : Type 0 where
+  handed : (frame : List ℕ) → Event
+  emitted : (id : ℕ) (frame : List ℕ) → Event
+  answered : (number : ℕ) → Event
+
+-- x is in a list
+abbrev pub In : {A : Type 0} → A → List A → Type 0
+In x [] = ⊥
+In x (y ∷ ys) = (x ≡ y) ⊎ In x ys
+
+-- frame x was handed in with a right check, or emitted
+abbrev pub Seen : List ℕ → List Event → Type 0
+Seen x past = In (handed x) past ⊎ ((i : ℕ) × In (emitted i x) past)
+
+-- the state of each replica, by its number, once an open was taken; and what came to pass, the latest first
+pub record World : Type 0 where
+  pub states : ℕ → Option State
+  pub past : List Event
+
+unfoldable pub start : World
+start = record { states = λ i. none; past = [] }
+
+-- the whole frames in the bytes handed in, whatever the call answers
+unfoldable pub bytesIn : Act → List ℕ
+bytesIn (branch bytes entry out) = bytes
+bytesIn (blame bytes entry out) = bytes
+bytesIn (tick entry out) = []
+
+unfoldable pub framesIn : Call → List (List ℕ)
+framesIn (opening id f timeout lastRound log masks entry out) = []
+framesIn (act a) = frames (length (bytesIn a) / 512) (bytesIn a)
+
+unfoldable pub hand : List (List ℕ) → List Event → List Event
+hand [] past = past
+hand (x ∷ xs) past = hand xs (cond (checked sha256 x) (handed x ∷ past) past)
+
+unfoldable pub emit : ℕ → List (List ℕ) → List Event → List Event
+emit i [] past = past
+emit i (x ∷ xs) past = emit i xs (emitted i x ∷ past)
+
+-- the past after replica i's answer: the frames that it emits are the first of its out buffer
+unfoldable pub note : ℕ → Outcome → List Event → List Event
+note i o past = answered (o .answer .number) ∷ emit i (frames (o .answer .frames) (o .out)) past
+
+-- the record, the log and the masks, just as a call left them
+abbrev pub stateOf : Outcome → State
+stateOf o = record { replica = o .answer .replica; log = o .log; masks = o .masks }
+
+-- the world after a call at replica i whose state it left
+unfoldable pub after : World → ℕ → Outcome → World
+after w i o = record { states = λ j. cond (eqb i j) (some (stateOf o)) (w .states j); past = note i o (w .past) }
+
+-- an open; a refused one leaves every state as it was
+unfoldable pub opened : World → ℕ → Outcome → World
+opened w i o = cond (eqb (o .answer .number) 0) (after w i o) (record { states = w .states; past = note i o (w .past) })
+
+-- what a call answers at a replica in state c
+unfoldable pub answer : State → Act → Outcome
+answer c (branch bytes entry out) = branchCall c bytes entry out
+answer c (blame bytes entry out) = blameCall c bytes entry out
+answer c (tick entry out) = tickCall c entry out
+
+-- a call at replica i with the state that its last call left; without one nothing happens, and the premises rule it out
+unfoldable pub callAt : World → ℕ → Option State → Call → World
+callAt w i c (opening id f timeout lastRound log masks entry out) =
+    opened w i (openCall id f timeout lastRound log masks entry out)
+callAt w i none (act a) = w
+callAt w i (some c) (act a) = after w i (answer c a)
+
+unfoldable pub step : World → ℕ → Call → World
+step w i d = callAt (record { states = w .states; past = hand (framesIn d) (w .past) }) i (w .states i) d
+
+-- the world after a list of calls, each at a replica
+unfoldable pub run : World → List (ℕ × Call) → World
+run w [] = w
+run w (e ∷ es) = run (step w (e .0) (e .1)) es

@@ -1,0 +1,1 @@
+// Demand 3 of document 01: definitions and proofs alone, no code.
