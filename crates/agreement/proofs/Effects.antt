@@ -264,9 +264,9 @@ module _ (s : Setup) (hash : List ℕ → List ℕ) (wide : (xs : List ℕ) → 
           → Kept s past i c (enterRound hash entry d)
       pass p =
           let here : r ≡ c .replica .round .0 = eqb-true _ _ (p .0) in
-          let shown : certified s (c .masks) r ≡ true =
+          let cert : certified s (c .masks) r ≡ true =
           ap (λ k. certified k (c .masks) r) (sym (setup-is s i (c .replica) (st .good .fixed))) ∙ p .1 in
           kept-trans s past i c d _ (wait-extends c (r + 1) (c .replica .timer .0))
           (enter-kept past i d
           (wait-standing s past i c st (r + 1) (c .replica .timer .0) (omega arith) (omega arith) (st .good .timer-low)
-          (λ q a b. let e : q ≡ r = omega arith in ap (certified s (c .masks)) e ∙ shown)))
+          (λ q a b. let e : q ≡ r = omega arith in ap (certified s (c .masks)) e ∙ cert)))

@@ -1,5 +1,5 @@
 -- What is used of leaders: each is a replica's number, and f + 1 rounds in a row have different ones. So where at most f replicas are
--- not correct, one of f + 1 rounds in a row has a correct leader, and one of f + 1 marks is a correct replica's.
+-- not correct, one of f + 1 rounds in a row has a correct leader, and one of f + 1 marks is a correct replica's. Assumes nothing.
 use Prim.Native.Nat.{ℕ, zero, suc, _+_, _-_, _/_, _%_, _≤_, _<_}
 use mathlib.Core.Path.{_≡_, refl, ap, _∙_}
 use mathlib.Core.Logic.{_⊎_, inl, inr, _≢_}

@@ -2,7 +2,7 @@
 use Prim.Native.Nat.{ℕ, zero, suc, _-_, _*_, _≤_}
 use mathlib.Core.Path.{_≡_, refl, sym, ap, _∙_}
 use mathlib.Core.Logic.{inl, _≢_}
-use mathlib.Core.List.{List}
+use mathlib.Core.List.{List, []}
 use mathlib.Core.Bool.{Bool, true, false, not, _&&_}
 use native.Mathlib.Omega.{arith}
 use lib.ListN.{length, getD, replicate, getD-replicate, List·getD-eq-default, length-replicate}
@@ -10,14 +10,14 @@ use lib.Dec.{leb, ltb, eqb}
 use borrow.Author.Tests.{leb-true, leb-false, ltb-true, ltb-false, eqb-false, not-false}
 use Rattle.apollo.specs.Setup.{Setup}
 use Rattle.apollo.specs.Bytes.{zeros}
-use Rattle.apollo.specs.Frame.{height}
+use Rattle.apollo.specs.Frame.{height, frames}
 use Rattle.apollo.specs.Log.{genesis, slot, filled}
 use Rattle.apollo.specs.Masks.{bit, mask}
 use Rattle.apollo.specs.Replica.{fresh, validSetup, validMasks}
 use Rattle.apollo.specs.Enter.{State, commitLimit, enterRound}
 use Rattle.apollo.specs.Outcome.{Outcome, refused, taken}
 use Rattle.apollo.specs.Open.{openWith}
-use Rattle.agreement.specs.Run.{Event, emitted, In}
+use Rattle.agreement.specs.Run.{Event, emitted, In, emittedBy}
 use Rattle.agreement.proofs.Tests.{clash, and-true, by-cond}
 use Rattle.agreement.proofs.Slots.{length-zeros, part-zeros, filled-genesis, filled-nil, slot-beyond, highest-le}
 use Rattle.agreement.proofs.Frames.{height-genesis}
@@ -101,13 +101,13 @@ module _ (s : Setup) (past : List Event) (i : ℕ) where
   pub record OpenFine (id f last : ℕ) (o : Outcome) : Type 0 where
     pub valid-ok : o .answer .number ≢ 2
     pub kept-ok : o .answer .number ≢ 12
-    pub quiet : o .answer .number ≢ 0 → o .answer .frames ≡ 0
+    pub quiet : o .answer .number ≢ 0 → emittedBy o ≡ []
     pub fine : o .answer .number ≡ 0 → id ≡ i → f ≡ s .f → last ≡ s .lastRound → ((x : List ℕ) → In (emitted i x) past → ⊥) → Tidy s past
         → (c : State) × Fine s past i c o
 
   refusal : (id f last : ℕ) (c : State) (out : List ℕ) (k : ℕ) → eqb k 2 ≡ false → eqb k 12 ≡ false → eqb k 0 ≡ false
       → OpenFine id f last (refused c out k 0)
-  unfolding refused
+  unfolding refused emittedBy frames
   refusal id f last c out k a b d =
       record {
         valid-ok = eqb-false k 2 a;

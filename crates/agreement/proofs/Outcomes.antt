@@ -13,7 +13,7 @@ use Rattle.apollo.specs.Frame.{frames}
 use Rattle.apollo.specs.Replica.{leads, validReplica, validMasks}
 use Rattle.apollo.specs.Enter.{State, Effect}
 use Rattle.apollo.specs.Outcome.{Outcome, refused, taken, guarded}
-use Rattle.agreement.specs.Run.{Event, emit, stateOf}
+use Rattle.agreement.specs.Run.{Event, emit, emittedBy, stateOf}
 use Rattle.agreement.proofs.Tests.{clash, by-cond}
 use Rattle.agreement.proofs.Frames.{frames-flatten}
 use Rattle.agreement.proofs.Stored.{Stored}
@@ -33,7 +33,7 @@ module _ (s : Setup) where
 
   -- replica i's call leaves state c as the outcome says
   pub record Fine (past : List Event) (i : ℕ) (c : State) (o : Outcome) : Type 0 where
-    pub standing : Standing s (emit i (frames (o .answer .frames) (o .out)) past) i (stateOf o)
+    pub standing : Standing s (emit i (emittedBy o) past) i (stateOf o)
     pub rests : leads (o .answer .replica) ≡ false
     pub extends : Extends c (stateOf o)
     pub valid-ok : o .answer .number ≢ 2
@@ -41,7 +41,7 @@ module _ (s : Setup) where
 
   module _ (past : List Event) (i : ℕ) (c : State) where
     pub taken-fine : (e : Effect) (out : List ℕ) → Kept s past i c e → Fine past i c (taken e out)
-    unfolding taken
+    unfolding taken emittedBy
     taken-fine e out k =
         let q : frames (length (e .emitted)) (flatten (e .emitted) ++ drop (512 * length (e .emitted)) out) ≡ e .emitted =
         frames-flatten (e .emitted) _ (k .whole) in
@@ -55,7 +55,7 @@ module _ (s : Setup) where
 
     module _ (st : Standing s past i c) (rests : leads (c .replica) ≡ false) where
       pub refused-fine : (out : List ℕ) (k p : ℕ) → k ≢ 2 → (k ≡ 12 → Reverts past c) → Fine past i c (refused c out k p)
-      unfolding refused frames emit
+      unfolding refused frames emit emittedBy
       refused-fine out k p a b =
           record { standing = st; rests = rests; extends = extends-refl c; valid-ok = a; reverts = b }
 

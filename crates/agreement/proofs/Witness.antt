@@ -20,7 +20,7 @@ use Rattle.apollo.specs.Outcome.{Outcome, taken, guarded}
 use Rattle.apollo.specs.Open.{openWith}
 use Rattle.apollo.specs.Branch.{lastOf, firstUncertified, storeAll, grown, faulty, judged, judgedAll, adopting, placed, branched, branchWith}
 use Rattle.apollo.specs.Calls.{openCall, branchCall}
-use Rattle.agreement.specs.Run.{branch, Call, opening, act, Event, handed, emitted, answered, In, Seen, World, start, bytesIn, framesIn, hand, emit, note, after, opened, answer, callAt, step, run}
+use Rattle.agreement.specs.Run.{branch, Call, opening, act, Event, handed, emitted, answered, In, Seen, World, start, bytesIn, framesIn, hand, emit, emittedBy, note, after, opened, answer, callAt, step, run}
 use Rattle.agreement.specs.Premises.{Each, Lawful, Mostly, Unforged, Patient, Distinct, Premises}
 use Rattle.agreement.specs.Claim.{committed, Agreed}
 use Rattle.agreement.proofs.Tests.{same-of}
@@ -134,7 +134,7 @@ w4 = record { states = put 0 (stateAt 0 3 2 1 log2) (w3 .states); past = answere
 
 -- all that computes of the list
 steps : Unit {0}
-unfolding start bytesIn framesIn hand emit note after opened answer callAt step openAt take1 take2 put w1 w2 w3 w4 flatten
+unfolding start bytesIn framesIn hand emit emittedBy note after opened answer callAt step openAt take1 take2 put w1 w2 w3 w4 flatten
 steps = tt
 
 step1 : step start 0 (openAt 0) ≡ w1

@@ -1,4 +1,5 @@
--- The invariant of every list of calls that keeps the rules about opens, with nobody presumed correct: SHA-256 takes the place of the hash.
+-- The invariant of every list of calls that keeps the rules about opens, with no replica presumed correct. From here on the hash is
+-- SHA-256. Assumes nothing.
 use Prim.Native.Nat.{ℕ, _/_, _<_}
 use mathlib.Core.Path.{_≡_, refl, sym, ap, _∙_, subst}
 use mathlib.Core.Logic.{_⊎_, inl, inr, _≢_, ⊎-elim}
@@ -18,7 +19,7 @@ use Rattle.apollo.specs.Replica.{leads}
 use Rattle.apollo.specs.Enter.{State}
 use Rattle.apollo.specs.Outcome.{Outcome}
 use Rattle.apollo.specs.Calls.{openCall}
-use Rattle.agreement.specs.Run.{Act, branch, blame, tick, Call, opening, act, Event, handed, emitted, answered, In, Seen, World, start, bytesIn, framesIn, hand, emit, note, stateOf, after, opened, answer, callAt, step, run}
+use Rattle.agreement.specs.Run.{Act, branch, blame, tick, Call, opening, act, Event, handed, emitted, answered, In, Seen, World, start, bytesIn, framesIn, hand, emit, emittedBy, note, stateOf, after, opened, answer, callAt, step, run}
 use Rattle.agreement.specs.Premises.{Each, Lawful}
 use Rattle.agreement.proofs.Tests.{by-cond}
 use Rattle.agreement.proofs.Past.{Grows, emitted-is, emit-grows, emit-back, hand-grows, hand-in, Given, hand-back}
@@ -35,13 +36,13 @@ use Rattle.agreement.proofs.Open.{OpenFine, open-fine}
 -- what an answer adds to the past: itself, and frames that its replica emitted
 pub note-grows : (i : ℕ) (o : Outcome) (past : List Event) → Grows past (note i o past)
 unfolding note
-note-grows i o past e p = inr (emit-grows i (frames (o .answer .frames) (o .out)) past e p)
+note-grows i o past e p = inr (emit-grows i (emittedBy o) past e p)
 
 note-back : (i : ℕ) (o : Outcome) (past : List Event) (e : Event) → In e (note i o past)
     → In e past ⊎ ((e ≡ answered (o .answer .number)) ⊎ ((x : List ℕ) × (e ≡ emitted i x)))
 unfolding note
 note-back i o past e (inl p) = inr (inl p)
-note-back i o past e (inr p) = ⊎-elim inl (λ q. inr (inr q)) (emit-back i (frames (o .answer .frames) (o .out)) past e p)
+note-back i o past e (inr p) = ⊎-elim inl (λ q. inr (inr q)) (emit-back i (emittedBy o) past e p)
 
 note-answered : (i : ℕ) (o : Outcome) (past : List Event) (k : ℕ) → In (answered k) (note i o past)
     → (o .answer .number ≡ k) ⊎ In (answered k) past
@@ -155,11 +156,11 @@ module _ (s : Setup) where
         go true e h x p = let z : _≡_ {A = ℕ} 0 1 = cc in omega arith
         go false e h x p = v .asleep j h x (note-other i o (w .past) j x (λ z. eqb-false _ _ e (sym z)) p)
 
-    sealed : (e : Event) → In e (emit i (frames (o .answer .frames) (o .out)) (w .past)) → In e now
+    sealed : (e : Event) → In e (emit i (emittedBy o) (w .past)) → In e now
     unfolding note
     sealed e p = inr p
 
-    opens : (j : ℕ) (x : List ℕ) → In (emitted j x) now → In (emitted j x) (emit i (frames (o .answer .frames) (o .out)) (w .past))
+    opens : (j : ℕ) (x : List ℕ) → In (emitted j x) now → In (emitted j x) (emit i (emittedBy o) (w .past))
     unfolding note
     opens j x (inl e) = let z : _≡_ {A = ℕ} 0 1 = cc in absurd (omega arith)
     opens j x (inr p) = p
@@ -228,7 +229,7 @@ module _ (s : Setup) where
         → Stepped w (opened w i (openCall id f timeout last log masks entry out))
     unfolding opened
     open-stepped id f timeout last log masks entry out l =
-        by-cond (Stepped w) (eqb (o .answer .number) 0) (λ e. yes-case (eqb-true _ _ e)) (λ e. no-case (eqb-false _ _ e))
+        by-cond (Stepped w) _ (λ e. yes-case (eqb-true _ _ e)) (λ e. no-case (eqb-false _ _ e))
       where
         o : Outcome
         o = openCall id f timeout last log masks entry out
@@ -255,12 +256,13 @@ module _ (s : Setup) where
               grown = λ j c e. (c, e, extends-refl c);
             }
           where
-            silent : o .answer .frames ≡ 0 → (j : ℕ) (x : List ℕ) → In (emitted j x) (note i o (w .past)) → In (emitted j x) (w .past)
-            silent z j x p = quiet (subst (λ n. In (emitted j x) (answered (o .answer .number) ∷ emit i (frames n (o .out)) (w .past))) z (unfold note in p))
+            silent : emittedBy o ≡ [] → (j : ℕ) (x : List ℕ) → In (emitted j x) (note i o (w .past)) → In (emitted j x) (w .past)
+            silent z j x p =
+                quiet (subst (λ xs. In (emitted j x) (answered (o .answer .number) ∷ emit i xs (w .past))) z (unfold note in p))
               where
-                quiet : In (emitted j x) (answered (o .answer .number) ∷ emit i (frames 0 (o .out)) (w .past)) → In (emitted j x) (w .past)
+                quiet : In (emitted j x) (answered (o .answer .number) ∷ emit i [] (w .past)) → In (emitted j x) (w .past)
                 quiet (inl e) = let z : _≡_ {A = ℕ} 0 1 = cc in absurd (omega arith)
-                quiet (inr q) = unfold frames emit in q
+                quiet (inr q) = unfold emit in q
 
     call-stepped : (c : Option State) (d : Call) → w .states i ≡ c → Lawful s w i d → Known s sha256 (w .past) (framesIn d)
         → Stepped w (callAt w i c d)
@@ -279,8 +281,8 @@ module _ (s : Setup) where
   pub step-stepped : (w : World) (i : ℕ) (d : Call) → Inv w → Lawful s w i d → Stepped w (step w i d)
   unfolding step
   step-stepped w i d v l =
-      let t : Stepped u (callAt u i (w .states i) d) =
-      call-stepped u i (hand-inv w (framesIn d) v) (w .states i) d refl (lawful d l)
+      let t : Stepped u (step w i d) =
+      call-stepped u i (hand-inv w (framesIn d) v) _ d refl (lawful d l)
       (λ x p r. inl (hand-in (framesIn d) (w .past) x p r)) in
       record { inv = t .inv; grown = t .grown }
     where

@@ -65,9 +65,13 @@ unfoldable pub emit : ℕ → List (List ℕ) → List Event → List Event
 emit i [] past = past
 emit i (x ∷ xs) past = emit i xs (emitted i x ∷ past)
 
--- the past after replica i's answer: the frames that it emits are the first of its out buffer
+-- the frames that a call emits: the first of its out buffer
+unfoldable pub emittedBy : Outcome → List (List ℕ)
+emittedBy o = frames (o .answer .frames) (o .out)
+
+-- the past after replica i's answer
 unfoldable pub note : ℕ → Outcome → List Event → List Event
-note i o past = answered (o .answer .number) ∷ emit i (frames (o .answer .frames) (o .out)) past
+note i o past = answered (o .answer .number) ∷ emit i (emittedBy o) past
 
 -- the record, the log and the masks, just as a call left them
 abbrev pub stateOf : Outcome → State
