@@ -109,7 +109,7 @@ apollo_answer apollo_open(uint8_t id, uint8_t f, apollo_ticks timeout, apollo_ro
 /* Hands in a branch: 1 to T block frames end to end, each the child of the one before. Taken, it replaces what the log held above its
  * parent. The card then waits for the next round, or proposes if it leads it, with the lent entry.
  * Refuses 2 to 6, then 7, 8, 9 frame by frame, 10, 11, 13, 12. */
-apollo_answer apollo_branch(apollo_replica replica, uint8_t *log, size_t log_len, uint16_t *masks, size_t masks_len,
+apollo_answer apollo_branch(apollo_replica replica, uint8_t *log, size_t log_len, const uint16_t *masks, size_t masks_len,
                             const uint8_t *frames, size_t frames_len, const uint8_t *entry, size_t entry_len, uint8_t *out,
                             size_t out_len);
 

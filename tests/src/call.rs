@@ -1,0 +1,99 @@
+//! Lists of calls, each call with all its bytes, so that any part of a list can be run again.
+
+use crate::frame::SIZE;
+use crate::model::{Record, Setup, LEAST_OUT};
+
+/// What a list is about.
+#[derive(Clone, Debug)]
+pub struct Head {
+    pub f: u8,
+    pub term: u32,
+    /// How many cards have a record, a book and masks.
+    pub cards: usize,
+    /// Bit i: card i is meant to be sound.
+    pub sound: u16,
+}
+
+#[derive(Clone, Debug)]
+pub enum What {
+    Open(Setup),
+    Branch(Vec<u8>),
+    Blame(Vec<u8>),
+    Tick,
+    Read(u32),
+    Fetch(u32),
+    Digest(Vec<u8>),
+}
+
+/// One call at one card.
+#[derive(Clone, Debug)]
+pub struct Call {
+    pub card: usize,
+    pub what: What,
+    /// A record that no call made, instead of the card's.
+    pub record: Option<Record>,
+    pub log_len: usize,
+    pub masks_len: usize,
+    pub entry: Vec<u8>,
+    pub out_len: usize,
+    /// What was changed in the call to make it odd.
+    pub changes: Vec<(&'static str, &'static str)>,
+}
+
+/// A state that no call made.
+#[derive(Clone, Debug)]
+pub struct State {
+    pub record: Record,
+    pub log: Vec<u8>,
+    pub masks: Vec<u16>,
+}
+
+#[derive(Clone, Debug)]
+pub enum Step {
+    Call(Call),
+    /// The host writes a card's state by itself.
+    Write(usize, State),
+}
+
+#[derive(Clone, Debug)]
+pub struct List {
+    pub head: Head,
+    pub steps: Vec<Step>,
+}
+
+impl Call {
+    /// A call with buffers of the right sizes and an empty entry.
+    pub fn new(head: &Head, card: usize, what: What) -> Call {
+        Call {
+            card,
+            what,
+            record: None,
+            log_len: SIZE * head.term as usize,
+            masks_len: head.term as usize,
+            entry: Vec::new(),
+            out_len: LEAST_OUT,
+            changes: Vec::new(),
+        }
+    }
+
+    /// The word for the call.
+    pub fn word(&self) -> &'static str {
+        match self.what {
+            What::Open(_) => "open",
+            What::Branch(_) => "branch",
+            What::Blame(_) => "blame",
+            What::Tick => "tick",
+            What::Read(_) => "read",
+            What::Fetch(_) => "fetch",
+            What::Digest(_) => "digest",
+        }
+    }
+
+    /// The bytes of the frames handed in.
+    pub fn handed(&self) -> &[u8] {
+        match &self.what {
+            What::Branch(bytes) | What::Blame(bytes) => bytes,
+            _ => &[],
+        }
+    }
+}

@@ -1,0 +1,559 @@
+//! Changes that make a call odd: lengths off by one, frames out of order, damaged fields, records
+//! and set-ups at and beyond the edges of their ranges.
+
+use crate::call::{Call, Head, What};
+use crate::coverage::Row;
+use crate::frame::{self, Frame, SIZE};
+use crate::model::{cards, leader, Record, Setup, MOST_TERM};
+use crate::rng::Rng;
+
+/// What a change needs to know.
+pub struct Hand<'a> {
+    pub rng: &'a mut Rng,
+    pub head: &'a Head,
+    /// The premises of the claims have to stay: no forging, no records of our own.
+    pub strict: bool,
+    /// The record that the card's host keeps.
+    pub kept: Record,
+}
+
+impl Hand<'_> {
+    fn pick(&mut self, values: &[u32]) -> u32 {
+        self.rng.pick(values)
+    }
+
+    fn cards(&self) -> u32 {
+        cards(self.head.f)
+    }
+
+    fn is_sound(&self, card: u8) -> bool {
+        card < 16 && self.head.sound >> card & 1 == 1
+    }
+
+    /// A number other than the old one, at the edges if they allow it.
+    fn other(&mut self, old: u32, edges: &[u32]) -> u32 {
+        match self.pick(edges) {
+            new if new == old => old ^ 1,
+            new => new,
+        }
+    }
+
+    /// Changes one byte of a range, often the first or the last.
+    fn hit(&mut self, frame: &mut Frame, from: usize, to: usize) {
+        let at = match self.rng.below(5) {
+            0 => from,
+            1 => to - 1,
+            _ => from + self.rng.below(to - from),
+        };
+        frame[at] ^= self.rng.within(1, 255) as u8;
+    }
+}
+
+/// A change of a call; false if it does not apply.
+type Change = fn(&mut Hand, &mut Call) -> bool;
+
+const LENGTHS: &[(&str, Change)] = &[
+    ("log one byte short", |hand, call| log(call, hand, -1)),
+    ("log one byte long", |hand, call| log(call, hand, 1)),
+    ("log one slot short", |hand, call| log(call, hand, -512)),
+    ("log one slot long", |hand, call| log(call, hand, 512)),
+    ("log empty", |hand, call| {
+        let all = SIZE * hand.head.term as usize;
+        log(call, hand, -(all as isize))
+    }),
+    ("masks one short", |hand, call| masks(call, hand, -1)),
+    ("masks one long", |hand, call| masks(call, hand, 1)),
+    ("masks empty", |hand, call| {
+        let all = hand.head.term as isize;
+        masks(call, hand, -all)
+    }),
+    ("entry of 400 bytes", |hand, call| entry(call, hand, 400)),
+    ("entry of 401 bytes", |hand, call| entry(call, hand, 401)),
+    ("entry of 512 bytes", |hand, call| entry(call, hand, 512)),
+    ("out one byte short", |_, call| out(call, 1023)),
+    ("out just enough", |_, call| out(call, 1024)),
+    ("out one byte long", |_, call| out(call, 1025)),
+    ("out of one frame", |_, call| out(call, 512)),
+    ("out empty", |_, call| out(call, 0)),
+];
+
+fn log(call: &mut Call, hand: &Hand, by: isize) -> bool {
+    let all = SIZE * hand.head.term as usize;
+    call.log_len = all.saturating_add_signed(by);
+    !matches!(call.what, What::Digest(_))
+}
+
+fn masks(call: &mut Call, hand: &Hand, by: isize) -> bool {
+    let all = hand.head.term as usize;
+    call.masks_len = all.saturating_add_signed(by);
+    is_machine(call)
+}
+
+fn entry(call: &mut Call, hand: &mut Hand, length: usize) -> bool {
+    if is_machine(call) {
+        call.entry = hand.rng.bytes(length);
+    }
+    is_machine(call)
+}
+
+fn out(call: &mut Call, length: usize) -> bool {
+    call.out_len = length;
+    is_machine(call) || matches!(call.what, What::Fetch(_))
+}
+
+fn is_machine(call: &Call) -> bool {
+    !matches!(call.what, What::Read(_) | What::Fetch(_) | What::Digest(_))
+}
+
+const FRAMES: &[(&str, Change)] = &[
+    ("one byte short", |_, call| {
+        handed(call).is_some_and(|bytes| bytes.pop().is_some())
+    }),
+    ("one byte long", |hand, call| {
+        let byte = hand.pick(&[0, 1, 255]) as u8;
+        handed(call).map(|bytes| bytes.push(byte)).is_some()
+    }),
+    ("no bytes", |_, call| handed(call).map(Vec::clear).is_some()),
+    ("a frame over T", over_the_term),
+    ("a round not above the last", same_round),
+    ("two frames for a blame", |_, call| match &mut call.what {
+        What::Blame(bytes) => {
+            bytes.extend_from_within(..);
+            true
+        }
+        _ => false,
+    }),
+    ("block handed in as blame", |_, call| match &mut call.what {
+        What::Branch(bytes) => {
+            bytes.truncate(SIZE);
+            call.what = What::Blame(std::mem::take(bytes));
+            true
+        }
+        _ => false,
+    }),
+    ("blame handed in as branch", |_, call| {
+        match &mut call.what {
+            What::Blame(bytes) => {
+                call.what = What::Branch(std::mem::take(bytes));
+                true
+            }
+            _ => false,
+        }
+    }),
+    ("two frames swapped", |hand, call| {
+        let Some(frames) = several(call) else {
+            return false;
+        };
+        let first = hand.rng.below(frames.len() - 1);
+        frames.swap(first, first + 1);
+        true
+    }),
+    ("a frame repeated", |hand, call| {
+        let Some(frames) = several(call) else {
+            return false;
+        };
+        let first = hand.rng.below(frames.len() - 1);
+        frames[first + 1] = frames[first];
+        true
+    }),
+    ("a frame left out", |hand, call| {
+        let Some(frames) = several(call) else {
+            return false;
+        };
+        let first = hand.rng.below(frames.len());
+        handed(call).map(|bytes| bytes.drain(SIZE * first..SIZE * (first + 1)));
+        true
+    }),
+];
+
+/// Gives a frame the round of the one before, or a lower one, with the leader that goes with it.
+fn same_round(hand: &mut Hand, call: &mut Call) -> bool {
+    let f = hand.head.f;
+    let Some(frames) = several(call).filter(|_| !hand.strict) else {
+        return false;
+    };
+    let index = 1 + hand.rng.below(frames.len() - 1);
+    let before = frame::round(&frames[index - 1]).max(1);
+    let round = hand.pick(&[before, before, down(before).max(1)]);
+    frames[index][1] = leader(round, f);
+    frame::set_round(&mut frames[index], round);
+    frame::seal(&mut frames[index]);
+    link(&mut frames[index..]);
+    true
+}
+
+fn handed(call: &mut Call) -> Option<&mut Vec<u8>> {
+    match &mut call.what {
+        What::Branch(bytes) | What::Blame(bytes) => Some(bytes),
+        _ => None,
+    }
+}
+
+/// The frames of a branch of at least two.
+fn several(call: &mut Call) -> Option<&mut [Frame]> {
+    match &mut call.what {
+        What::Branch(bytes) if bytes.len() >= 2 * SIZE => Some(bytes.as_chunks_mut().0),
+        _ => None,
+    }
+}
+
+fn over_the_term(hand: &mut Hand, call: &mut Call) -> bool {
+    let wanted = SIZE * (hand.head.term as usize + 1);
+    match &mut call.what {
+        What::Branch(bytes) if bytes.len() >= SIZE && hand.head.term <= 64 => {
+            while bytes.len() < wanted {
+                bytes.extend_from_within(..SIZE);
+            }
+            bytes.truncate(wanted);
+            true
+        }
+        _ => false,
+    }
+}
+
+/// Damage to one field of a frame.
+type Harm = fn(&mut Hand, &mut Frame);
+
+const KIND: Harm = |hand, frame| frame[0] = hand.other(frame[0].into(), &[0, 1, 2, 3, 255]) as u8;
+
+const SIGNER: Harm = |hand, frame| {
+    let (old, n) = (u32::from(frame[1]), hand.cards());
+    frame[1] = hand.other(old, &[0, n - 1, n, n + 1, 255, (old + 1) % n]) as u8;
+};
+
+const ROUND: Harm = |hand, frame| {
+    let (old, term) = (frame::round(frame), hand.head.term);
+    let near = [
+        0,
+        1,
+        old.wrapping_sub(1),
+        old.wrapping_add(1),
+        term,
+        term + 1,
+        u32::MAX,
+    ];
+    let new = hand.other(old, &near);
+    frame::set_round(frame, new);
+};
+
+const CHECK: Harm = |hand, frame| hand.hit(frame, 480, 512);
+
+const BLOCK_FIELDS: &[(&str, Harm)] = &[
+    ("kind", KIND),
+    ("signer", SIGNER),
+    ("entry length", |hand, frame| {
+        let old = frame::length(frame) as u32;
+        let near = [
+            0,
+            1,
+            old + 1,
+            old.saturating_sub(1),
+            400,
+            401,
+            436,
+            437,
+            65535,
+        ];
+        let new = hand.other(old, &near);
+        frame::set_length(frame, new as u16);
+    }),
+    ("round", ROUND),
+    ("height", |hand, frame| {
+        let (old, round) = (frame::height(frame), frame::round(frame));
+        let near = [
+            0,
+            1,
+            old.wrapping_sub(1),
+            old.wrapping_add(1),
+            round,
+            u32::MAX,
+        ];
+        let new = hand.other(old, &near);
+        frame::set_height(frame, new);
+    }),
+    ("parent", |hand, frame| hand.hit(frame, 12, 44)),
+    ("parent made zero", |_, frame| frame[12..44].fill(0)),
+    ("entry", |hand, frame| {
+        let length = frame::length(frame).clamp(1, 400);
+        hand.hit(frame, 44, 44 + length);
+    }),
+    ("after the entry", |hand, frame| {
+        let length = frame::length(frame).min(399);
+        hand.hit(frame, 44 + length, 444);
+    }),
+    ("bytes 444 to 479", |hand, frame| hand.hit(frame, 444, 480)),
+    ("check", CHECK),
+];
+
+const BLAME_FIELDS: &[(&str, Harm)] = &[
+    ("kind", KIND),
+    ("signer", SIGNER),
+    ("bytes 2 to 3", |hand, frame| hand.hit(frame, 2, 4)),
+    ("round", ROUND),
+    ("bytes 8 to 11", |hand, frame| hand.hit(frame, 8, 12)),
+    ("bytes 12 to 43", |hand, frame| hand.hit(frame, 12, 44)),
+    ("bytes 44 to 443", |hand, frame| hand.hit(frame, 44, 444)),
+    ("bytes 444 to 479", |hand, frame| hand.hit(frame, 444, 480)),
+    ("check", CHECK),
+];
+
+const BLOCK_LEFT: &str = "block, check left";
+const BLOCK_SEALED: &str = "block, check made right";
+const BLAME_LEFT: &str = "blame, check left";
+const BLAME_SEALED: &str = "blame, check made right";
+
+/// Damages one field of one handed frame, with its check left as it was or made right.
+fn harm(hand: &mut Hand, call: &mut Call) -> bool {
+    let (fields, groups) = match &call.what {
+        What::Branch(_) => (BLOCK_FIELDS, [BLOCK_LEFT, BLOCK_SEALED]),
+        What::Blame(_) => (BLAME_FIELDS, [BLAME_LEFT, BLAME_SEALED]),
+        _ => return false,
+    };
+    let frames: &mut [Frame] = handed(call).map_or(&mut [], |bytes| bytes.as_chunks_mut().0);
+    if frames.is_empty() {
+        return false;
+    }
+    let (field, harm) = hand.rng.pick(fields);
+    let index = if hand.rng.chance(50) {
+        frames.len() - 1
+    } else {
+        hand.rng.below(frames.len())
+    };
+    let frame = &mut frames[index];
+    harm(hand, frame);
+    let forging = hand.strict && hand.is_sound(frame::signer(frame));
+    let seal = field != "check" && !forging && hand.rng.chance(60);
+    if seal {
+        frame::seal(frame);
+        if !hand.strict && hand.rng.chance(50) {
+            link(&mut frames[index..]);
+        }
+    }
+    call.changes.push((groups[usize::from(seal)], field));
+    true
+}
+
+/// Makes every later frame name the one before as its parent.
+fn link(frames: &mut [Frame]) {
+    for index in 1..frames.len() {
+        let parent = *frame::name(&frames[index - 1]);
+        frames[index][12..44].copy_from_slice(&parent);
+        frame::seal(&mut frames[index]);
+    }
+}
+
+/// A field of a record put at or beyond an edge.
+type Edge = fn(&mut Hand, &mut Record);
+
+fn up(value: u32) -> u32 {
+    value.wrapping_add(1)
+}
+
+fn down(value: u32) -> u32 {
+    value.saturating_sub(1)
+}
+
+const RECORD_FIELDS: &[(&str, Edge)] = &[
+    ("own number", |hand, record| {
+        let n = hand.cards();
+        let lead = u32::from(leader(record.round.max(1), hand.head.f));
+        record.own = hand.pick(&[0, n - 1, n, n + 1, 255, lead]) as u8;
+    }),
+    ("f", |hand, record| {
+        let f = u32::from(record.f);
+        record.f = hand.pick(&[0, 1, 7, 8, 255, up(f), down(f)]) as u8;
+    }),
+    ("wait", |hand, record| {
+        let left = record.left;
+        record.wait = hand.pick(&[0, 1, 60_000, 60_001, u32::MAX, left, down(left)]);
+    }),
+    ("T", |hand, record| {
+        let term = record.term;
+        record.term = hand.pick(&[0, down(term), up(term), 4_096, 4_097, u32::MAX]);
+    }),
+    ("R", |hand, record| {
+        let (tip, term) = (record.tip_round, record.term);
+        let edges = [
+            0,
+            1,
+            tip,
+            up(tip),
+            up(up(tip)),
+            term,
+            up(term),
+            up(up(term)),
+            u32::MAX,
+        ];
+        record.round = hand.pick(&edges);
+    }),
+    ("ticks left", |hand, record| {
+        let wait = record.wait;
+        record.left = hand.pick(&[0, 1, wait, up(wait), u32::MAX]);
+    }),
+    ("tip round", |hand, record| {
+        let (round, height) = (record.round, record.tip_height);
+        record.tip_round = hand.pick(&[0, down(round), round, height, u32::MAX]);
+    }),
+    ("tip height", |hand, record| {
+        let (round, committed) = (record.tip_round, record.committed_height);
+        let edges = [0, round, up(round), committed, down(committed), u32::MAX];
+        record.tip_height = hand.pick(&edges);
+    }),
+    ("committed round", |hand, record| {
+        let (tip, height) = (record.tip_round, record.committed_height);
+        record.committed_round = hand.pick(&[0, tip, up(tip), height, u32::MAX]);
+    }),
+    ("committed height", |hand, record| {
+        let (tip, round) = (record.tip_height, record.committed_round);
+        record.committed_height = hand.pick(&[0, tip, up(tip), round, up(round), u32::MAX]);
+    }),
+];
+
+/// Another T with log and masks of its size.
+const SIZED: [&str; 4] = [
+    "T one less, and its sizes",
+    "T one more, and its sizes",
+    "T of 0, and its sizes",
+    "T of 4,097, and its sizes",
+];
+
+/// Sometimes, and often at the edges of the range, lends a call the log and masks of another term.
+fn resize(hand: &mut Hand, call: &mut Call) -> Option<(u32, &'static str)> {
+    let term = hand.head.term;
+    let at_edge = term == 1 || term == MOST_TERM;
+    if !hand.rng.chance(if at_edge { 60 } else { 10 }) {
+        return None;
+    }
+    let new = match term {
+        1 => 0,
+        MOST_TERM => MOST_TERM + 1,
+        _ => hand.pick(&[term - 1, term + 1]),
+    };
+    call.log_len = SIZE * new as usize;
+    call.masks_len = new as usize;
+    let label = match new {
+        0 => SIZED[2],
+        new if new > MOST_TERM => SIZED[3],
+        new => SIZED[usize::from(new > term)],
+    };
+    Some((new, label))
+}
+
+/// Puts one field of the record at an edge.
+fn record(hand: &mut Hand, call: &mut Call) -> bool {
+    let open_or_digest = matches!(call.what, What::Open(_) | What::Digest(_));
+    if hand.strict || open_or_digest || call.record.is_some() {
+        return false;
+    }
+    let mut record = hand.kept;
+    let (mut field, edge) = hand.rng.pick(RECORD_FIELDS);
+    if let Some((term, label)) = resize(hand, call) {
+        (record.term, field) = (term, label);
+    } else {
+        edge(hand, &mut record);
+    }
+    call.record = Some(record);
+    call.changes.push(("record", field));
+    true
+}
+
+type SetupEdge = fn(&mut Hand, &mut Setup);
+
+const SETUP_FIELDS: &[(&str, SetupEdge)] = &[
+    ("own number", |hand, setup| {
+        let n = hand.cards();
+        setup.own = hand.pick(&[0, n - 1, n, n + 1, 255]) as u8;
+    }),
+    ("f", |hand, setup| {
+        setup.f = hand.pick(&[0, 1, 7, 8, 255]) as u8
+    }),
+    ("wait", |hand, setup| {
+        setup.wait = hand.pick(&[0, 1, 60_000, 60_001, u32::MAX]);
+    }),
+    ("T", |hand, setup| {
+        let term = hand.head.term;
+        setup.term = hand.pick(&[0, down(term), up(term), 4_096, 4_097, u32::MAX]);
+    }),
+];
+
+fn setup(hand: &mut Hand, call: &mut Call) -> bool {
+    let What::Open(mut setup) = call.what else {
+        return false;
+    };
+    if hand.strict {
+        return false;
+    }
+    let (mut field, edge) = hand.rng.pick(SETUP_FIELDS);
+    if let Some((term, label)) = resize(hand, call) {
+        (setup.term, field) = (term, label);
+    } else {
+        edge(hand, &mut setup);
+    }
+    call.what = What::Open(setup);
+    call.changes.push(("set-up", field));
+    true
+}
+
+fn from_table(
+    group: &'static str,
+    table: &[(&'static str, Change)],
+    hand: &mut Hand,
+    call: &mut Call,
+) -> bool {
+    let (label, change) = hand.rng.pick(table);
+    let applies = change(hand, call);
+    if applies {
+        call.changes.push((group, label));
+    }
+    applies
+}
+
+/// Changes a call in one to three ways.
+pub fn change(hand: &mut Hand, call: &mut Call) {
+    let times = match hand.rng.below(100) {
+        0..=69 => 1,
+        70..=91 => 2,
+        _ => 3,
+    };
+    for _ in 0..times {
+        let _applied = (0..8).any(|_| match hand.rng.below(5) {
+            0 => from_table("length", LENGTHS, hand, call),
+            1 => from_table("frames", FRAMES, hand, call),
+            2 | 3 => harm(hand, call),
+            _ => record(hand, call) || setup(hand, call),
+        });
+    }
+}
+
+/// Puts a field of a record that no call made at an edge.
+pub fn edge(hand: &mut Hand, record: &mut Record) {
+    let (_, edge) = hand.rng.pick(RECORD_FIELDS);
+    edge(hand, record);
+}
+
+/// Every change there is.
+pub fn rows() -> impl Iterator<Item = Row> {
+    let of = |group, labels: Vec<&'static str>| labels.into_iter().map(move |label| (group, label));
+    let not_check = |label: &&str| *label != "check";
+    let block: Vec<_> = BLOCK_FIELDS.iter().map(|row| row.0).collect();
+    let blame: Vec<_> = BLAME_FIELDS.iter().map(|row| row.0).collect();
+    of("length", LENGTHS.iter().map(|row| row.0).collect())
+        .chain(of("frames", FRAMES.iter().map(|row| row.0).collect()))
+        .chain(of(BLOCK_LEFT, block.clone()))
+        .chain(of(
+            BLOCK_SEALED,
+            block.into_iter().filter(not_check).collect(),
+        ))
+        .chain(of(BLAME_LEFT, blame.clone()))
+        .chain(of(
+            BLAME_SEALED,
+            blame.into_iter().filter(not_check).collect(),
+        ))
+        .chain(of(
+            "record",
+            RECORD_FIELDS.iter().map(|row| row.0).collect(),
+        ))
+        .chain(of("record", SIZED.to_vec()))
+        .chain(of("set-up", SIZED.to_vec()))
+        .chain(of("set-up", SETUP_FIELDS.iter().map(|row| row.0).collect()))
+}

@@ -1,0 +1,226 @@
+//! The three claims about sound cards, checked call by call on the library's buffers.
+//!
+//! The premises are judged from the calls themselves, so a list with calls left out is judged
+//! afresh: at most f cards that are not sound, no forged frame, and no sound card that blamed a
+//! round led by a sound card.
+
+use std::collections::HashSet;
+
+use crate::call::{Call, Head, What};
+use crate::frame::{self, Frame, Name};
+use crate::model::{cards, leader, slots, Answer};
+use crate::runner::Side;
+
+pub struct Claims {
+    f: u8,
+    term: u32,
+    /// Cards that have been sound so far, and those of them that are open.
+    sound: u16,
+    open: u16,
+    /// A premise failed: nothing is due any more.
+    broken: Option<&'static str>,
+    due: bool,
+    answered_12: bool,
+    /// Names of all frames that sound cards put out.
+    put_out: HashSet<Name>,
+    /// Blocks that sound cards put out; round r at index r - 1.
+    blocks: Vec<Option<Box<Frame>>>,
+    /// The longest committed list of all sound cards.
+    agreed: Vec<Frame>,
+    /// Calls after which the claims were due and held.
+    pub checked: u64,
+}
+
+/// What was checked after a call.
+#[derive(Clone, Copy, Debug, PartialEq, Eq)]
+pub enum Due {
+    Nothing,
+    Claims,
+    /// The claims, and the called card's tip is not another card's block of that round.
+    TwoBlocks,
+}
+
+impl Claims {
+    pub fn new(head: &Head) -> Claims {
+        Claims {
+            f: head.f,
+            term: head.term,
+            sound: head.sound,
+            open: 0,
+            broken: None,
+            due: false,
+            answered_12: false,
+            put_out: HashSet::new(),
+            blocks: vec![None; head.term as usize],
+            agreed: Vec::new(),
+            checked: 0,
+        }
+    }
+
+    /// The premise that failed, if one did.
+    pub fn broken(&self) -> Option<&'static str> {
+        self.broken
+    }
+
+    fn is_sound(&self, card: usize) -> bool {
+        card < 16 && self.sound >> card & 1 == 1
+    }
+
+    fn is_open(&self, card: usize) -> bool {
+        card < 16 && self.open >> card & 1 == 1
+    }
+
+    /// The host wrote a card's state by itself.
+    pub fn written(&mut self, card: usize) {
+        if self.is_open(card) {
+            self.broken = Some("a sound card's state was written");
+        } else if self.is_sound(card) {
+            self.sound &= !(1 << card);
+        }
+    }
+
+    /// What the call shows before it is made.
+    pub fn before(&mut self, call: &Call) {
+        if self.broken.is_some() || !self.is_sound(call.card) {
+            return;
+        }
+        if call.record.is_some() {
+            self.written(call.card);
+            return;
+        }
+        if !self.is_open(call.card) && !matches!(call.what, What::Open(_) | What::Digest(_)) {
+            self.sound &= !(1 << call.card);
+            return;
+        }
+        for frame in slots(call.handed()) {
+            if self.is_forged(frame) {
+                self.broken = Some("a frame was forged");
+            }
+        }
+    }
+
+    fn is_forged(&self, frame: &Frame) -> bool {
+        self.is_sound(usize::from(frame::signer(frame)))
+            && !self.put_out.contains(frame::name(frame))
+            && frame::check_is_right(frame)
+    }
+
+    /// Checks the claims after a call at a card; the sides and the out buffer are the library's.
+    pub fn after(
+        &mut self,
+        call: &Call,
+        answer: Option<&Answer>,
+        sides: &[Side],
+        out: &[u8],
+    ) -> Result<Due, String> {
+        if self.broken.is_some() || !self.is_sound(call.card) {
+            return Ok(Due::Nothing);
+        }
+        let block = answer.and_then(|answer| self.note(call, answer, out));
+        let others = cards(self.f) - self.open.count_ones();
+        if self.broken.is_some() || others > u32::from(self.f) {
+            return Ok(Due::Nothing);
+        }
+        if self.answered_12 {
+            return Err("claim: a sound card answered 12".into());
+        }
+        for (card, side) in sides.iter().enumerate() {
+            if !self.is_open(card) {
+                continue;
+            }
+            if card == call.card || !self.due {
+                self.check_card(card, side)?;
+            } else if let Some(round) = block {
+                self.check_block(round, card, side)?;
+            }
+        }
+        self.due = true;
+        self.checked += 1;
+        Ok(self.tips(call.card, sides))
+    }
+
+    /// Whether another card holds another block of the called card's tip round.
+    fn tips(&self, card: usize, sides: &[Side]) -> Due {
+        let round = sides[card].record.tip_round;
+        let tip_differs = |other: &Side| {
+            let slot = other.slot(round);
+            frame::filled(slot) && slot != sides[card].slot(round)
+        };
+        if round > 0 && sides.iter().any(tip_differs) {
+            Due::TwoBlocks
+        } else {
+            Due::Claims
+        }
+    }
+
+    /// Notes what a sound card did; the round of a block that it put out.
+    fn note(&mut self, call: &Call, answer: &Answer, out: &[u8]) -> Option<u32> {
+        self.answered_12 |= answer.number == 12;
+        if let (What::Open(setup), 0) = (&call.what, answer.number) {
+            if self.is_open(call.card) {
+                self.broken = Some("a sound card was opened twice");
+            }
+            if usize::from(setup.own) != call.card || (setup.f, setup.term) != (self.f, self.term) {
+                self.broken = Some("a sound card was opened with other numbers");
+            }
+            self.open |= 1 << call.card;
+        }
+        let mut block = None;
+        for frame in &slots(out)[..usize::from(answer.frames)] {
+            self.put_out.insert(*frame::name(frame));
+            let round = frame::round(frame);
+            if frame::kind(frame) == frame::BLOCK {
+                self.blocks[round as usize - 1] = Some(Box::new(*frame));
+                block = Some(round);
+            } else if self.is_sound(usize::from(leader(round, self.f))) {
+                self.broken = Some("a sound card blamed a sound leader's round");
+            }
+        }
+        block
+    }
+
+    /// The first and third claim for one card.
+    fn check_card(&mut self, card: usize, side: &Side) -> Result<(), String> {
+        let book = slots(side.log.part(frame::SIZE * self.term as usize));
+        let top = book
+            .iter()
+            .rposition(frame::filled)
+            .map_or(0, |top| top + 1);
+        let mut listed = 0;
+        for (index, slot) in book[..top].iter().enumerate() {
+            let round = index as u32 + 1;
+            if self.blocks[index].as_ref().is_some_and(|b| **b != *slot) {
+                return Err(missing(round, card));
+            }
+            if frame::filled(slot) && round <= side.record.committed_round {
+                match self.agreed.get(listed) {
+                    Some(agreed) if agreed != slot => {
+                        return Err(format!(
+                            "claim: the committed list of card {card} parts from another's \
+                             at its frame {listed}, round {round}"
+                        ));
+                    }
+                    Some(_) => {}
+                    None => self.agreed.push(*slot),
+                }
+                listed += 1;
+            }
+        }
+        Ok(())
+    }
+
+    /// The third claim for a new block at a card that was checked before.
+    fn check_block(&self, round: u32, card: usize, side: &Side) -> Result<(), String> {
+        let book = slots(side.log.part(frame::SIZE * self.term as usize));
+        let (index, block) = (round as usize - 1, &self.blocks[round as usize - 1]);
+        let stands = block.as_ref().is_some_and(|b| **b == book[index]);
+        if !stands && book[index..].iter().any(frame::filled) {
+            return Err(missing(round, card));
+        }
+        Ok(())
+    }
+}
+
+fn missing(round: u32, card: usize) -> String {
+    format!("claim: a sound card's block of round {round} is missing in the line of card {card}")
+}

@@ -1,0 +1,367 @@
+//! How often each refusal of each call and each way of taking was reached.
+
+use std::collections::BTreeMap;
+
+use crate::call::{Call, Head, What};
+use crate::changes;
+use crate::claims::Due;
+use crate::frame::{self, Frame};
+use crate::model::{attaching, shown, slots, Answer, Fetched, Part, Record};
+use crate::runner::{Outcome, Side};
+
+/// Refusals that each call can give.
+const REFUSALS: &[(&str, &[u8])] = &[
+    ("open", &[1, 4, 5]),
+    ("branch", &[2, 3, 4, 5, 6, 7, 8, 9, 10, 11, 12, 13]),
+    ("blame", &[2, 3, 4, 5, 6, 7, 8, 10, 14]),
+    ("tick", &[2, 3, 4, 5]),
+    ("read", &[2, 15]),
+    ("fetch", &[2, 4, 15]),
+];
+
+const REFUSED: [&str; 16] = [
+    "",
+    "refused  1 set-up",
+    "refused  2 record",
+    "refused  3 term over",
+    "refused  4 short tray",
+    "refused  5 long entry",
+    "refused  6 cut",
+    "refused  7 check",
+    "refused  8 form",
+    "refused  9 parted",
+    "refused 10 stale",
+    "refused 11 loose",
+    "refused 12 undone",
+    "refused 13 unshown",
+    "refused 14 early",
+    "refused 15 absent",
+];
+
+/// Ways of taking.
+const TAKEN: &[(&str, &str)] = &[
+    ("open", "taken, leads round 1"),
+    ("open", "taken, does not lead"),
+    ("branch", "taken onto the genesis"),
+    ("branch", "taken onto a slot"),
+    ("branch", "taken, one frame"),
+    ("branch", "taken, several frames"),
+    ("branch", "taken, T frames"),
+    ("branch", "taken, over 1,000 frames"),
+    ("branch", "taken, rounds skipped before it"),
+    ("branch", "taken, rounds skipped inside it"),
+    ("branch", "taken, filled slots replaced"),
+    ("branch", "taken, committed frames again"),
+    ("branch", "taken, ends above R"),
+    ("branch", "taken, ends in T"),
+    ("branch", "taken, block put out after"),
+    ("branch", "taken, committed grew"),
+    ("blame", "taken, older round"),
+    ("blame", "taken, older round shown by it"),
+    ("blame", "taken, R not shown yet"),
+    ("blame", "taken, R shown"),
+    ("blame", "taken, R shown, block put out"),
+    ("blame", "taken, R shown, term over"),
+    ("tick", "none left"),
+    ("tick", "counted down"),
+    ("tick", "blamed, R not shown yet"),
+    ("tick", "blamed, own bit set before"),
+    ("tick", "blamed, R shown"),
+    ("tick", "blamed, R shown, block put out"),
+    ("tick", "blamed, R shown, term over"),
+    ("read", "found"),
+    ("read", "found, no bytes"),
+    ("read", "found, 400 bytes"),
+    ("fetch", "all frames"),
+    ("fetch", "a part of the frames"),
+    ("digest", "made"),
+];
+
+/// Rows that have to be reached while the claims are due, too.
+const CLAIMED: &[&str] = &[
+    "refused  7 check",
+    "refused  8 form",
+    "refused  9 parted",
+    "refused 10 stale",
+    "refused 11 loose",
+    "refused 13 unshown",
+    "taken onto the genesis",
+    "taken onto a slot",
+    "taken, several frames",
+    "taken, rounds skipped before it",
+    "taken, rounds skipped inside it",
+    "taken, filled slots replaced",
+    "taken, committed frames again",
+    "taken, ends in T",
+    "taken, block put out after",
+    "taken, R shown",
+    "taken, R shown, block put out",
+    "blamed, R shown",
+];
+
+const TWO_BLOCKS: Row = ("claims", "cards hold two blocks of a round");
+
+/// A size of lists and how it is told.
+type Size = (&'static str, fn(&Head) -> bool);
+
+const SIZES: &[Size] = &[
+    ("f = 1", |head| head.f == 1),
+    ("f = 2", |head| head.f == 2),
+    ("f = 3", |head| head.f == 3),
+    ("f = 4", |head| head.f == 4),
+    ("f = 5", |head| head.f == 5),
+    ("f = 6", |head| head.f == 6),
+    ("f = 7", |head| head.f == 7),
+    ("T = 1", |head| head.term == 1),
+    ("T = 2 to 1,000", |head| (2..=1_000).contains(&head.term)),
+    ("T = 1,001 to 4,095", |head| {
+        (1_001..=4_095).contains(&head.term)
+    }),
+    ("T = 4,096", |head| head.term == 4_096),
+];
+
+/// What has to be known of a card before a call to tell how the call was taken.
+pub struct Before {
+    record: Record,
+    /// The mask of the round blamed: the frame's for a blame, R for a tick.
+    mask: u16,
+    /// The round that a branch attaches to, and whether filled slots lie above it.
+    attach: Option<(u32, bool)>,
+}
+
+impl Before {
+    pub fn of(call: &Call, side: &Side) -> Before {
+        let record = call.record.unwrap_or(side.record);
+        let masks = side.masks.part(call.masks_len);
+        let round = slots(call.handed())
+            .first()
+            .map_or(record.round, frame::round);
+        let index = (round as usize).wrapping_sub(1);
+        Before {
+            record,
+            mask: masks.get(index).copied().unwrap_or(0),
+            attach: match &call.what {
+                What::Branch(frames) => attach(frames, side.log.part(call.log_len)),
+                _ => None,
+            },
+        }
+    }
+}
+
+fn attach(frames: &[u8], log: &[u8]) -> Option<(u32, bool)> {
+    let first = slots(frames).first()?;
+    let in_book = (1..=slots(log).len()).contains(&(frame::round(first) as usize));
+    if !in_book || frame::height(first) == 0 {
+        return None;
+    }
+    let round = attaching(log, first)?;
+    let above = &slots(log)[round as usize..];
+    Some((round, above.iter().any(frame::filled)))
+}
+
+/// Counts by call and row.
+#[derive(Clone)]
+pub struct Coverage {
+    /// The rows that have to be reached, in the order of the table.
+    rows: Vec<Row>,
+    counts: BTreeMap<Row, u64>,
+    /// Whether the claims are due for the call that is being counted.
+    due: bool,
+}
+
+pub type Row = (&'static str, &'static str);
+
+impl Default for Coverage {
+    fn default() -> Self {
+        Coverage::new()
+    }
+}
+
+impl Coverage {
+    /// All rows with nothing reached yet.
+    pub fn new() -> Coverage {
+        let mut rows = Vec::new();
+        for &(call, numbers) in REFUSALS {
+            rows.extend(numbers.iter().map(|&n| (call, REFUSED[usize::from(n)])));
+            rows.extend(TAKEN.iter().filter(|row| row.0 == call));
+        }
+        rows.extend(TAKEN.iter().filter(|row| row.0 == "digest"));
+        rows.extend(changes::rows());
+        rows.extend(CLAIMED.iter().map(|row| ("claims", *row)));
+        rows.push(TWO_BLOCKS);
+        rows.extend(SIZES.iter().map(|size| ("list", size.0)));
+        Coverage {
+            rows,
+            counts: BTreeMap::new(),
+            due: false,
+        }
+    }
+
+    fn add(&mut self, call: &'static str, row: &'static str) {
+        *self.counts.entry((call, row)).or_default() += 1;
+        if self.due && CLAIMED.contains(&row) {
+            *self.counts.entry(("claims", row)).or_default() += 1;
+        }
+    }
+
+    /// Counts a list.
+    pub fn list(&mut self, head: &Head) {
+        for (row, fits) in SIZES {
+            if fits(head) {
+                self.add("list", row);
+            }
+        }
+    }
+
+    /// Counts a call and whether the claims were due after it.
+    pub fn call(&mut self, call: &Call, before: &Before, outcome: &Outcome, due: Due) {
+        self.due = due != Due::Nothing;
+        if due == Due::TwoBlocks {
+            self.add(TWO_BLOCKS.0, TWO_BLOCKS.1);
+        }
+        for &(group, change) in &call.changes {
+            self.add(group, change);
+        }
+        match outcome {
+            Outcome::Answer(answer) if answer.number != 0 => self.refusal(call, answer.number),
+            Outcome::Answer(answer) => self.taken(call, before, answer),
+            Outcome::Part(part) => self.part(call, part),
+            Outcome::Fetched(fetched, all) => self.fetched(call, fetched, *all),
+            Outcome::Digest => self.add("digest", "made"),
+            Outcome::Written => {}
+        }
+    }
+
+    fn refusal(&mut self, call: &Call, number: u8) {
+        self.add(call.word(), REFUSED[usize::from(number)]);
+    }
+
+    fn taken(&mut self, call: &Call, before: &Before, answer: &Answer) {
+        match &call.what {
+            What::Open(_) if answer.frames == 1 => self.add("open", "taken, leads round 1"),
+            What::Open(_) => self.add("open", "taken, does not lead"),
+            What::Branch(frames) => self.branch(slots(frames), before, answer),
+            What::Blame(frame) => self.blame(&slots(frame)[0], before, answer),
+            _ => self.tick(before, answer),
+        }
+    }
+
+    fn branch(&mut self, frames: &[Frame], before: &Before, answer: &Answer) {
+        let (attach, replaced) = before.attach.expect("a branch that was taken attaches");
+        let record = &before.record;
+        let (first, last) = (
+            frame::round(&frames[0]),
+            frame::round(&frames[frames.len() - 1]),
+        );
+        let gap = |pair: &[Frame]| frame::round(&pair[1]) > frame::round(&pair[0]) + 1;
+        let rows = [
+            (attach == 0, "taken onto the genesis"),
+            (attach > 0, "taken onto a slot"),
+            (frames.len() == 1, "taken, one frame"),
+            (frames.len() > 1, "taken, several frames"),
+            (frames.len() == record.term as usize, "taken, T frames"),
+            (frames.len() > 1_000, "taken, over 1,000 frames"),
+            (first > attach + 1, "taken, rounds skipped before it"),
+            (
+                frames.windows(2).any(gap),
+                "taken, rounds skipped inside it",
+            ),
+            (replaced, "taken, filled slots replaced"),
+            (
+                first <= record.committed_round,
+                "taken, committed frames again",
+            ),
+            (last > record.round, "taken, ends above R"),
+            (last == record.term, "taken, ends in T"),
+            (answer.frames == 1, "taken, block put out after"),
+            (
+                answer.record.committed_round > record.committed_round,
+                "taken, committed grew",
+            ),
+        ];
+        for (reached, row) in rows {
+            if reached {
+                self.add("branch", row);
+            }
+        }
+    }
+
+    fn blame(&mut self, frame: &Frame, before: &Before, answer: &Answer) {
+        let record = &before.record;
+        let mask = before.mask | 1 << frame::signer(frame);
+        let shown_by_it = shown(mask, record.f) && !shown(before.mask, record.f);
+        let row = if frame::round(frame) < record.round && shown_by_it {
+            "taken, older round shown by it"
+        } else if frame::round(frame) < record.round {
+            "taken, older round"
+        } else if answer.record.round == record.round {
+            "taken, R not shown yet"
+        } else if answer.frames == 1 {
+            "taken, R shown, block put out"
+        } else if record.round == record.term {
+            "taken, R shown, term over"
+        } else {
+            "taken, R shown"
+        };
+        self.add("blame", row);
+    }
+
+    fn tick(&mut self, before: &Before, answer: &Answer) {
+        let record = &before.record;
+        let own = before.mask >> record.own & 1 == 1;
+        if own && answer.frames > 0 {
+            self.add("tick", "blamed, own bit set before");
+        }
+        let row = if record.left == 0 {
+            "none left"
+        } else if answer.frames == 0 {
+            "counted down"
+        } else if answer.record.round == record.round {
+            "blamed, R not shown yet"
+        } else if answer.frames == 2 {
+            "blamed, R shown, block put out"
+        } else if record.round == record.term {
+            "blamed, R shown, term over"
+        } else {
+            "blamed, R shown"
+        };
+        self.add("tick", row);
+    }
+
+    fn part(&mut self, call: &Call, part: &Part) {
+        match (part.number, part.length) {
+            (0, 0) => self.add("read", "found, no bytes"),
+            (0, 400) => self.add("read", "found, 400 bytes"),
+            (0, _) => self.add("read", "found"),
+            (number, _) => self.refusal(call, number),
+        }
+    }
+
+    fn fetched(&mut self, call: &Call, fetched: &Fetched, all: usize) {
+        match fetched.number {
+            0 if fetched.count == all => self.add("fetch", "all frames"),
+            0 => self.add("fetch", "a part of the frames"),
+            number => self.refusal(call, number),
+        }
+    }
+
+    pub fn rows(&self) -> &[Row] {
+        &self.rows
+    }
+
+    pub fn count(&self, row: &Row) -> u64 {
+        self.counts.get(row).copied().unwrap_or(0)
+    }
+
+    /// Rows that were never reached.
+    pub fn gaps(&self) -> Vec<Row> {
+        let gaps = self.rows.iter().filter(|row| self.count(row) == 0);
+        gaps.copied().collect()
+    }
+
+    /// The table, a line a row.
+    pub fn table(&self) -> String {
+        let line = |row: &Row| format!("{:<26} {:<34} {:>9}\n", row.0, row.1, self.count(row));
+        self.rows.iter().map(line).collect()
+    }
+}

@@ -1,0 +1,20 @@
+//! An implementation of the card line beside the library, and what compares the two.
+
+pub mod cabinet;
+pub mod call;
+pub mod changes;
+pub mod claims;
+pub mod coverage;
+pub mod crash;
+pub mod drive;
+pub mod emit;
+pub mod ffi;
+pub mod frame;
+pub mod library;
+pub mod lists;
+pub mod model;
+pub mod rng;
+pub mod runner;
+pub mod sha256;
+pub mod show;
+pub mod wild;

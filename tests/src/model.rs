@@ -1,0 +1,578 @@
+//! One card's step machine: open, branch, blame, tick, read and fetch.
+//!
+//! Each call first judges everything it was handed and writes nothing until all of it has passed.
+
+use crate::frame::{self, Frame, Name, ENTRY_AT, GENESIS, MOST_ENTRY, SIZE};
+
+/// The leader named when there is none: the term is over or the call was refused.
+pub const NOBODY: u8 = 255;
+/// The smallest out buffer: a blame and a block.
+pub const LEAST_OUT: usize = 2 * SIZE;
+pub const MOST_F: u8 = 7;
+pub const MOST_WAIT: u32 = 60_000;
+pub const MOST_TERM: u32 = 4_096;
+
+/// What the host keeps for a card between calls, beside its book and masks.
+#[derive(Clone, Copy, Debug, Default, PartialEq, Eq)]
+pub struct Record {
+    pub own: u8,
+    pub f: u8,
+    /// Ticks that a card waits for a round.
+    pub wait: u32,
+    /// T, the last round.
+    pub term: u32,
+    /// R, the round waited for.
+    pub round: u32,
+    /// Ticks left.
+    pub left: u32,
+    pub tip_round: u32,
+    pub tip_height: u32,
+    pub committed_round: u32,
+    pub committed_height: u32,
+}
+
+/// The numbers that open is handed.
+#[derive(Clone, Copy, Debug, PartialEq, Eq)]
+pub struct Setup {
+    pub own: u8,
+    pub f: u8,
+    pub wait: u32,
+    pub term: u32,
+}
+
+/// The buffers lent to open, branch, blame and tick.
+pub struct Lent<'a> {
+    /// The book: slot r is the r-th 512 bytes.
+    pub log: &'a mut [u8],
+    pub masks: &'a mut [u16],
+    pub entry: &'a [u8],
+    pub out: &'a mut [u8],
+}
+
+/// The result of open, branch, blame and tick.
+#[derive(Clone, Copy, Debug, PartialEq, Eq)]
+pub struct Answer {
+    pub number: u8,
+    pub place: u32,
+    /// Frames put out.
+    pub frames: u8,
+    /// The leader of R.
+    pub leader: u8,
+    pub record: Record,
+}
+
+/// The result of read: a part of the lent book.
+#[derive(Clone, Copy, Debug, PartialEq, Eq)]
+pub struct Part {
+    pub number: u8,
+    pub start: usize,
+    pub length: usize,
+}
+
+/// The result of fetch.
+#[derive(Clone, Copy, Debug, PartialEq, Eq)]
+pub struct Fetched {
+    pub number: u8,
+    pub count: usize,
+}
+
+/// Why a call was refused.
+#[derive(Clone, Copy, Debug, PartialEq, Eq)]
+pub struct Refusal {
+    pub number: u8,
+    pub place: u32,
+}
+
+fn refuse<T>(number: u8) -> Result<T, Refusal> {
+    refuse_at(number, 0)
+}
+
+fn refuse_at<T>(number: u8, place: u32) -> Result<T, Refusal> {
+    Err(Refusal { number, place })
+}
+
+/// n, the number of cards.
+pub fn cards(f: u8) -> u32 {
+    2 * u32::from(f) + 1
+}
+
+/// The leader of a round from 1 on.
+pub fn leader(round: u32, f: u8) -> u8 {
+    ((round - 1) % cards(f)) as u8
+}
+
+/// Whether a mask shows its round; bits from n on do not count.
+pub fn shown(mask: u16, f: u8) -> bool {
+    let low = (1u32 << cards(f)) - 1;
+    (u32::from(mask) & low).count_ones() > u32::from(f)
+}
+
+/// The slots of a book; slot r stands at index r - 1.
+pub fn slots(log: &[u8]) -> &[Frame] {
+    log.as_chunks().0
+}
+
+fn slots_mut(log: &mut [u8]) -> &mut [Frame] {
+    log.as_chunks_mut().0
+}
+
+fn slot(log: &[u8], round: u32) -> &Frame {
+    &slots(log)[round as usize - 1]
+}
+
+/// The line's frames above a height, in rising round.
+pub fn line_above(log: &[u8], height: u32) -> impl Iterator<Item = &Frame> {
+    slots(log)
+        .iter()
+        .filter(move |slot| frame::filled(slot) && frame::height(slot) > height)
+}
+
+fn all_zero(bytes: &[u8]) -> bool {
+    bytes.iter().fold(0, |sum, byte| sum | byte) == 0
+}
+
+/// Opens a card on a book and masks that it wipes.
+pub fn open(setup: Setup, lent: Lent) -> Answer {
+    if let Err(refusal) = judge_open(&setup, &lent) {
+        return refused(Record::default(), refusal);
+    }
+    let record = Record {
+        own: setup.own,
+        f: setup.f,
+        wait: setup.wait,
+        term: setup.term,
+        round: 1,
+        left: setup.wait,
+        ..Record::default()
+    };
+    let mut card = Card::new(record, lent);
+    card.lent.log.fill(0);
+    card.lent.masks.fill(0);
+    card.enter();
+    card.taken()
+}
+
+/// Hands in a branch: whole block frames, one after the other.
+pub fn branch(record: Record, frames: &[u8], lent: Lent) -> Answer {
+    match judge_branch(&record, frames, &lent) {
+        Err(refusal) => refused(record, refusal),
+        Ok(attach) => {
+            let mut card = Card::new(record, lent);
+            card.take_branch(attach, frames.as_chunks().0);
+            card.taken()
+        }
+    }
+}
+
+/// Hands in a blame.
+pub fn blame(record: Record, frame: &[u8], lent: Lent) -> Answer {
+    match judge_blame(&record, frame, &lent) {
+        Err(refusal) => refused(record, refusal),
+        Ok(frame) => {
+            let mut card = Card::new(record, lent);
+            card.set_bit(frame::round(frame), frame::signer(frame));
+            if frame::round(frame) == record.round {
+                card.pass_if_shown();
+            }
+            card.taken()
+        }
+    }
+}
+
+/// Lets one tick pass.
+pub fn tick(record: Record, lent: Lent) -> Answer {
+    if let Err(refusal) = judge_start(&record, &lent) {
+        return refused(record, refusal);
+    }
+    let mut card = Card::new(record, lent);
+    if record.left > 0 {
+        card.record.left -= 1;
+        if card.record.left == 0 {
+            card.put_out_blame();
+            card.pass_if_shown();
+        }
+    }
+    card.taken()
+}
+
+/// Shows the entry at a committed height.
+pub fn read(record: Record, log: &[u8], height: u32) -> Part {
+    let refused = |number| Part {
+        number,
+        start: 0,
+        length: 0,
+    };
+    if !record_holds(&record, log.len(), None) {
+        return refused(2);
+    }
+    let committed = &slots(log)[..record.committed_round as usize];
+    let found = committed.iter().position(|slot| {
+        frame::filled(slot) && frame::height(slot) == height && frame::length(slot) <= MOST_ENTRY
+    });
+    match found {
+        None => refused(15),
+        Some(index) => Part {
+            number: 0,
+            start: index * SIZE + ENTRY_AT,
+            length: frame::length(&committed[index]),
+        },
+    }
+}
+
+/// Copies line frames above a height: as many as fit.
+pub fn fetch(record: Record, log: &[u8], height: u32, out: &mut [u8]) -> Fetched {
+    fetch_at_most(usize::MAX, record, log, height, out)
+}
+
+/// Fetch with a bound on the count, for a host content with fewer.
+pub fn fetch_at_most(
+    most: usize,
+    record: Record,
+    log: &[u8],
+    height: u32,
+    out: &mut [u8],
+) -> Fetched {
+    let refused = |number| Fetched { number, count: 0 };
+    if !record_holds(&record, log.len(), None) {
+        return refused(2);
+    }
+    if out.len() < LEAST_OUT {
+        return refused(4);
+    }
+    let mut count = 0;
+    for (place, frame) in slots_mut(out)
+        .iter_mut()
+        .take(most)
+        .zip(line_above(log, height))
+    {
+        *place = *frame;
+        count += 1;
+    }
+    if count == 0 {
+        return refused(15);
+    }
+    Fetched { number: 0, count }
+}
+
+fn refused(record: Record, refusal: Refusal) -> Answer {
+    Answer {
+        number: refusal.number,
+        place: refusal.place,
+        frames: 0,
+        leader: NOBODY,
+        record,
+    }
+}
+
+/// The set-up's ranges and the sizes that go with them; read and fetch lend no masks.
+fn setup_holds(setup: &Setup, log: usize, masks: Option<usize>) -> bool {
+    let term = setup.term as usize;
+    (1..=MOST_F).contains(&setup.f)
+        && (1..=MOST_WAIT).contains(&setup.wait)
+        && (1..=MOST_TERM).contains(&setup.term)
+        && u32::from(setup.own) < cards(setup.f)
+        && log == SIZE * term
+        && masks.is_none_or(|masks| masks == term)
+}
+
+/// The ranges of all fields of a record, and that the card does not lead the round it waits for.
+fn record_holds(record: &Record, log: usize, masks: Option<usize>) -> bool {
+    let setup = Setup {
+        own: record.own,
+        f: record.f,
+        wait: record.wait,
+        term: record.term,
+    };
+    setup_holds(&setup, log, masks)
+        && (1..=record.term + 1).contains(&record.round)
+        && record.left <= record.wait
+        && record.tip_round < record.round
+        && record.tip_height <= record.tip_round
+        && record.committed_height <= record.committed_round
+        && record.committed_round <= record.tip_round
+        && record.committed_height <= record.tip_height
+        && !leads(record)
+}
+
+/// Whether the card leads R, inside the term.
+fn leads(record: &Record) -> bool {
+    record.round <= record.term && leader(record.round, record.f) == record.own
+}
+
+/// 4 and 5.
+fn judge_tray(lent: &Lent) -> Result<(), Refusal> {
+    if lent.out.len() < LEAST_OUT {
+        return refuse(4);
+    }
+    if lent.entry.len() > MOST_ENTRY {
+        return refuse(5);
+    }
+    Ok(())
+}
+
+fn judge_open(setup: &Setup, lent: &Lent) -> Result<(), Refusal> {
+    if !setup_holds(setup, lent.log.len(), Some(lent.masks.len())) {
+        return refuse(1);
+    }
+    judge_tray(lent)
+}
+
+/// 2 to 5, which branch, blame and tick share.
+fn judge_start(record: &Record, lent: &Lent) -> Result<(), Refusal> {
+    if !record_holds(record, lent.log.len(), Some(lent.masks.len())) {
+        return refuse(2);
+    }
+    if record.round > record.term {
+        return refuse(3);
+    }
+    judge_tray(lent)
+}
+
+/// 2 to 13. The round that the branch attaches to, 0 for the genesis.
+fn judge_branch(record: &Record, frames: &[u8], lent: &Lent) -> Result<u32, Refusal> {
+    judge_start(record, lent)?;
+    let (frames, rest) = frames.as_chunks();
+    let (Some(first), Some(last)) = (frames.first(), frames.last()) else {
+        return refuse(6);
+    };
+    if !rest.is_empty() || frames.len() > record.term as usize {
+        return refuse(6);
+    }
+    judge_frames(record, frames)?;
+    if frame::round(last) < record.round {
+        return refuse(10);
+    }
+    let Some(attach) = attaching(lent.log, first) else {
+        return refuse(11);
+    };
+    if let Some(round) = unshown(lent.masks, record.f, attach, frames) {
+        return refuse_at(13, round);
+    }
+    if undone(lent.log, record.committed_round, attach, frames) {
+        return refuse(12);
+    }
+    Ok(attach)
+}
+
+/// 7, 8 and 9, frame by frame.
+fn judge_frames(record: &Record, frames: &[Frame]) -> Result<(), Refusal> {
+    let mut before: Option<&Frame> = None;
+    for (frame, place) in frames.iter().zip(0..) {
+        if !frame::check_is_right(frame) {
+            return refuse_at(7, place);
+        }
+        if !block_in_form(record, frame) {
+            return refuse_at(8, place);
+        }
+        if before.is_some_and(|parent| !is_child(frame, parent)) {
+            return refuse_at(9, place);
+        }
+        before = Some(frame);
+    }
+    Ok(())
+}
+
+fn block_in_form(record: &Record, block: &Frame) -> bool {
+    let round = frame::round(block);
+    let length = frame::length(block);
+    frame::kind(block) == frame::BLOCK
+        && length <= MOST_ENTRY
+        && (1..=record.term).contains(&round)
+        && (1..=round).contains(&frame::height(block))
+        && frame::signer(block) == leader(round, record.f)
+        && all_zero(&block[ENTRY_AT + length..frame::CHECK_AT])
+}
+
+fn is_child(frame: &Frame, parent: &Frame) -> bool {
+    frame::parent(frame) == frame::name(parent)
+        && frame::height(frame) == frame::height(parent) + 1
+        && frame::round(frame) > frame::round(parent)
+}
+
+/// The round that a frame in form attaches to: the highest filled slot that fits, else the genesis.
+pub fn attaching(log: &[u8], first: &Frame) -> Option<u32> {
+    let (parent, height) = (frame::parent(first), frame::height(first) - 1);
+    let fits = |slot: &Frame| {
+        frame::filled(slot) && frame::name(slot) == parent && frame::height(slot) == height
+    };
+    let below = &slots(log)[..frame::round(first) as usize - 1];
+    match below.iter().rposition(fits) {
+        Some(index) => Some(index as u32 + 1),
+        None if *parent == GENESIS && height == 0 => Some(0),
+        None => None,
+    }
+}
+
+/// The first skipped round that is not shown.
+fn unshown(masks: &[u16], f: u8, attach: u32, frames: &[Frame]) -> Option<u32> {
+    let mut parent = attach;
+    for frame in frames {
+        let round = frame::round(frame);
+        for skipped in parent + 1..round {
+            if !shown(masks[skipped as usize - 1], f) {
+                return Some(skipped);
+            }
+        }
+        parent = round;
+    }
+    None
+}
+
+/// Whether taking the branch would change a slot up to the committed round.
+fn undone(log: &[u8], committed: u32, attach: u32, frames: &[Frame]) -> bool {
+    let mut coming = frames.iter().peekable();
+    (attach + 1..=committed).any(|round| {
+        let held = slot(log, round);
+        match coming.next_if(|frame| frame::round(frame) == round) {
+            Some(frame) => frame != held,
+            None => !all_zero(held),
+        }
+    })
+}
+
+/// 2 to 8, 14 and 10. The blame as a frame.
+fn judge_blame<'a>(record: &Record, frame: &'a [u8], lent: &Lent) -> Result<&'a Frame, Refusal> {
+    judge_start(record, lent)?;
+    let Ok(frame) = <&Frame>::try_from(frame) else {
+        return refuse(6);
+    };
+    if !frame::check_is_right(frame) {
+        return refuse(7);
+    }
+    if !blame_in_form(record, frame) {
+        return refuse(8);
+    }
+    if frame::round(frame) > record.round {
+        return refuse(14);
+    }
+    let mask = lent.masks[frame::round(frame) as usize - 1];
+    if mask & 1 << frame::signer(frame) != 0 {
+        return refuse(10);
+    }
+    Ok(frame)
+}
+
+fn blame_in_form(record: &Record, blame: &Frame) -> bool {
+    frame::kind(blame) == frame::BLAME
+        && u32::from(frame::signer(blame)) < cards(record.f)
+        && frame::length(blame) == 0
+        && (1..=record.term).contains(&frame::round(blame))
+        && all_zero(&blame[8..frame::CHECK_AT])
+}
+
+/// A card in the middle of a call that is taken.
+struct Card<'a> {
+    record: Record,
+    lent: Lent<'a>,
+    /// Frames put out so far.
+    frames: u8,
+}
+
+impl<'a> Card<'a> {
+    fn new(record: Record, lent: Lent<'a>) -> Self {
+        Card {
+            record,
+            lent,
+            frames: 0,
+        }
+    }
+
+    fn taken(self) -> Answer {
+        let record = self.record;
+        let leader = if record.round <= record.term {
+            leader(record.round, record.f)
+        } else {
+            NOBODY
+        };
+        Answer {
+            number: 0,
+            place: 0,
+            frames: self.frames,
+            leader,
+            record,
+        }
+    }
+
+    /// What follows whenever R has changed.
+    fn enter(&mut self) {
+        self.record.left = self.record.wait;
+        if leads(&self.record) {
+            self.put_out_block();
+            self.record.round += 1;
+            self.record.left = self.record.wait;
+        }
+    }
+
+    /// R is over if enough cards blame it.
+    fn pass_if_shown(&mut self) {
+        let mask = self.lent.masks[self.record.round as usize - 1];
+        if shown(mask, self.record.f) {
+            self.record.round += 1;
+            self.enter();
+        }
+    }
+
+    fn set_bit(&mut self, round: u32, signer: u8) {
+        self.lent.masks[round as usize - 1] |= 1 << signer;
+    }
+
+    fn take_branch(&mut self, attach: u32, frames: &[Frame]) {
+        let book = slots_mut(self.lent.log);
+        book[attach as usize..].as_flattened_mut().fill(0);
+        for frame in frames {
+            book[frame::round(frame) as usize - 1] = *frame;
+            self.record.tip_round = frame::round(frame);
+            self.record.tip_height = frame::height(frame);
+        }
+        self.commit();
+        self.record.round = self.record.tip_round + 1;
+        self.enter();
+    }
+
+    fn commit(&mut self) {
+        let limit = self
+            .record
+            .tip_round
+            .saturating_sub(u32::from(self.record.f));
+        let book = &slots(self.lent.log)[..limit as usize];
+        (self.record.committed_round, self.record.committed_height) =
+            match book.iter().rposition(frame::filled) {
+                Some(index) => (index as u32 + 1, frame::height(&book[index])),
+                None => (0, 0),
+            };
+    }
+
+    /// The place in the out buffer for the next frame put out.
+    fn next_out(&mut self) -> &mut Frame {
+        let index = usize::from(self.frames);
+        self.frames += 1;
+        &mut slots_mut(self.lent.out)[index]
+    }
+
+    fn put_out_blame(&mut self) {
+        let Record { own, round, .. } = self.record;
+        frame::write_blame(self.next_out(), own, round);
+        self.set_bit(round, own);
+    }
+
+    fn put_out_block(&mut self) {
+        let Record { own, round, .. } = self.record;
+        let parent = self.tip_name();
+        let height = self.record.tip_height + 1;
+        let entry = self.lent.entry;
+        let out = self.next_out();
+        frame::write_block(out, own, round, height, &parent, entry);
+        let block = *out;
+        slots_mut(self.lent.log)[round as usize - 1] = block;
+        self.record.tip_round = round;
+        self.record.tip_height = height;
+        self.commit();
+    }
+
+    fn tip_name(&self) -> Name {
+        match self.record.tip_round {
+            0 => GENESIS,
+            round => *frame::name(slot(self.lent.log, round)),
+        }
+    }
+}

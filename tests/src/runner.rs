@@ -1,0 +1,312 @@
+//! Runs calls on the library and on the model and compares every byte after each.
+
+use crate::call::{Call, Head, State, Step, What};
+use crate::claims::Claims;
+use crate::coverage::{Before, Coverage};
+use crate::frame::{Frame, SIZE};
+use crate::library::{Library, Model};
+use crate::model::{self, Answer, Fetched, Lent, Part, Record};
+
+/// Cells around a lent buffer that nobody may write; odd, so that bytes lie at odd addresses.
+const GUARD: usize = 65;
+/// Room for buffers that are too long.
+const SLACK: usize = 1024;
+
+/// A lent buffer between two guards.
+pub struct Buffer<T> {
+    cells: Vec<T>,
+}
+
+impl<T: Copy + PartialEq> Buffer<T> {
+    fn new(room: usize, value: T, guard: T) -> Self {
+        let mut cells = vec![guard; GUARD];
+        cells.resize(GUARD + room, value);
+        cells.resize(GUARD + room + GUARD, guard);
+        Buffer { cells }
+    }
+
+    fn room(&self) -> usize {
+        self.cells.len() - 2 * GUARD
+    }
+
+    /// The first `length` cells.
+    pub fn part(&self, length: usize) -> &[T] {
+        &self.cells[GUARD..GUARD + length]
+    }
+
+    fn lent(&mut self, length: usize) -> &mut [T] {
+        &mut self.cells[GUARD..GUARD + length]
+    }
+
+    /// Where two buffers first differ in their first `length` cells and the guards around them.
+    fn difference(&self, other: &Self, length: usize) -> Option<isize> {
+        let end = GUARD + length + GUARD;
+        let (these, others) = (&self.cells[..end], &other.cells[..end]);
+        if these == others {
+            return None;
+        }
+        let mut pairs = these.iter().zip(others);
+        let index = pairs.position(|(a, b)| a != b)?;
+        Some(index as isize - GUARD as isize)
+    }
+}
+
+/// What one card's host keeps.
+pub struct Side {
+    pub record: Record,
+    pub log: Buffer<u8>,
+    pub masks: Buffer<u16>,
+}
+
+impl Side {
+    fn new(term: u32) -> Side {
+        Side {
+            record: Record::default(),
+            log: Buffer::new(SIZE * term as usize + SLACK, 0, 0x5a),
+            masks: Buffer::new(term as usize + SLACK / SIZE, 0, 0x5a5a),
+        }
+    }
+
+    /// A slot of the book.
+    pub fn slot(&self, round: u32) -> &Frame {
+        &model::slots(self.log.part(SIZE * round as usize))[round as usize - 1]
+    }
+
+    /// Another state; what lies beyond its sizes becomes zero.
+    fn write(&mut self, state: &State) {
+        self.record = state.record;
+        self.log.lent(self.log.room()).fill(0);
+        self.masks.lent(self.masks.room()).fill(0);
+        self.log.lent(state.log.len()).copy_from_slice(&state.log);
+        let masks = self.masks.lent(state.masks.len());
+        masks.copy_from_slice(&state.masks);
+    }
+}
+
+/// What a call came to.
+#[derive(Clone, Copy, Debug)]
+pub enum Outcome {
+    /// A state was written; no call was made.
+    Written,
+    Answer(Answer),
+    Part(Part),
+    /// With the number of frames that there were to copy.
+    Fetched(Fetched, usize),
+    Digest,
+}
+
+impl Outcome {
+    pub fn answer(&self) -> Option<&Answer> {
+        match self {
+            Outcome::Answer(answer) => Some(answer),
+            _ => None,
+        }
+    }
+}
+
+/// Library and model side by side.
+pub struct Runner<'l> {
+    library: &'l dyn Library,
+    reference: &'l dyn Library,
+    tried: Vec<Side>,
+    model: Vec<Side>,
+    tried_out: Buffer<u8>,
+    model_out: Buffer<u8>,
+    /// The library's copies of what it may only read.
+    entry: Vec<u8>,
+    handed: Vec<u8>,
+    /// Fills the out buffers before a call, and what is added to it each time.
+    fill: u8,
+    stride: u8,
+    pub claims: Claims,
+    pub calls: u64,
+}
+
+impl<'l> Runner<'l> {
+    pub fn new(library: &'l dyn Library, head: &Head) -> Self {
+        Runner::beside(library, &Model, head)
+    }
+
+    /// Another reference than the model for open, branch, blame and tick.
+    pub fn beside(library: &'l dyn Library, reference: &'l dyn Library, head: &Head) -> Self {
+        let sides = || (0..head.cards).map(|_| Side::new(head.term)).collect();
+        let out = || Buffer::new(SIZE * head.term as usize + 4 * SLACK, 0, 0x5a);
+        Runner {
+            library,
+            reference,
+            tried: sides(),
+            model: sides(),
+            tried_out: out(),
+            model_out: out(),
+            entry: Vec::new(),
+            handed: Vec::new(),
+            fill: 0,
+            stride: 37,
+            claims: Claims::new(head),
+            calls: 0,
+        }
+    }
+
+    /// Fills the out buffers with one byte before every call.
+    pub fn with_fill(mut self, fill: u8) -> Self {
+        (self.fill, self.stride) = (fill, 0);
+        self
+    }
+
+    /// The cards as the library left them.
+    pub fn sides(&self) -> &[Side] {
+        &self.tried
+    }
+
+    /// The out buffer as the library left it.
+    pub fn out(&self, length: usize) -> &[u8] {
+        self.tried_out.part(length)
+    }
+
+    /// Makes one step; what differed, if anything did.
+    pub fn step(&mut self, step: &Step, coverage: &mut Coverage) -> Result<Outcome, String> {
+        match step {
+            Step::Write(card, state) => {
+                self.claims.written(*card);
+                self.tried[*card].write(state);
+                self.model[*card].write(state);
+                Ok(Outcome::Written)
+            }
+            Step::Call(call) => self.call(call, coverage),
+        }
+    }
+
+    fn call(&mut self, call: &Call, coverage: &mut Coverage) -> Result<Outcome, String> {
+        self.calls += 1;
+        self.claims.before(call);
+        self.prepare(call);
+        let before = Before::of(call, &self.model[call.card]);
+        let outcome = match &call.what {
+            What::Digest(bytes) => self.digest(bytes)?,
+            What::Read(height) => self.read(call, *height)?,
+            What::Fetch(height) => self.fetch(call, *height)?,
+            _ => self.machine(call)?,
+        };
+        self.compare(call)?;
+        let out = self.tried_out.part(call.out_len);
+        let due = self
+            .claims
+            .after(call, outcome.answer(), &self.tried, out)?;
+        coverage.call(call, &before, &outcome, due);
+        Ok(outcome)
+    }
+
+    fn prepare(&mut self, call: &Call) {
+        self.fill = self.fill.wrapping_add(self.stride);
+        self.tried_out.lent(call.out_len).fill(self.fill);
+        self.model_out.lent(call.out_len).fill(self.fill);
+        self.entry.clear();
+        self.entry.extend_from_slice(&call.entry);
+        self.handed.clear();
+        self.handed.extend_from_slice(call.handed());
+    }
+
+    /// Open, branch, blame or tick.
+    fn machine(&mut self, call: &Call) -> Result<Outcome, String> {
+        let tried = &mut self.tried[call.card];
+        let record = call.record.unwrap_or(tried.record);
+        let lent = lend(tried, call, &self.entry, &mut self.tried_out);
+        let answer = ask(self.library, call, record, &self.handed, lent);
+        let model = &mut self.model[call.card];
+        let record = call.record.unwrap_or(model.record);
+        let lent = lend(model, call, &call.entry, &mut self.model_out);
+        let expected = ask(self.reference, call, record, call.handed(), lent);
+        same("answer", answer, expected)?;
+        if answer.number == 0 {
+            tried.record = answer.record;
+            model.record = expected.record;
+        }
+        Ok(Outcome::Answer(answer))
+    }
+
+    fn read(&mut self, call: &Call, height: u32) -> Result<Outcome, String> {
+        let tried = &self.tried[call.card];
+        let record = call.record.unwrap_or(tried.record);
+        let part = self
+            .library
+            .read(record, tried.log.part(call.log_len), height);
+        let model = &self.model[call.card];
+        let record = call.record.unwrap_or(model.record);
+        let expected = model::read(record, model.log.part(call.log_len), height);
+        same("part", part, expected)?;
+        Ok(Outcome::Part(part))
+    }
+
+    /// Any count from one to all that fit passes; the model then copies as many.
+    fn fetch(&mut self, call: &Call, height: u32) -> Result<Outcome, String> {
+        let tried = &self.tried[call.card];
+        let record = call.record.unwrap_or(tried.record);
+        let log = tried.log.part(call.log_len);
+        let out = self.tried_out.lent(call.out_len);
+        let fetched = self.library.fetch(record, log, height, out);
+        let model = &self.model[call.card];
+        let record = call.record.unwrap_or(model.record);
+        let log = model.log.part(call.log_len);
+        let all = model::line_above(log, height).count();
+        let most = fetched.count.max(1);
+        let out = self.model_out.lent(call.out_len);
+        let expected = model::fetch_at_most(most, record, log, height, out);
+        same("fetched", fetched, expected)?;
+        Ok(Outcome::Fetched(fetched, all))
+    }
+
+    fn digest(&mut self, bytes: &[u8]) -> Result<Outcome, String> {
+        let digest = self.library.digest(bytes);
+        same("digest", digest, crate::sha256::digest(bytes))?;
+        Ok(Outcome::Digest)
+    }
+
+    /// Every byte of every buffer after a call.
+    fn compare(&self, call: &Call) -> Result<(), String> {
+        let (tried, model) = (&self.tried[call.card], &self.model[call.card]);
+        if let Some(at) = tried.log.difference(&model.log, model.log.room()) {
+            let round = at.div_euclid(SIZE as isize) + 1;
+            return Err(format!("log differs at byte {at}, slot {round}"));
+        }
+        if let Some(at) = tried.masks.difference(&model.masks, model.masks.room()) {
+            return Err(format!("masks differ at round {}", at + 1));
+        }
+        if let Some(at) = self.tried_out.difference(&self.model_out, call.out_len) {
+            return Err(format!("out differs at byte {at}"));
+        }
+        if self.entry != call.entry {
+            return Err("the lent entry was changed".into());
+        }
+        if self.handed != call.handed() {
+            return Err("the handed frames were changed".into());
+        }
+        Ok(())
+    }
+}
+
+fn same<T: PartialEq + std::fmt::Debug>(what: &str, tried: T, expected: T) -> Result<(), String> {
+    if tried == expected {
+        return Ok(());
+    }
+    Err(format!(
+        "{what} differs:\n  library {tried:?}\n  model   {expected:?}"
+    ))
+}
+
+fn lend<'a>(side: &'a mut Side, call: &Call, entry: &'a [u8], out: &'a mut Buffer<u8>) -> Lent<'a> {
+    Lent {
+        log: side.log.lent(call.log_len),
+        masks: side.masks.lent(call.masks_len),
+        entry,
+        out: out.lent(call.out_len),
+    }
+}
+
+fn ask(library: &dyn Library, call: &Call, record: Record, handed: &[u8], lent: Lent) -> Answer {
+    match &call.what {
+        What::Open(setup) => library.open(*setup, lent),
+        What::Branch(_) => library.branch(record, handed, lent),
+        What::Blame(_) => library.blame(record, handed, lent),
+        _ => library.tick(record, lent),
+    }
+}

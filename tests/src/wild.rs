@@ -1,0 +1,351 @@
+//! Records, books and masks that no call made, and calls on them.
+
+use crate::call::{Call, Head, State, Step, What};
+use crate::changes::{change, edge, Hand};
+use crate::frame::{self, Frame, Name, GENESIS, SIZE};
+use crate::model::{cards, leader, slots, Record, Setup, LEAST_OUT, MOST_TERM};
+use crate::rng::Rng;
+use crate::runner::Side;
+
+pub struct Wild {
+    rng: Rng,
+    head: Head,
+    steps: usize,
+    /// Calls until the next state.
+    calls: usize,
+}
+
+impl Wild {
+    pub fn new(rng: Rng, head: Head, steps: usize) -> Wild {
+        Wild {
+            rng,
+            head,
+            steps,
+            calls: 0,
+        }
+    }
+
+    pub fn head(&self) -> &Head {
+        &self.head
+    }
+
+    pub fn next(&mut self, sides: &[Side]) -> Option<Step> {
+        if self.steps == 0 {
+            return None;
+        }
+        self.steps -= 1;
+        if self.calls == 0 {
+            self.calls = 3 + self.rng.below(12);
+            let state = self.state();
+            return Some(Step::Write(0, state));
+        }
+        self.calls -= 1;
+        let mut call = self.choose(&sides[0]);
+        if self.rng.chance(22) {
+            let mut hand = self.hand(sides[0].record);
+            change(&mut hand, &mut call);
+        }
+        Some(Step::Call(call))
+    }
+
+    fn hand(&mut self, kept: Record) -> Hand<'_> {
+        Hand {
+            rng: &mut self.rng,
+            head: &self.head,
+            strict: false,
+            kept,
+        }
+    }
+
+    /// A whole state. Half of the books are a chain with gaps, the others hold anything.
+    fn state(&mut self) -> State {
+        let tidy = self.rng.chance(50);
+        let log = self.book(tidy);
+        let mut masks = self.masks();
+        let mut record = self.record(&log);
+        if self.rng.chance(25) {
+            self.ripen(&mut record, &mut masks);
+        }
+        if self.rng.chance(12) {
+            let mut hand = self.hand(record);
+            edge(&mut hand, &mut record);
+        }
+        State { record, log, masks }
+    }
+
+    /// One blame more and the card leads the next round.
+    fn ripen(&mut self, record: &mut Record, masks: &mut [u16]) {
+        let (f, round) = (self.head.f, record.round);
+        if round >= self.head.term {
+            return;
+        }
+        record.own = leader(round + 1, f);
+        record.left = 1;
+        let mut mask = 0u16;
+        while mask.count_ones() < f.into() {
+            mask |= 1 << self.rng.within(0, cards(f) - 1);
+        }
+        masks[round as usize - 1] = mask;
+    }
+
+    fn masks(&mut self) -> Vec<u16> {
+        let full = ((1u32 << cards(self.head.f)) - 1) as u16;
+        let habit = self.rng.below(4);
+        let mask = |rng: &mut Rng| match (habit, rng.below(5)) {
+            (0, _) | (_, 0) => 0,
+            (1, _) | (_, 1) => full,
+            (_, 2) => rng.number() as u16 & !full,
+            (_, 3) => (rng.number() & rng.number()) as u16,
+            _ => rng.number() as u16,
+        };
+        (0..self.head.term).map(|_| mask(&mut self.rng)).collect()
+    }
+
+    fn book(&mut self, tidy: bool) -> Vec<u8> {
+        let mut book: Vec<Frame> = Vec::with_capacity(self.head.term as usize);
+        let gaps = self.rng.pick(&[0, 10, 40, 90]);
+        let mut top: Option<usize> = None;
+        for round in 1..=self.head.term {
+            let empty = self.rng.chance(gaps);
+            let slot = if empty {
+                self.empty_slot()
+            } else if tidy || self.rng.chance(50) {
+                self.child(top.map(|top| &book[top]), round)
+            } else {
+                self.odd_slot(&book, round)
+            };
+            if frame::filled(&slot) {
+                top = Some(book.len());
+            }
+            book.push(slot);
+        }
+        book.into_flattened()
+    }
+
+    /// A slot that is not filled, at times with a byte that is not zero.
+    fn empty_slot(&mut self) -> Frame {
+        let mut slot = [0; SIZE];
+        match self.rng.below(12) {
+            0 => slot[0] = 2,
+            1 => slot[1 + self.rng.below(SIZE - 1)] = 1,
+            _ => {}
+        }
+        slot
+    }
+
+    /// A block of a round on a slot, in form if the slot is.
+    fn child(&mut self, parent: Option<&Frame>, round: u32) -> Frame {
+        let (name, height) = match parent {
+            Some(slot) => (*frame::name(slot), frame::height(slot).wrapping_add(1)),
+            None => (GENESIS, 1),
+        };
+        self.block(&name, round, height)
+    }
+
+    fn block(&mut self, parent: &Name, round: u32, height: u32) -> Frame {
+        let length = self.rng.pick(&[0, 0, 2, 5, 399, 400]);
+        let entry = self.rng.bytes(length);
+        let signer = leader(round.max(1), self.head.f);
+        frame::block(signer, round, height, parent, &entry)
+    }
+
+    /// A slot that no call would leave there.
+    fn odd_slot(&mut self, book: &[Frame], round: u32) -> Frame {
+        let any = (!book.is_empty()).then(|| book[self.rng.below(book.len())]);
+        let mut slot = self.child(any.as_ref(), round);
+        match self.rng.below(9) {
+            0 => slot = any.unwrap_or(slot),
+            1 => slot[0] = self.rng.pick(&[0, 2, 255]),
+            2 => frame::set_height(&mut slot, self.odd_height(round)),
+            3 => frame::set_length(&mut slot, self.rng.pick(&[400, 401, 468, 469, 65_535])),
+            4 => frame::set_round(&mut slot, self.rng.pick(&[0, 1, round + 1, u32::MAX])),
+            5 => {
+                slot = [0; SIZE];
+                slot[0] = frame::BLOCK;
+            }
+            6 => {
+                slot.copy_from_slice(&self.rng.noise(SIZE));
+                slot[0] = self.rng.pick(&[0, 1, 1, 1, 2]);
+            }
+            7 => slot[frame::CHECK_AT..].fill(0),
+            _ => {}
+        }
+        slot
+    }
+
+    fn odd_height(&mut self, round: u32) -> u32 {
+        self.rng.pick(&[0, 1, round, round + 1, u32::MAX, 1 << 31])
+    }
+
+    /// A record in its ranges, mostly one that fits the book.
+    fn record(&mut self, log: &[u8]) -> Record {
+        let (f, term) = (self.head.f, self.head.term);
+        let round = match self.rng.below(12) {
+            0 => term + 1,
+            1 => 1,
+            _ => self.rng.within(1, term + 1),
+        };
+        let lead = leader(round, f);
+        let mut own = self.rng.within(0, cards(f) - 1) as u8;
+        if own == lead && round <= term {
+            own = ((u32::from(own) + 1) % cards(f)) as u8;
+        }
+        let tip_round = self.top(log, round - 1);
+        let tip_height = self.height_at(log, tip_round, tip_round);
+        let limit = tip_round.saturating_sub(self.rng.pick(&[0, f.into(), f.into()]));
+        let committed_round = self.top(log, limit);
+        let most = committed_round.min(tip_height);
+        let wait = self.rng.pick(&[1, 2, 3, 60_000]);
+        Record {
+            own,
+            f,
+            wait,
+            term,
+            round,
+            left: self.rng.pick(&[0, 1, 1, 2, wait]).min(wait),
+            tip_round,
+            tip_height,
+            committed_round,
+            committed_height: self.height_at(log, committed_round, most),
+        }
+    }
+
+    /// Mostly the highest filled round up to a limit, else any round up to it.
+    fn top(&mut self, log: &[u8], limit: u32) -> u32 {
+        if self.rng.chance(20) {
+            return self.rng.within(0, limit);
+        }
+        let below = &slots(log)[..limit as usize];
+        let top = below.iter().rposition(frame::filled);
+        top.map_or(0, |index| index as u32 + 1)
+    }
+
+    /// Mostly the height that stands in a slot, at most `most`.
+    fn height_at(&mut self, log: &[u8], round: u32, most: u32) -> u32 {
+        if round == 0 || self.rng.chance(10) {
+            return self.rng.within(0, most);
+        }
+        frame::height(&slots(log)[round as usize - 1]).min(most)
+    }
+
+    fn choose(&mut self, side: &Side) -> Call {
+        let at_edge = self.head.term == 1 || self.head.term == MOST_TERM;
+        let what = match self.rng.below(if at_edge { 110 } else { 100 }) {
+            0..=49 => What::Branch(self.branch(side)),
+            50..=64 => What::Blame(self.blame(side)),
+            65..=77 => What::Tick,
+            78..=87 => What::Read(self.height(side)),
+            88..=96 => What::Fetch(self.height(side)),
+            _ => self.open(),
+        };
+        let mut call = Call::new(&self.head, 0, what);
+        let length = self.rng.pick(&[0, 0, 1, 4, 400]);
+        call.entry = self.rng.bytes(length);
+        if matches!(call.what, What::Fetch(_)) {
+            let most = SIZE * (self.head.term as usize + 1);
+            call.out_len = LEAST_OUT + self.rng.below(most.saturating_sub(LEAST_OUT) + 1);
+        }
+        call
+    }
+
+    fn open(&mut self) -> What {
+        What::Open(Setup {
+            own: self.rng.within(0, cards(self.head.f) - 1) as u8,
+            f: self.head.f,
+            wait: self.rng.pick(&[1, 2, 60_000]),
+            term: self.head.term,
+        })
+    }
+
+    /// A height near one that stands in the book.
+    fn height(&mut self, side: &Side) -> u32 {
+        let book = slots(side.log.part(SIZE * self.head.term as usize));
+        let height = frame::height(&book[self.rng.below(book.len())]);
+        match self.rng.below(4) {
+            0 => height.saturating_sub(1),
+            1 => self.rng.pick(&[0, 1, u32::MAX]),
+            _ => height,
+        }
+    }
+
+    fn blame(&mut self, side: &Side) -> Vec<u8> {
+        let term = self.head.term;
+        let round = match self.rng.below(4) {
+            0 => self.rng.within(1, term),
+            1 => side.record.round.saturating_add(1).clamp(1, term),
+            _ => side.record.round.clamp(1, term),
+        };
+        let signer = self.rng.within(0, cards(self.head.f) - 1) as u8;
+        frame::blame(signer, round).to_vec()
+    }
+
+    /// A chain that starts on a slot or the genesis, with or without held frames before it.
+    fn branch(&mut self, side: &Side) -> Vec<u8> {
+        let book = slots(side.log.part(SIZE * self.head.term as usize));
+        let start = self.start(side, book);
+        let mut frames: Vec<Frame> = Vec::new();
+        if self.rng.chance(40) {
+            frames = held(book, start);
+            let keep = self.rng.below(frames.len() + 1);
+            frames.drain(..keep);
+        }
+        let mut parent = (start > 0).then(|| book[start - 1]);
+        let mut round = start as u32;
+        let gap = self.rng.pick(&[0, 0, 1, 2]);
+        let stop = self.rng.pick(&[0, 0, 5]);
+        let goal = self.goal(side);
+        while frames.len() < self.head.term as usize {
+            round += 1 + self.rng.within(0, gap);
+            if round > self.head.term {
+                break;
+            }
+            let frame = self.child(parent.as_ref(), round);
+            frames.push(frame);
+            parent = Some(frame);
+            if round >= goal || self.rng.chance(stop) {
+                break;
+            }
+        }
+        frames.into_flattened()
+    }
+
+    /// The slot under the first new frame, 0 for the genesis.
+    fn start(&mut self, side: &Side, book: &[Frame]) -> usize {
+        let record = &side.record;
+        let pick = match self.rng.below(5) {
+            0 => 0,
+            1 => record.committed_round as usize,
+            2 => self.rng.below(book.len() + 1),
+            _ => record.tip_round as usize,
+        };
+        pick.min(book.len())
+    }
+
+    /// The round that a branch should reach.
+    fn goal(&mut self, side: &Side) -> u32 {
+        let term = self.head.term;
+        match self.rng.below(8) {
+            0 => 1,
+            1 => term,
+            2 => self.rng.within(1, term),
+            3 => side.record.round.saturating_sub(1),
+            4 => side.record.round.saturating_add(1),
+            _ => side.record.round,
+        }
+    }
+}
+
+/// The frames that lead to a slot through their parents' names, the oldest first.
+fn held(book: &[Frame], start: usize) -> Vec<Frame> {
+    let mut frames = Vec::new();
+    let mut round = start;
+    while round > 0 && frame::filled(&book[round - 1]) {
+        let frame = book[round - 1];
+        frames.push(frame);
+        let below = &book[..round - 1];
+        let parent = |slot: &Frame| frame::name(slot) == frame::parent(&frame);
+        round = below.iter().rposition(parent).map_or(0, |index| index + 1);
+    }
+    frames.reverse();
+    frames
+}

@@ -1,0 +1,583 @@
+//! Libraries with a slip in them: the lists have to find each, and shrink what they found.
+
+use beside::coverage::Coverage;
+use beside::drive::{replay, run, run_on, shrink};
+use beside::frame::{self, Frame, SIZE};
+use beside::library::Library;
+use beside::lists::{Maker, Sizes};
+use beside::model::{self, attaching, leader, shown, slots, Answer, Fetched, Lent, Part};
+use beside::model::{Record, Setup};
+use beside::runner::Runner;
+use beside::sha256;
+
+/// A call of the machine.
+enum Ask<'a> {
+    Open(Setup),
+    Branch(Record, &'a [u8]),
+    Blame(Record, &'a [u8]),
+    Tick(Record),
+}
+
+impl Ask<'_> {
+    fn record(&self) -> Record {
+        match *self {
+            Ask::Open(_) => Record::default(),
+            Ask::Branch(record, _) | Ask::Blame(record, _) | Ask::Tick(record) => record,
+        }
+    }
+}
+
+type Machine = fn(&Ask, Lent) -> Answer;
+type Read = fn(Record, &[u8], u32) -> Part;
+type Fetch = fn(Record, &[u8], u32, &mut [u8]) -> Fetched;
+
+/// The model with some of its calls replaced.
+struct Broken {
+    machine: Machine,
+    read: Read,
+    fetch: Fetch,
+}
+
+impl Broken {
+    fn machine(machine: Machine) -> Broken {
+        Broken {
+            machine,
+            read: model::read,
+            fetch: model::fetch,
+        }
+    }
+
+    fn read(read: Read) -> Broken {
+        Broken {
+            read,
+            ..Broken::machine(honest)
+        }
+    }
+
+    fn fetch(fetch: Fetch) -> Broken {
+        Broken {
+            fetch,
+            ..Broken::machine(honest)
+        }
+    }
+}
+
+impl Library for Broken {
+    fn open(&self, setup: Setup, lent: Lent) -> Answer {
+        (self.machine)(&Ask::Open(setup), lent)
+    }
+
+    fn branch(&self, record: Record, frames: &[u8], lent: Lent) -> Answer {
+        (self.machine)(&Ask::Branch(record, frames), lent)
+    }
+
+    fn blame(&self, record: Record, frame: &[u8], lent: Lent) -> Answer {
+        (self.machine)(&Ask::Blame(record, frame), lent)
+    }
+
+    fn tick(&self, record: Record, lent: Lent) -> Answer {
+        (self.machine)(&Ask::Tick(record), lent)
+    }
+
+    fn read(&self, record: Record, log: &[u8], height: u32) -> Part {
+        (self.read)(record, log, height)
+    }
+
+    fn fetch(&self, record: Record, log: &[u8], height: u32, out: &mut [u8]) -> Fetched {
+        (self.fetch)(record, log, height, out)
+    }
+
+    fn digest(&self, bytes: &[u8]) -> [u8; 32] {
+        sha256::digest(bytes)
+    }
+}
+
+fn honest(ask: &Ask, lent: Lent) -> Answer {
+    match *ask {
+        Ask::Open(setup) => model::open(setup, lent),
+        Ask::Branch(record, frames) => model::branch(record, frames, lent),
+        Ask::Blame(record, frame) => model::blame(record, frame, lent),
+        Ask::Tick(record) => model::tick(record, lent),
+    }
+}
+
+/// The same buffers for one call more.
+fn again<'a>(lent: &'a mut Lent) -> Lent<'a> {
+    Lent {
+        log: lent.log,
+        masks: lent.masks,
+        entry: lent.entry,
+        out: lent.out,
+    }
+}
+
+fn refusal(number: u8, record: Record) -> Answer {
+    Answer {
+        number,
+        place: 0,
+        frames: 0,
+        leader: 255,
+        record,
+    }
+}
+
+/// The highest filled slot that passes a test becomes the committed one.
+fn commit(record: &mut Record, log: &[u8], fits: impl Fn(u32, u32) -> bool) {
+    let book = slots(log).iter().zip(1..);
+    let filled = book.filter(|(slot, _)| frame::filled(slot));
+    let passing = filled.filter(|(slot, round)| fits(*round, frame::height(slot)));
+    let last = passing
+        .last()
+        .map(|(slot, round)| (round, frame::height(slot)));
+    (record.committed_round, record.committed_height) = last.unwrap_or((0, 0));
+}
+
+fn commits_one_round_early(ask: &Ask, mut lent: Lent) -> Answer {
+    let mut answer = honest(ask, again(&mut lent));
+    if answer.number == 0 && answer.record.tip_round > ask.record().tip_round {
+        let limit = answer.record.tip_round + 1;
+        let f = u32::from(answer.record.f);
+        commit(&mut answer.record, lent.log, |round, _| round + f <= limit);
+    }
+    answer
+}
+
+fn commits_by_heights(ask: &Ask, mut lent: Lent) -> Answer {
+    let mut answer = honest(ask, again(&mut lent));
+    if answer.number == 0 && answer.record.tip_round > ask.record().tip_round {
+        let (top, f) = (answer.record.tip_height, u32::from(answer.record.f));
+        commit(&mut answer.record, lent.log, |_, height| {
+            height.saturating_add(f) <= top
+        });
+    }
+    answer
+}
+
+fn commits_nothing(ask: &Ask, lent: Lent) -> Answer {
+    let mut answer = honest(ask, lent);
+    if answer.number == 0 {
+        (
+            answer.record.committed_round,
+            answer.record.committed_height,
+        ) = (0, 0);
+    }
+    answer
+}
+
+/// Takes a repeated blame by letting it stand for another card's.
+fn counts_a_blame_twice(ask: &Ask, mut lent: Lent) -> Answer {
+    let answer = honest(ask, again(&mut lent));
+    let (Ask::Blame(record, bytes), 10) = (ask, answer.number) else {
+        return answer;
+    };
+    let frame = &slots(bytes)[0];
+    let mask = &mut lent.masks[frame::round(frame) as usize - 1];
+    *mask = *mask & !(1 << frame::signer(frame)) | 1 << (*mask).trailing_ones();
+    model::blame(*record, bytes, lent)
+}
+
+/// Calls the model with other masks and keeps what it added to them.
+fn with_masks(ask: &Ask, mut lent: Lent, mask: impl Fn(u32, u16) -> u16) -> Answer {
+    let kept = lent.masks.to_vec();
+    for (round, value) in (1..).zip(lent.masks.iter_mut()) {
+        *value = mask(round, *value);
+    }
+    let lied = lent.masks.to_vec();
+    let answer = honest(ask, again(&mut lent));
+    for ((value, lied), kept) in lent.masks.iter_mut().zip(lied).zip(kept) {
+        *value = if *value == 0 {
+            0
+        } else {
+            kept | *value & !lied
+        };
+    }
+    answer
+}
+
+/// One more card seems to blame every round that somebody blames.
+fn shows_with_f(ask: &Ask, lent: Lent) -> Answer {
+    let signer = match ask {
+        Ask::Blame(_, bytes) => slots(bytes).first().map_or(0, frame::signer),
+        ask => ask.record().own,
+    };
+    let round = match ask {
+        Ask::Blame(_, bytes) => slots(bytes).first().map_or(0, frame::round),
+        ask => ask.record().round,
+    };
+    let n = 2 * u32::from(ask.record().f) + 1;
+    with_masks(ask, lent, |at, mask| {
+        let taken = mask
+            | if at == round && signer < 16 {
+                1 << signer
+            } else {
+                0
+            };
+        let free = (0..n.min(16)).find(|card| taken >> card & 1 == 0);
+        let blamed = mask != 0 || at == round;
+        match free {
+            Some(card) if blamed && taken != 0 => mask | 1 << card,
+            _ => mask,
+        }
+    })
+}
+
+fn takes_unshown_rounds(ask: &Ask, lent: Lent) -> Answer {
+    match ask {
+        Ask::Branch(..) => with_masks(ask, lent, |_, _| u16::MAX),
+        _ => honest(ask, lent),
+    }
+}
+
+fn counts_bits_above_n(ask: &Ask, lent: Lent) -> Answer {
+    let Ask::Branch(record, _) = ask else {
+        return honest(ask, lent);
+    };
+    let f = u32::from(record.f);
+    with_masks(ask, lent, |_, mask| {
+        if mask.count_ones() > f {
+            u16::MAX
+        } else {
+            mask
+        }
+    })
+}
+
+fn zeroes_before_judging(ask: &Ask, mut lent: Lent) -> Answer {
+    let answer = honest(ask, again(&mut lent));
+    if let (Ask::Branch(record, bytes), 7..=9) = (ask, answer.number) {
+        let first = &slots(bytes)[0];
+        let in_term = (1..=record.term).contains(&frame::round(first));
+        if answer.place > 0 && in_term {
+            if let Some(attach) = attaching(lent.log, first) {
+                lent.log[SIZE * attach as usize..].fill(0);
+            }
+        }
+    }
+    answer
+}
+
+fn keeps_old_slots(ask: &Ask, mut lent: Lent) -> Answer {
+    let kept = lent.log.to_vec();
+    let answer = honest(ask, again(&mut lent));
+    if let (Ask::Branch(..), 0) = (ask, answer.number) {
+        for (slot, old) in lent
+            .log
+            .as_chunks_mut::<SIZE>()
+            .0
+            .iter_mut()
+            .zip(slots(&kept))
+        {
+            if !frame::filled(slot) {
+                *slot = *old;
+            }
+        }
+    }
+    answer
+}
+
+fn leaves_the_book(ask: &Ask, mut lent: Lent) -> Answer {
+    let kept = lent.log.to_vec();
+    let answer = honest(ask, again(&mut lent));
+    if ask.record().tip_round > 0 {
+        lent.log.copy_from_slice(&kept);
+    }
+    answer
+}
+
+fn refuses_committed_frames(ask: &Ask, lent: Lent) -> Answer {
+    if let Ask::Branch(record, bytes) = ask {
+        let first = slots(bytes).first().map_or(0, frame::round);
+        let kept = (lent.log.to_vec(), lent.masks.to_vec(), lent.out.to_vec());
+        let Lent {
+            log,
+            masks,
+            entry,
+            out,
+        } = lent;
+        let answer = honest(
+            ask,
+            Lent {
+                log,
+                masks,
+                entry,
+                out,
+            },
+        );
+        if answer.number == 0 && first <= record.committed_round {
+            log.copy_from_slice(&kept.0);
+            masks.copy_from_slice(&kept.1);
+            out.copy_from_slice(&kept.2);
+            return refusal(12, *record);
+        }
+        return answer;
+    }
+    honest(ask, lent)
+}
+
+fn refuses_every_frame(ask: &Ask, lent: Lent) -> Answer {
+    match ask {
+        Ask::Branch(record, _) => refusal(11, *record),
+        _ => honest(ask, lent),
+    }
+}
+
+/// Puts its block of the next round out again when an older round becomes shown.
+fn puts_out_again(ask: &Ask, mut lent: Lent) -> Answer {
+    let mut answer = honest(ask, again(&mut lent));
+    if let (Ask::Blame(record, bytes), 0) = (ask, answer.number) {
+        let round = frame::round(&slots(bytes)[0]);
+        let mask = lent.masks[round as usize - 1];
+        let next = round + 1;
+        if next < record.round && shown(mask, record.f) && leader(next, record.f) == record.own {
+            let block: Frame = slots(lent.log)[round as usize];
+            lent.out[..SIZE].copy_from_slice(&block);
+            answer.frames = 1;
+        }
+    }
+    answer
+}
+
+fn blames_on_the_first_tick(ask: &Ask, lent: Lent) -> Answer {
+    let Ask::Tick(record) = ask else {
+        return honest(ask, lent);
+    };
+    let mut hasty = *record;
+    hasty.left = hasty.left.min(1);
+    let mut answer = model::tick(hasty, lent);
+    if answer.number != 0 {
+        answer.record = *record;
+    }
+    answer
+}
+
+fn term_over_early(ask: &Ask, lent: Lent) -> Answer {
+    match ask {
+        Ask::Tick(record) if record.term > 0 && record.round == record.term => refusal(3, *record),
+        _ => honest(ask, lent),
+    }
+}
+
+fn same_result_always(_: &Ask, _: Lent) -> Answer {
+    refusal(2, Record::default())
+}
+
+fn says_two_writes_none(ask: &Ask, mut lent: Lent) -> Answer {
+    let kept = lent.out.to_vec();
+    let mut answer = honest(ask, again(&mut lent));
+    if answer.frames == 2 {
+        lent.out.copy_from_slice(&kept);
+    }
+    if answer.number == 0 && answer.frames > 0 {
+        answer.frames = 2;
+    }
+    answer
+}
+
+fn writes_none(ask: &Ask, mut lent: Lent) -> Answer {
+    let kept = lent.out.to_vec();
+    let answer = honest(ask, again(&mut lent));
+    lent.out.copy_from_slice(&kept);
+    answer
+}
+
+fn touches_later_bytes(ask: &Ask, mut lent: Lent) -> Answer {
+    let answer = honest(ask, again(&mut lent));
+    if let Some(last) = lent.out.last_mut() {
+        if answer.frames == 1 {
+            *last = last.wrapping_add(1);
+        }
+    }
+    answer
+}
+
+fn undone_before_unshown(ask: &Ask, mut lent: Lent) -> Answer {
+    let Ask::Branch(record, _) = ask else {
+        return honest(ask, lent);
+    };
+    let mut log = lent.log.to_vec();
+    let mut masks = vec![u16::MAX; lent.masks.len()];
+    let mut out = lent.out.to_vec();
+    let trial = Lent {
+        log: &mut log,
+        masks: &mut masks,
+        entry: lent.entry,
+        out: &mut out,
+    };
+    match honest(ask, trial).number {
+        12 => refusal(12, *record),
+        _ => honest(ask, again(&mut lent)),
+    }
+}
+
+fn stale_before_early(ask: &Ask, mut lent: Lent) -> Answer {
+    let answer = honest(ask, again(&mut lent));
+    if let (Ask::Blame(record, bytes), 14) = (ask, answer.number) {
+        let frame = &slots(bytes)[0];
+        let mask = lent.masks[frame::round(frame) as usize - 1];
+        if mask >> frame::signer(frame) & 1 == 1 {
+            return refusal(10, *record);
+        }
+    }
+    answer
+}
+
+fn sets_a_bit_though_refused(ask: &Ask, mut lent: Lent) -> Answer {
+    let answer = honest(ask, again(&mut lent));
+    if let (Ask::Blame(record, _), 7) = (ask, answer.number) {
+        lent.masks[record.round as usize - 1] |= 1;
+    }
+    answer
+}
+
+fn leader_though_refused(ask: &Ask, lent: Lent) -> Answer {
+    let mut answer = honest(ask, lent);
+    if answer.number == 10 {
+        answer.leader = leader(answer.record.round, answer.record.f);
+    }
+    answer
+}
+
+fn place_of_the_wrong_round(ask: &Ask, lent: Lent) -> Answer {
+    let mut answer = honest(ask, lent);
+    if answer.number == 13 {
+        answer.place += 1;
+    }
+    answer
+}
+
+fn read_absent(record: Record, log: &[u8], height: u32) -> Part {
+    let part = model::read(record, log, height);
+    Part {
+        number: if part.number == 0 { 15 } else { part.number },
+        start: 0,
+        length: 0,
+    }
+}
+
+/// Reads the line up to the tip.
+fn read_uncommitted(mut record: Record, log: &[u8], height: u32) -> Part {
+    let part = model::read(record, log, height);
+    record.committed_round = record.tip_round;
+    match part.number {
+        15 => model::read(record, log, height),
+        _ => part,
+    }
+}
+
+fn fetch_none(record: Record, log: &[u8], height: u32, out: &mut [u8]) -> Fetched {
+    let kept = out.to_vec();
+    let mut fetched = model::fetch(record, log, height, out);
+    out.copy_from_slice(&kept);
+    fetched.count = 0;
+    fetched
+}
+
+fn fetch_more_than_said(record: Record, log: &[u8], height: u32, out: &mut [u8]) -> Fetched {
+    let mut fetched = model::fetch(record, log, height, out);
+    fetched.count = fetched.count.min(1);
+    fetched
+}
+
+/// Fewer than fit is allowed.
+fn fetch_one(record: Record, log: &[u8], height: u32, out: &mut [u8]) -> Fetched {
+    model::fetch_at_most(1, record, log, height, out)
+}
+
+/// Slips and worthless cards that the paper names.
+fn named_slips() -> Vec<(&'static str, Broken)> {
+    let machine = Broken::machine;
+    vec![
+        ("commits one round early", machine(commits_one_round_early)),
+        ("commits by heights", machine(commits_by_heights)),
+        ("counts a blame twice", machine(counts_a_blame_twice)),
+        ("shows a round with f", machine(shows_with_f)),
+        ("zeroes before judging", machine(zeroes_before_judging)),
+        ("keeps old slots", machine(keeps_old_slots)),
+        (
+            "refuses committed frames",
+            machine(refuses_committed_frames),
+        ),
+        ("puts a block out again", machine(puts_out_again)),
+        ("commits nothing", machine(commits_nothing)),
+        ("refuses every frame", machine(refuses_every_frame)),
+        ("leaves the book", machine(leaves_the_book)),
+        ("same result always", machine(same_result_always)),
+        (
+            "blames on the first tick",
+            machine(blames_on_the_first_tick),
+        ),
+        ("term over early", machine(term_over_early)),
+        ("says two, writes none", machine(says_two_writes_none)),
+        ("read absent", Broken::read(read_absent)),
+        ("fetch none", Broken::fetch(fetch_none)),
+    ]
+}
+
+fn other_slips() -> Vec<(&'static str, Broken)> {
+    let machine = Broken::machine;
+    vec![
+        ("writes none", machine(writes_none)),
+        ("touches later bytes", machine(touches_later_bytes)),
+        ("takes unshown rounds", machine(takes_unshown_rounds)),
+        ("counts bits above n", machine(counts_bits_above_n)),
+        ("12 before 13", machine(undone_before_unshown)),
+        ("10 before 14", machine(stale_before_early)),
+        ("bit set though refused", machine(sets_a_bit_though_refused)),
+        ("leader though refused", machine(leader_though_refused)),
+        (
+            "place of the wrong round",
+            machine(place_of_the_wrong_round),
+        ),
+        ("read uncommitted", Broken::read(read_uncommitted)),
+        ("fetch more than said", Broken::fetch(fetch_more_than_said)),
+    ]
+}
+
+#[test]
+fn every_slip_is_found_and_shrunk() {
+    for (name, library) in named_slips().into_iter().chain(other_slips()) {
+        let mut coverage = Coverage::new();
+        let found = (1..=300).find_map(|seed| run(&library, seed, Sizes::All, &mut coverage).err());
+        let failure = found.unwrap_or_else(|| panic!("not found: {name}"));
+        let short = shrink(&library, &failure);
+        let steps = short.list.steps.len();
+        println!(
+            "{name}: {} steps, shrunk to {steps}",
+            failure.list.steps.len()
+        );
+        let (last, message) = replay(&library, &short.list).expect_err(name);
+        assert_eq!((last + 1, &message), (steps, &short.message), "{name}");
+        assert!(steps <= 8, "{name}: still {steps} steps\n{}", short.list);
+        assert!(!short.list.to_string().is_empty());
+    }
+}
+
+#[test]
+fn a_fetch_of_fewer_frames_passes() {
+    let library = Broken::fetch(fetch_one);
+    for seed in 1..=60 {
+        let result = run(&library, seed, Sizes::All, &mut Coverage::new());
+        assert!(result.is_ok(), "seed {seed}");
+    }
+}
+
+/// With the same slip on both sides only the claims can find it.
+#[test]
+fn claims_find_slips_on_both_sides() {
+    let slips: [(&str, Machine); 3] = [
+        ("commits one round early", commits_one_round_early),
+        ("shows a round with f", shows_with_f),
+        ("takes unshown rounds", takes_unshown_rounds),
+    ];
+    for (name, machine) in slips {
+        let library = Broken::machine(machine);
+        let found = (1..=600).find_map(|seed| {
+            let maker = Maker::new(seed, Sizes::All);
+            let runner = Runner::beside(&library, &library, &maker.head().clone());
+            run_on(runner, maker, &mut Coverage::new()).err()
+        });
+        let failure = found.unwrap_or_else(|| panic!("not found: {name}"));
+        println!("{name}: {}", failure.message);
+        assert!(failure.message.starts_with("claim:"), "{}", failure.message);
+    }
+}

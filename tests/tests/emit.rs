@@ -1,0 +1,217 @@
+//! A program as small as can be that reads an emitted list: it has to print what was expected.
+
+use beside::coverage::Coverage;
+use beside::emit::emit;
+use beside::frame::SIZE;
+use beside::model::{self, Answer, Lent, Record, Setup};
+use beside::sha256;
+
+#[derive(Clone)]
+struct Card {
+    record: Record,
+    log: [u8; 4608],
+    masks: [u16; 9],
+}
+
+/// The words of a line.
+struct Words<'a>(std::str::Split<'a, char>);
+
+impl Words<'_> {
+    fn number(&mut self) -> u32 {
+        self.0.next().expect("a word").parse().expect("a number")
+    }
+
+    fn size(&mut self) -> usize {
+        self.number() as usize
+    }
+
+    fn bytes(&mut self) -> Vec<u8> {
+        let mut word = self.0.next().expect("a word");
+        let mut bytes = Vec::new();
+        while !word.is_empty() && word != "-" {
+            let mut count = 1;
+            if let Some(rest) = word.strip_prefix('x') {
+                let (number, rest) = rest.split_once('.').expect("a dot");
+                count = number.parse().expect("a count");
+                word = rest;
+            }
+            let byte = u8::from_str_radix(&word[..2], 16).expect("hex");
+            bytes.resize(bytes.len() + count, byte);
+            word = &word[2..];
+        }
+        bytes
+    }
+
+    fn record(&mut self) -> Record {
+        Record {
+            own: self.number() as u8,
+            f: self.number() as u8,
+            wait: self.number(),
+            term: self.number(),
+            round: self.number(),
+            left: self.number(),
+            tip_round: self.number(),
+            tip_height: self.number(),
+            committed_round: self.number(),
+            committed_height: self.number(),
+        }
+    }
+}
+
+struct Program {
+    cards: Vec<Card>,
+    out: [u8; 6144],
+    given: Option<Record>,
+    printed: String,
+}
+
+impl Program {
+    fn new() -> Program {
+        let card = Card {
+            record: Record::default(),
+            log: [0; 4608],
+            masks: [0; 9],
+        };
+        Program {
+            cards: vec![card; 5],
+            out: [0; 6144],
+            given: None,
+            printed: String::new(),
+        }
+    }
+
+    fn line(&mut self, line: &str) {
+        let mut words = Words(line.split(' '));
+        let letter = words.0.next().expect("a letter");
+        match letter {
+            "n" => self.cards = Program::new().cards,
+            "w" => self.write(&mut words),
+            "s" => {
+                let (card, round) = (words.size(), words.size());
+                let slot = &mut self.cards[card].log[SIZE * (round - 1)..SIZE * round];
+                slot.copy_from_slice(&words.bytes());
+            }
+            "m" => {
+                let (card, round) = (words.size(), words.size());
+                self.cards[card].masks[round - 1] = words.number() as u16;
+            }
+            "g" => self.given = Some(words.record()),
+            "o" | "b" | "v" | "t" => self.machine(letter, &mut words),
+            "q" => self.read(&mut words),
+            "f" => self.fetch(&mut words),
+            "h" => self.printed += &(hex(&sha256::digest(&words.bytes())) + "\n"),
+            _ => panic!("{line}"),
+        }
+    }
+
+    fn write(&mut self, words: &mut Words) {
+        let card = words.size();
+        self.cards[card] = Program::new().cards[0].clone();
+        self.cards[card].record = words.record();
+    }
+
+    fn machine(&mut self, letter: &str, words: &mut Words) {
+        let index = words.size();
+        let mut setup = || Setup {
+            own: words.number() as u8,
+            f: words.number() as u8,
+            wait: words.number(),
+            term: words.number(),
+        };
+        let setup = (letter == "o").then(&mut setup);
+        let (log, masks, out) = (words.size(), words.size(), words.size());
+        let entry = words.bytes();
+        self.out[..out].fill(165);
+        let card = &mut self.cards[index];
+        let record = self.given.take().unwrap_or(card.record);
+        let lent = Lent {
+            log: &mut card.log[..log],
+            masks: &mut card.masks[..masks],
+            entry: &entry,
+            out: &mut self.out[..out],
+        };
+        let answer = match (setup, letter) {
+            (Some(setup), _) => model::open(setup, lent),
+            (_, "b") => model::branch(record, &words.bytes(), lent),
+            (_, "v") => model::blame(record, &words.bytes(), lent),
+            _ => model::tick(record, lent),
+        };
+        if answer.number == 0 {
+            card.record = answer.record;
+        }
+        self.print_answer(&answer);
+        self.print_digest(index, log, masks, out);
+    }
+
+    fn print_answer(&mut self, answer: &Answer) {
+        let r = answer.record;
+        let numbers = [u32::from(answer.number), answer.place, answer.frames.into()];
+        self.print(&numbers);
+        self.print(&[
+            answer.leader.into(),
+            r.own.into(),
+            r.f.into(),
+            r.wait,
+            r.term,
+        ]);
+        self.print(&[r.round, r.left, r.tip_round, r.tip_height]);
+        self.print(&[r.committed_round, r.committed_height]);
+    }
+
+    fn read(&mut self, words: &mut Words) {
+        let (index, log, height) = (words.size(), words.size(), words.number());
+        let card = &self.cards[index];
+        let record = self.given.take().unwrap_or(card.record);
+        let part = model::read(record, &card.log[..log], height);
+        self.print(&[part.number.into(), part.start as u32, part.length as u32]);
+        self.print_digest(index, log, 0, 0);
+    }
+
+    fn fetch(&mut self, words: &mut Words) {
+        let (index, log, out) = (words.size(), words.size(), words.size());
+        let height = words.number();
+        self.out[..out].fill(165);
+        let card = &self.cards[index];
+        let record = self.given.take().unwrap_or(card.record);
+        let fetched = model::fetch(record, &card.log[..log], height, &mut self.out[..out]);
+        self.print(&[fetched.number.into(), fetched.count as u32]);
+        self.print_digest(index, log, 0, out);
+    }
+
+    fn print(&mut self, numbers: &[u32]) {
+        for number in numbers {
+            self.printed += &format!("{number} ");
+        }
+    }
+
+    fn print_digest(&mut self, card: usize, log: usize, masks: usize, out: usize) {
+        let card = &self.cards[card];
+        let mut lent = card.log[..log].to_vec();
+        for mask in &card.masks[..masks] {
+            lent.extend(mask.to_be_bytes());
+        }
+        lent.extend(&self.out[..out]);
+        self.printed += &(hex(&sha256::digest(&lent)) + "\n");
+    }
+}
+
+fn hex(bytes: &[u8]) -> String {
+    bytes.iter().map(|byte| format!("{byte:02x}")).collect()
+}
+
+#[test]
+fn an_emitted_list_reads_back() {
+    let emitted = emit(1, 6_000, &mut Coverage::new());
+    let mut program = Program::new();
+    emitted.input.lines().for_each(|line| program.line(line));
+    for (number, (got, wanted)) in program
+        .printed
+        .lines()
+        .zip(emitted.output.lines())
+        .enumerate()
+    {
+        assert_eq!(got, wanted, "result {number}");
+    }
+    assert_eq!(program.printed.lines().count(), 6_000);
+    assert_eq!(emitted.output.lines().count(), 6_000);
+}

@@ -1,0 +1,546 @@
+//! The model against the paper: published digests, the bench sheet, the rehearsal, every refusal.
+
+use std::collections::VecDeque;
+
+use beside::frame::{self, blame, block, Frame, GENESIS, SIZE};
+use beside::model::{self, leader, shown, Answer, Fetched, Lent, Part, Record, Setup};
+use beside::sha256::{digest, K};
+
+/// A card with its buffers.
+struct Card {
+    record: Record,
+    log: Vec<u8>,
+    masks: Vec<u16>,
+    entry: Vec<u8>,
+    out: Vec<u8>,
+}
+
+impl Card {
+    /// A card that is opened already.
+    fn open(own: u8, f: u8, wait: u32, term: u32) -> Card {
+        let mut card = Card::closed(term);
+        let answer = card.try_open(own, f, wait, term);
+        assert_eq!(answer.number, 0);
+        card.record = answer.record;
+        card
+    }
+
+    fn closed(term: u32) -> Card {
+        Card {
+            record: Record::default(),
+            log: vec![7; SIZE * term as usize],
+            masks: vec![7; term as usize],
+            entry: Vec::new(),
+            out: vec![0xee; 1024],
+        }
+    }
+
+    /// A card in a state made by hand: blocks in their slots, the tip the last, R as given.
+    fn made(own: u8, f: u8, term: u32, blocks: &[Frame], round: u32) -> Card {
+        let mut card = Card::closed(term);
+        card.log.fill(0);
+        card.masks.fill(0);
+        for block in blocks {
+            let at = SIZE * (frame::round(block) as usize - 1);
+            card.log[at..at + SIZE].copy_from_slice(block);
+        }
+        card.record = Record {
+            own,
+            f,
+            wait: 2,
+            term,
+            round,
+            left: 2,
+            tip_round: blocks.last().map_or(0, frame::round),
+            tip_height: blocks.last().map_or(0, frame::height),
+            ..Record::default()
+        };
+        card
+    }
+
+    fn lend(&mut self) -> Lent<'_> {
+        Lent {
+            log: &mut self.log,
+            masks: &mut self.masks,
+            entry: &self.entry,
+            out: &mut self.out,
+        }
+    }
+
+    fn try_open(&mut self, own: u8, f: u8, wait: u32, term: u32) -> Answer {
+        let setup = Setup { own, f, wait, term };
+        model::open(setup, self.lend())
+    }
+
+    fn keep(&mut self, answer: Answer) -> Answer {
+        self.record = answer.record;
+        answer
+    }
+
+    fn branch(&mut self, frames: &[Frame]) -> Answer {
+        let record = self.record;
+        let answer = model::branch(record, frames.as_flattened(), self.lend());
+        self.keep(answer)
+    }
+
+    fn blame(&mut self, frame: &[u8]) -> Answer {
+        let record = self.record;
+        let answer = model::blame(record, frame, self.lend());
+        self.keep(answer)
+    }
+
+    fn tick(&mut self) -> Answer {
+        let record = self.record;
+        let answer = model::tick(record, self.lend());
+        self.keep(answer)
+    }
+
+    fn read(&self, height: u32) -> Part {
+        model::read(self.record, &self.log, height)
+    }
+
+    fn fetch(&mut self, height: u32) -> Fetched {
+        model::fetch(self.record, &self.log, height, &mut self.out)
+    }
+
+    fn out_frame(&self, index: usize) -> &Frame {
+        &model::slots(&self.out)[index]
+    }
+
+    /// The rounds of the line.
+    fn line(&self) -> Vec<u32> {
+        let rounds = 1..=self.record.term;
+        rounds
+            .filter(|&round| frame::filled(&model::slots(&self.log)[round as usize - 1]))
+            .collect()
+    }
+}
+
+/// Blocks of the given rounds, each on the one before, the first on the genesis.
+fn chain(f: u8, rounds: &[u32]) -> Vec<Frame> {
+    let mut frames: Vec<Frame> = Vec::new();
+    for (&round, height) in rounds.iter().zip(1..) {
+        let parent = frames.last().map_or(GENESIS, |last| *frame::name(last));
+        frames.push(block(leader(round, f), round, height, &parent, b"x"));
+    }
+    frames
+}
+
+fn hex(bytes: &[u8]) -> String {
+    bytes.iter().map(|byte| format!("{byte:02x}")).collect()
+}
+
+fn told(answer: Answer) -> (u8, u32) {
+    (answer.number, answer.place)
+}
+
+#[test]
+fn published_digests() {
+    let long = b"abcdbcdecdefdefgefghfghighijhijkijkljklmklmnlmnomnopnopq";
+    assert_eq!(long.len() * 8, 448);
+    assert_eq!(
+        hex(&digest(b"abc")),
+        "ba7816bf8f01cfea414140de5dae2223b00361a396177a9cb410ff61f20015ad"
+    );
+    assert_eq!(
+        hex(&digest(b"")),
+        "e3b0c44298fc1c149afbf4c8996fb92427ae41e4649b934ca495991b7852b855"
+    );
+    assert_eq!(
+        hex(&digest(long)),
+        "248d6a61d20638b8e5c026930c3e6039a33ce45964ff2167f6ecedd419db06c1"
+    );
+    assert_eq!(
+        hex(&digest(&vec![b'a'; 1_000_000])),
+        "cdc76e5c9914fb9281a1c7e284d73e67f1809a48a497200e046d39ccc7112cd0"
+    );
+}
+
+/// The constants are the first 32 bits of the fractions of the primes' cube roots.
+#[test]
+fn constants_from_cube_roots() {
+    let is_prime = |n: &u128| (2..*n).all(|d| !n.is_multiple_of(d));
+    for (prime, k) in (2u128..).filter(is_prime).zip(K) {
+        let (mut low, mut high) = (0u128, 1 << 36);
+        while high - low > 1 {
+            let middle = (low + high) / 2;
+            if middle * middle * middle <= prime << 96 {
+                low = middle;
+            } else {
+                high = middle;
+            }
+        }
+        assert_eq!(low as u32, k, "prime {prime}");
+    }
+}
+
+#[test]
+fn sheet_1_leaders() {
+    assert_eq!([1, 3, 4].map(|round| leader(round, 1)), [0, 2, 0]);
+    assert_eq!(leader(16, 7), 0);
+}
+
+#[test]
+fn sheet_2_line_1_2() {
+    let mut card = Card::open(2, 1, 2, 2);
+    let frames = chain(1, &[1, 2]);
+    card.branch(&frames[..1]);
+    assert_eq!(
+        (card.record.committed_round, card.record.committed_height),
+        (0, 0)
+    );
+    card.branch(&frames[1..]);
+    assert_eq!(
+        (card.record.committed_round, card.record.committed_height),
+        (1, 1)
+    );
+}
+
+#[test]
+fn sheet_3_line_1_3() {
+    let mut card = Card::open(2, 1, 2, 3);
+    card.branch(&chain(1, &[1]));
+    card.blame(&blame(0, 2));
+    let answer = card.blame(&blame(1, 2));
+    assert_eq!((answer.frames, card.line()), (1, vec![1, 3]));
+    assert_eq!(
+        (card.record.committed_round, card.record.tip_height),
+        (1, 2)
+    );
+}
+
+#[test]
+fn sheet_4_line_1_2_3() {
+    let mut card = Card::open(4, 2, 2, 3);
+    assert_eq!(card.branch(&chain(2, &[1, 2, 3])).number, 0);
+    assert_eq!(card.record.committed_round, 1);
+}
+
+#[test]
+fn sheet_5_shown() {
+    assert!(shown(3, 1) && !shown(1, 1) && shown(21, 2));
+    assert!(!shown(0b1111_1000, 1), "bits from n on do not count");
+}
+
+#[test]
+fn sheet_6_stale() {
+    let mut card = Card::made(0, 1, 6, &chain(1, &[1, 2]), 3);
+    let frames = chain(1, &[1, 2, 3]);
+    assert_eq!(card.branch(&frames[..2]).number, 10);
+    assert_eq!(card.branch(&frames).number, 0);
+}
+
+#[test]
+fn sheet_7_entries() {
+    for (length, number) in [(400, 0), (401, 5)] {
+        let mut card = Card::closed(2);
+        card.entry = vec![9; length];
+        assert_eq!(card.try_open(0, 1, 2, 2).number, number);
+    }
+}
+
+#[test]
+fn sheet_8_ticks() {
+    let mut quick = Card::open(1, 1, 1, 3);
+    assert_eq!(quick.tick().frames, 1);
+    assert_eq!(*quick.out_frame(0), blame(1, 1));
+    assert_eq!((quick.tick().frames, quick.record.left), (0, 0));
+    let mut slow = Card::open(1, 1, 2, 3);
+    assert_eq!([slow.tick().frames, slow.tick().frames], [0, 1]);
+}
+
+#[test]
+fn sheet_9_skipped_round() {
+    let frames = chain(1, &[1, 3]);
+    for own in [0, 1] {
+        let mut card = Card::made(own, 1, 6, &frames[..1], 3);
+        card.masks[1] = 1;
+        assert_eq!(told(card.branch(&frames[1..])), (13, 2));
+        card.masks[1] = 3;
+        let answer = card.branch(&frames[1..]);
+        assert_eq!(told(answer), (0, 0));
+        let expected = if own == 0 { (5, 1) } else { (4, 0) };
+        assert_eq!((card.record.round, answer.frames), expected);
+    }
+}
+
+#[test]
+fn sheet_10_undone() {
+    let frames = chain(1, &[1, 2, 3, 4]);
+    let mut card = Card::made(1, 1, 6, &frames[..3], 4);
+    (card.record.committed_round, card.record.committed_height) = (2, 2);
+    let other = block(0, 4, 2, frame::name(&frames[0]), b"");
+    assert_eq!(told(card.branch(&[other])), (13, 2));
+    card.masks[1..3].fill(3);
+    assert_eq!(told(card.branch(&[other])), (12, 0));
+    assert_eq!(told(card.branch(&frames)), (0, 0));
+    assert_eq!(card.line(), [1, 2, 3, 4, 5], "it leads round 5 itself");
+}
+
+#[test]
+fn sheet_11_term_of_one_round() {
+    let mut card = Card::open(0, 1, 1, 1);
+    assert_eq!((card.record.round, card.line()), (2, vec![1]));
+    assert_eq!(card.tick().number, 3);
+}
+
+/// Lines of the rehearsal for an input.
+fn rehearse(input: &str) -> String {
+    let mut cards: Vec<Card> = (0..3).map(|own| Card::open(own, 1, 2, 6)).collect();
+    let mut queues: [VecDeque<Frame>; 3] = Default::default();
+    let mut lines = String::new();
+    let opening = *cards[0].out_frame(0);
+    queues[1].push_back(opening);
+    queues[2].push_back(opening);
+    for line in input.lines() {
+        let index = usize::from(line.as_bytes()[2] - b'0');
+        let card = &mut cards[index];
+        let answer = if line.starts_with('t') {
+            card.tick()
+        } else {
+            let Some(frame) = queues[index].pop_front() else {
+                continue;
+            };
+            if frame::kind(&frame) == frame::BLOCK {
+                card.branch(&[frame])
+            } else {
+                card.blame(&frame)
+            }
+        };
+        let r = answer.record;
+        let (number, tip, committed) = (answer.number, r.tip_round, r.committed_round);
+        lines += &format!("{index} {number} {} {tip} {committed}\n", r.round);
+        for place in 0..usize::from(answer.frames) {
+            let frame = *cards[index].out_frame(place);
+            (0..3)
+                .filter(|&other| other != index)
+                .for_each(|other| queues[other].push_back(frame));
+        }
+    }
+    lines
+}
+
+#[test]
+fn rehearsal() {
+    let lines = rehearse("d 1\nd 2\nd 2\nd 0\n");
+    assert_eq!(lines, "1 0 3 2 1\n2 0 2 1 0\n2 0 4 3 2\n0 0 3 2 1\n");
+    assert_eq!(rehearse("d 0\n"), "", "nothing for an empty queue");
+}
+
+#[test]
+fn refusal_1_set_up() {
+    let setups = [
+        (0, 0, 1, 2),
+        (0, 8, 1, 2),
+        (0, 1, 0, 2),
+        (0, 1, 60_001, 2),
+        (3, 1, 1, 2),
+    ];
+    for (own, f, wait, term) in setups {
+        let answer = Card::closed(2).try_open(own, f, wait, term);
+        assert_eq!((told(answer), answer.leader), ((1, 0), 255));
+        assert_eq!(answer.record, Record::default());
+    }
+    for term in [0, 1, 3, 4_097] {
+        assert_eq!(told(Card::closed(2).try_open(0, 1, 1, term)), (1, 0));
+    }
+    let mut card = Card::closed(2);
+    card.masks.push(0);
+    assert_eq!(told(card.try_open(0, 1, 1, 2)), (1, 0));
+    assert!(
+        card.log.iter().all(|&byte| byte == 7),
+        "a refused open writes nothing"
+    );
+}
+
+#[test]
+fn refusal_2_record() {
+    let changes: [fn(&mut Record); 10] = [
+        |record| record.own = 0,
+        |record| record.f = 0,
+        |record| record.wait = 0,
+        |record| record.term = 7,
+        |record| record.round = 8,
+        |record| record.left = 3,
+        |record| record.tip_round = 4,
+        |record| record.tip_height = 4,
+        |record| record.committed_round = 4,
+        |record| record.committed_height = 3,
+    ];
+    for change in changes {
+        let frames = chain(1, &[1, 2, 3, 4]);
+        let mut card = Card::made(1, 1, 6, &frames[..3], 4);
+        (card.record.committed_round, card.record.committed_height) = (2, 2);
+        change(&mut card.record);
+        let handed = card.record;
+        assert_eq!(told(card.branch(&frames[3..])), (2, 0));
+        assert_eq!(told(card.blame(&blame(0, 4))), (2, 0));
+        assert_eq!(told(card.tick()), (2, 0));
+        assert_eq!((card.read(1).number, card.fetch(0).number), (2, 2));
+        assert_eq!(card.record, handed, "a refusal gives the record back");
+    }
+    let mut card = Card::made(2, 1, 6, &[], 1);
+    card.masks.pop();
+    assert_eq!(told(card.tick()), (2, 0));
+    assert_eq!(card.read(1).number, 15, "read is lent no masks");
+}
+
+#[test]
+fn refusal_3_term_over() {
+    let mut card = Card::made(1, 1, 3, &chain(1, &[1, 2, 3]), 4);
+    card.out.clear();
+    assert_eq!(told(card.branch(&chain(1, &[1]))), (3, 0));
+    assert_eq!(told(card.blame(&blame(0, 1))), (3, 0));
+    assert_eq!(told(card.tick()), (3, 0));
+}
+
+#[test]
+fn refusals_4_and_5() {
+    let frames = chain(1, &[1]);
+    for (out, number) in [(1023, 4), (1024, 5)] {
+        let mut card = Card::made(1, 1, 3, &[], 1);
+        card.entry = vec![0; 401];
+        card.out = vec![0; out];
+        assert_eq!(told(card.branch(&frames)), (number, 0));
+        assert_eq!(told(card.blame(&blame(0, 1))), (number, 0));
+        assert_eq!(told(card.tick()), (number, 0));
+        assert_eq!(told(card.try_open(0, 1, 1, 3)), (number, 0));
+        assert_eq!(card.fetch(0).number, if number == 4 { 4 } else { 15 });
+        assert_eq!(card.read(0).number, 15);
+    }
+}
+
+#[test]
+fn refusal_6_cut() {
+    let frames = chain(1, &[1, 2]);
+    let mut card = Card::made(2, 1, 2, &[], 1);
+    let record = card.record;
+    for bytes in [0, 1, 511, 513, 1023, 1025] {
+        let mut all = frames.as_flattened().to_vec();
+        all.resize(bytes, 0);
+        assert_eq!(told(model::branch(record, &all, card.lend())), (6, 0));
+        assert_eq!(told(model::blame(record, &all, card.lend())), (6, 0));
+    }
+    let three = [frames[0], frames[1], frames[1]];
+    assert_eq!(told(card.branch(&three)), (6, 0), "more than T");
+    assert_eq!(told(card.blame(frames.as_flattened())), (6, 0));
+}
+
+#[test]
+fn refusals_7_8_9_frame_by_frame() {
+    let good = chain(1, &[1, 2, 3]);
+    let mut card = Card::made(1, 1, 6, &[], 1);
+    let mut frames = good.clone();
+    frames[1][100] ^= 1;
+    assert_eq!(told(card.branch(&frames)), (7, 1));
+    frame::seal(&mut frames[1]);
+    assert_eq!(told(card.branch(&frames)), (8, 1), "a byte after the entry");
+    let mut frames = good.clone();
+    frames.swap(1, 2);
+    assert_eq!(told(card.branch(&frames)), (9, 1));
+    frames[2][0] = 9;
+    assert_eq!(
+        told(card.branch(&frames)),
+        (9, 1),
+        "9 of a frame before 7 of the next"
+    );
+    let mut bad = blame(0, 1);
+    bad[480] ^= 1;
+    assert_eq!(told(card.blame(&bad)), (7, 0));
+    assert_eq!(told(card.blame(&good[0])), (8, 0));
+    assert_eq!(told(card.blame(&blame(3, 1))), (8, 0));
+    assert_eq!(told(card.blame(&blame(0, 7))), (8, 0));
+}
+
+#[test]
+fn refusal_8_at_every_field_of_a_block() {
+    let harms: [fn(&mut Frame); 9] = [
+        |frame| frame[0] = 2,
+        |frame| frame[1] = 1,
+        |frame| frame::set_length(frame, 401),
+        |frame| frame::set_round(frame, 0),
+        |frame| frame::set_round(frame, 7),
+        |frame| frame::set_height(frame, 0),
+        |frame| frame::set_height(frame, 2),
+        |frame| frame[45] = 1,
+        |frame| frame[479] = 1,
+    ];
+    for harm in harms {
+        let mut card = Card::made(1, 1, 6, &[], 1);
+        let mut frame = chain(1, &[1])[0];
+        harm(&mut frame);
+        frame::seal(&mut frame);
+        assert_eq!(told(card.branch(&[frame])), (8, 0));
+    }
+}
+
+#[test]
+fn refusals_10_and_14_of_a_blame() {
+    let mut card = Card::made(1, 1, 6, &chain(1, &[1, 2]), 3);
+    card.masks[3] = 1;
+    assert_eq!(told(card.blame(&blame(0, 4))), (14, 0), "14 before 10");
+    card.masks[2] = 1;
+    assert_eq!(told(card.blame(&blame(0, 3))), (10, 0));
+    assert_eq!(told(card.blame(&blame(0, 2))), (0, 0));
+    assert_eq!(card.record.round, 3, "an older round moves nothing");
+    let answer = card.blame(&blame(2, 3));
+    assert_eq!((answer.record.round, answer.leader), (4, 0));
+}
+
+#[test]
+fn refusals_11_13_12() {
+    let frames = chain(1, &[1, 2, 3]);
+    let mut card = Card::made(2, 1, 6, &frames[..1], 2);
+    assert_eq!(told(card.branch(&frames[2..])), (11, 0));
+    let far = chain(1, &[3, 4]);
+    assert_eq!(told(card.branch(&far)), (13, 1));
+    (card.record.committed_round, card.record.committed_height) = (1, 1);
+    assert_eq!(told(card.branch(&far)), (13, 1), "13 before 12");
+    card.masks[..2].fill(7);
+    assert_eq!(told(card.branch(&far)), (12, 0));
+}
+
+#[test]
+fn refusal_15_absent() {
+    let mut card = Card::made(1, 1, 6, &chain(1, &[1, 2]), 3);
+    assert_eq!(card.read(1).number, 15);
+    (card.record.committed_round, card.record.committed_height) = (1, 1);
+    let part = card.read(1);
+    assert_eq!((part.number, part.start, part.length), (0, 44, 1));
+    assert_eq!(card.read(2).number, 15);
+    assert_eq!(
+        card.fetch(2),
+        Fetched {
+            number: 15,
+            count: 0
+        }
+    );
+    assert_eq!(
+        card.fetch(1),
+        Fetched {
+            number: 0,
+            count: 1
+        }
+    );
+    assert_eq!(card.out_frame(1), &[0xee; SIZE], "later bytes untouched");
+    assert_eq!(
+        card.fetch(0),
+        Fetched {
+            number: 0,
+            count: 2
+        }
+    );
+}
+
+#[test]
+fn a_tick_puts_out_blame_and_block() {
+    let mut card = Card::open(1, 1, 1, 6);
+    card.blame(&blame(2, 1));
+    let answer = card.tick();
+    assert_eq!(
+        (answer.frames, answer.record.round, answer.leader),
+        (2, 3, 2)
+    );
+    assert_eq!(*card.out_frame(0), blame(1, 1));
+    assert_eq!(*card.out_frame(1), block(1, 2, 1, &GENESIS, b""));
+}
