@@ -1,5 +1,4 @@
--- Branch: the state stays good, what was committed is kept, no refusal 2 is met, and refusal 12 only where a linked log would revert a
--- committed slot. Assumes that a digest has 32 bytes.
+-- Branch: the state stays good, nothing committed is lost, and no refusal 2 is met. Assumes that a digest has 32 bytes.
 use Prim.Native.Nat.{ℕ, _+_, _-_, _*_, _/_, _%_, _≤_}
 use mathlib.Core.Path.{_≡_, refl, sym, ap, _∙_}
 use mathlib.Core.Option.{Option, none, some}

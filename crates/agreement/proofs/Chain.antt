@@ -1,5 +1,4 @@
--- The core, over slots as a function of the round: two linked logs that hold the same frame in a slot agree in every slot below it, and
--- heights rise along a chain. Assumes nothing.
+-- Two linked logs that hold the same frame in a slot agree in every slot below it; heights rise along a chain. Assumes nothing.
 use Prim.Native.Nat.{ℕ, zero, suc, _≤_, _<_}
 use mathlib.Core.Path.{_≡_, sym, ap, _∙_, subst, refl}
 use mathlib.Core.Logic.{_⊎_, inl, inr}

@@ -1,5 +1,4 @@
--- What holds of the state of every replica that keeps the rules, with no replica presumed correct, and the effects that keep it: other
--- ticks left, a certified round passed, a bit set, another log held. Assumes nothing.
+-- The state of a replica that keeps the rules, nobody presumed correct, and the effects that keep it good. Assumes nothing.
 use Prim.Native.Nat.{ℕ, suc, _+_, _*_, _≤_, _<_}
 use mathlib.Core.Path.{_≡_, refl, sym, _∙_}
 use mathlib.Core.Logic.{⊎-elim}

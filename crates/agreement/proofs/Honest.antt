@@ -1,5 +1,4 @@
--- The last lemma, the only one that uses honesty: two replicas' logs are the same up to each round that both have passed by f. Assumes the
--- premises of demand 3, as facts about the past.
+-- The last lemma: two logs are the same up to a round that both have passed by f. Assumes the premises, as facts of the past.
 use Prim.Native.Nat.{ℕ, suc, _+_, _≤_, _<_}
 use mathlib.Core.Path.{_≡_, sym, ap, _∙_, subst}
 use mathlib.Core.Logic.{_⊎_, inl, inr}

@@ -1,5 +1,4 @@
--- What is used of leaders: each is a replica's number, and f + 1 rounds in a row have different ones. So where at most f replicas are
--- not correct, one of f + 1 rounds in a row has a correct leader, and one of f + 1 marks is a correct replica's. Assumes nothing.
+-- Where at most f replicas are not correct, one of f + 1 rounds in a row has a correct leader. Assumes nothing.
 use Prim.Native.Nat.{ℕ, zero, suc, _+_, _-_, _/_, _%_, _≤_, _<_}
 use mathlib.Core.Path.{_≡_, refl, ap, _∙_}
 use mathlib.Core.Logic.{_⊎_, inl, inr, _≢_}
@@ -12,7 +11,7 @@ use Rattle.apollo.specs.Setup.{Setup, replicas, leader}
 use Rattle.apollo.specs.Masks.{count}
 use Rattle.agreement.proofs.Counts.{more, spread}
 
--- two rounds less than n apart have different leaders
+-- the two laws used of leaders: f + 1 rounds in a row have different ones, and each is a replica's number
 apart-mod : (n a d : ℕ) → 0 < d → d < n → a % n ≢ (a + d) % n
 apart-mod n a d pos low e = go (leb ((a + d) / n) (a / n)) refl
   where

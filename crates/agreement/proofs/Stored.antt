@@ -1,5 +1,4 @@
--- A log whose frames are linked, seen, and signed by the leaders of their rounds, with every empty round below the tip certified: it
--- stays so when a block is stored above the tip, and when it is cleared above a held round. Assumes nothing.
+-- A linked log with every skipped round certified, after a block is stored and after it is cleared above a round. Assumes nothing.
 use Prim.Native.Nat.{ℕ, _*_, _≤_, _<_}
 use mathlib.Core.Path.{_≡_, ap, _∙_}
 use mathlib.Core.List.{List}

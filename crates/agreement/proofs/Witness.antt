@@ -1,5 +1,4 @@
--- The premises of demand 3 can be met: a list of calls that meets them all, with SHA-256 itself, and commits a block at two replicas.
--- f = 1, T = 2, and replica 2 is missing. Replicas 0 and 1 open, and each takes the other's first block. Assumes nothing.
+-- A list of calls that meets demand 3's premises, with SHA-256 itself, and commits a block at two replicas. Assumes nothing.
 use Prim.Native.Nat.{ℕ}
 use mathlib.Core.Path.{_≡_, refl, sym, ap, _∙_, subst}
 use mathlib.Core.Logic.{_⊎_, inl, inr}
@@ -27,6 +26,7 @@ use Rattle.agreement.proofs.Tests.{same-of}
 use Rattle.agreement.proofs.Blocks.{d1, d2, head1, head2, b1, b2, name1, name2}
 use Rattle.agreement.proofs.Agreement.{agreement}
 
+-- f = 1, T = 2, replica 2 missing: replicas 0 and 1 open, and each takes the other's first block
 out : List ℕ
 out = zeros 1024
 

@@ -1,5 +1,4 @@
--- The invariant of every list of calls that keeps the rules about opens, with no replica presumed correct. From here on the hash is
--- SHA-256. Assumes nothing.
+-- The invariant of every list of calls that keeps the rules about opens, with SHA-256 as the hash. Assumes nothing.
 use Prim.Native.Nat.{ℕ, _/_, _<_}
 use mathlib.Core.Path.{_≡_, refl, sym, ap, _∙_, subst}
 use mathlib.Core.Logic.{_⊎_, inl, inr, _≢_, ⊎-elim}

@@ -20,6 +20,7 @@ pub data Act : Type 0 where
   blame : (bytes entry out : List ℕ) → Act
   tick : (entry out : List ℕ) → Act
 
+-- a call
 pub data Call : Type 0 where
   opening : (id f timeout lastRound : ℕ) (log masks entry out : List ℕ) → Call
   act : Act → Call
@@ -44,10 +45,11 @@ pub record World : Type 0 where
   pub states : ℕ → Option State
   pub past : List Event
 
+-- before the first call
 unfoldable pub start : World
 start = record { states = λ i. none; past = [] }
 
--- the whole frames in the bytes handed in, whatever the call answers
+-- the bytes that a call hands in, and the whole frames in them, whatever it answers
 unfoldable pub bytesIn : Act → List ℕ
 bytesIn (branch bytes entry out) = bytes
 bytesIn (blame bytes entry out) = bytes
@@ -57,10 +59,12 @@ unfoldable pub framesIn : Call → List (List ℕ)
 framesIn (opening id f timeout lastRound log masks entry out) = []
 framesIn (act a) = frames (length (bytesIn a) / 512) (bytesIn a)
 
+-- the past after some frames were handed in: those with a right check count
 unfoldable pub hand : List (List ℕ) → List Event → List Event
 hand [] past = past
 hand (x ∷ xs) past = hand xs (cond (checked sha256 x) (handed x ∷ past) past)
 
+-- and after replica i emitted some frames
 unfoldable pub emit : ℕ → List (List ℕ) → List Event → List Event
 emit i [] past = past
 emit i (x ∷ xs) past = emit i xs (emitted i x ∷ past)
@@ -77,7 +81,7 @@ note i o past = answered (o .answer .number) ∷ emit i (emittedBy o) past
 abbrev pub stateOf : Outcome → State
 stateOf o = record { replica = o .answer .replica; log = o .log; masks = o .masks }
 
--- the world after a call at replica i whose state it left
+-- the world after a call at replica i: its state is the one that the call left
 unfoldable pub after : World → ℕ → Outcome → World
 after w i o = record { states = λ j. cond (eqb i j) (some (stateOf o)) (w .states j); past = note i o (w .past) }
 
@@ -98,6 +102,7 @@ callAt w i c (opening id f timeout lastRound log masks entry out) =
 callAt w i none (act a) = w
 callAt w i (some c) (act a) = after w i (answer c a)
 
+-- one call at replica i: its frames are handed in, and it is answered
 unfoldable pub step : World → ℕ → Call → World
 step w i d = callAt (record { states = w .states; past = hand (framesIn d) (w .past) }) i (w .states i) d
 
