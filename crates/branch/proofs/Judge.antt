@@ -1,0 +1,91 @@
+-- The judgements as the code makes them, one refusal at a time. Assumes nothing.
+use mathlib.Core.Path.{_≡_}
+use mathlib.Core.Bool.{Bool, true, false}
+use mathlib.Core.List.{List}
+use mathlib.Core.Option.{Option, none, some}
+use Prim.Native.Nat.{ℕ, _-_, _/_, _%_, _≤_, _<_}
+use native.Mathlib.Omega.{arith}
+use lib.Dec.{leb, ltb}
+use lib.ListN.{length}
+use borrow.Author.Tests.{eq-eqb, ne-eqb, le-leb, lt-leb}
+use Rattle.apollo.specs.declared.Replica.{Replica}
+use Rattle.apollo.specs.Bytes.{part}
+use Rattle.apollo.specs.Setup.{setupOf}
+use Rattle.apollo.specs.Frame.{round}
+use Rattle.apollo.specs.Log.{attach}
+use Rattle.apollo.specs.Branch.{Verdict, firstUncertified}
+use Rattle.log.specs.Branch.{judgedFrames, keepsAll}
+use Rattle.branch.specs.Frames.{framesOf, firstFrame, lastFrame}
+use Rattle.branch.specs.Judge.{refusal, accepted, judgedOn, judgedAt, judgedWhole, isWhole, judgedBranch}
+
+pub short-last : (b : List ℕ) → length b < 512 → part b 0 512 ≡ lastFrame b
+short-last b h =
+    let z : length b - 512 ≡ 0 = omega arith in
+    rw z
+
+-- 6
+module _ (t : ℕ) (b : List ℕ) where
+  pub whole-uneven : (length b % 512 ≡ 0 → ⊥) → false ≡ isWhole t b
+  unfolding isWhole
+  whole-uneven n = rw (ne-eqb (length b % 512) 0 n)
+
+  pub whole-none : length b % 512 ≡ 0 → length b / 512 < 1 → false ≡ isWhole t b
+  unfolding isWhole
+  whole-none e h = rw (eq-eqb (length b % 512) 0 e, lt-leb 1 (length b / 512) h)
+
+  pub whole-some : length b % 512 ≡ 0 → 1 ≤ length b / 512 → leb (length b / 512) t ≡ isWhole t b
+  unfolding isWhole
+  whole-some e h = rw (eq-eqb (length b % 512) 0 e, le-leb 1 (length b / 512) h)
+
+module _ (r : Replica) (log masks b : List ℕ) (w : Bool) (e : w ≡ isWhole (r .«last_round» .0) b) where
+  pub branch-cut : w ≡ false → refusal 6 0 ≡ judgedBranch r log masks b
+  unfolding judgedBranch
+  branch-cut f = rw (← e, f)
+
+  pub branch-whole : w ≡ true → judgedWhole r log masks b ≡ judgedBranch r log masks b
+  unfolding judgedBranch
+  branch-whole t = rw (← e, t)
+
+-- 7, 8, 9 and 10
+module _ (r : Replica) (log masks b : List ℕ) (v : Verdict) (e : v ≡ judgedFrames (setupOf r) (framesOf b)) where
+  pub whole-faulty : (v .number ≡ 0 → ⊥) → refusal (v .number) (v .place) ≡ judgedWhole r log masks b
+  unfolding judgedWhole
+  whole-faulty n = rw (← e, ne-eqb (v .number) 0 n)
+
+  module _ (z : v .number ≡ 0) (s : Bool) (d : s ≡ ltb (round (lastFrame b)) (r .round .0)) where
+    pub whole-stale : s ≡ true → refusal 10 0 ≡ judgedWhole r log masks b
+    unfolding judgedWhole
+    whole-stale t = rw (← e, eq-eqb (v .number) 0 z, ← d, t)
+
+    pub whole-fresh : s ≡ false
+        → judgedAt r log masks b (attach log (firstFrame b) (round (firstFrame b) - 1)) ≡ judgedWhole r log masks b
+    unfolding judgedWhole
+    whole-fresh f = rw (← e, eq-eqb (v .number) 0 z, ← d, f)
+
+-- 11
+module _ (r : Replica) (log masks b x : List ℕ) (q : Option ℕ) (f : x ≡ firstFrame b) (e : q ≡ attach log x (round x - 1)) where
+  pub attached-is : judgedAt r log masks b q ≡ judgedAt r log masks b (attach log (firstFrame b) (round (firstFrame b) - 1))
+  attached-is = rw (e, f)
+
+  pub attached-nowhere : q ≡ none → refusal 11 0 ≡ judgedAt r log masks b (attach log (firstFrame b) (round (firstFrame b) - 1))
+  unfolding judgedAt
+  attached-nowhere n = rw n at attached-is
+
+  pub attached-at : (a : ℕ) → q ≡ some a → judgedOn r log masks b a ≡ judgedAt r log masks b (attach log (firstFrame b) (round (firstFrame b) - 1))
+  unfolding judgedAt
+  attached-at a n = rw n at attached-is
+
+-- 13 and 12
+module _ (r : Replica) (log masks b : List ℕ) (a p : ℕ) (e : p ≡ firstUncertified (setupOf r) masks a (framesOf b)) where
+  pub on-gap : (p ≡ 0 → ⊥) → refusal 13 p ≡ judgedOn r log masks b a
+  unfolding judgedOn
+  on-gap n = rw (← e, ne-eqb p 0 n)
+
+  module _ (z : p ≡ 0) (k : Bool) (d : k ≡ keepsAll log a (framesOf b) (r .«committed_round» .0)) where
+    pub on-reverted : k ≡ false → refusal 12 0 ≡ judgedOn r log masks b a
+    unfolding judgedOn
+    on-reverted f = rw (← e, eq-eqb p 0 z, ← d, f)
+
+    pub on-kept : k ≡ true → accepted a ≡ judgedOn r log masks b a
+    unfolding judgedOn
+    on-kept t = rw (← e, eq-eqb p 0 z, ← d, t)

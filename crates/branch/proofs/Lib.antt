@@ -1,0 +1,5 @@
+pub mod Frames
+pub mod Place
+pub mod Judge
+pub mod Answer
+pub mod Accepted

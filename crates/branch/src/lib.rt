@@ -1,0 +1,128 @@
+// The judgement of a branch that is handed in: refusals 6 to 13, each with its place. Every public function takes any
+// record and slices of any length and content.
+use apollo::Replica;
+use log::Attachment;
+use log::Gap;
+ghost use mathlib.Core.Path.{_≡_};
+ghost use mathlib.Core.Bool.{not};
+ghost use Prim.Native.Nat.{_-_, _*_, _≤_};
+ghost use lib.ListN.{length};
+ghost use lib.Dec.{ltb};
+ghost use Rattle.apollo.specs.Frame as Frame;
+ghost use Rattle.apollo.specs.Log as Log;
+ghost use Rattle.log.specs.Answers.{gapOf};
+ghost use Rattle.branch.specs.Frames as Frames;
+ghost use Rattle.branch.specs.Judge as Judge;
+
+// The refusal of a branch and its place, 0 and 0 if there is none, and then the round that it attaches to.
+pub struct Judged {
+    pub number: u8,
+    pub place: u32,
+    pub attach: u32,
+}
+
+fn refusal(number: u8, place: u32) -> Judged
+    ensures { λ j. ⌜ j ≡ Judge.refusal number place ⌝ }
+{
+    Judged {
+        number,
+        place,
+        attach: 0,
+    }
+}
+
+// The last frame, fewer bytes where there is no whole one.
+pub fn last_frame<'a>(frames: &'a [u8]) -> &'a [u8]
+    ensures { λ x. ⌜ now x ≡ Frames.lastFrame (now (frames .entry)) ⌝ }
+{
+    let n = frames.len();
+    if n < 512 {
+        return frame::part(frames, 0, 512);
+    }
+    frame::part(frames, n - 512, 512)
+}
+
+// 1 to T whole frames.
+fn is_whole(last_round: u32, frames: &[u8]) -> bool
+    ensures { λ b. ⌜ b ≡ Judge.isWhole «last_round» (now (frames .entry)) ⌝ }
+{
+    let n = frames.len() / 512;
+    if frames.len() % 512 != 0 {
+        return false;
+    }
+    if n < 1 {
+        return false;
+    }
+    n <= last_round as usize
+}
+
+// The last round of the branch is below R.
+fn is_stale(round: u32, frames: &[u8]) -> bool
+    ensures { λ b. ⌜ b ≡ ltb (Frame.round (Frames.lastFrame (now (frames .entry)))) round ⌝ }
+{
+    frame::round(last_frame(frames)) < round
+}
+
+// The first skipped round that is not certified, 0 if there is none.
+fn gap_place(gap: Gap) -> u32
+    ensures { λ p. ⌜ p ≡ gapOf gap ⌝ }
+{
+    match gap {
+        Gap::Uncertified(p) => p,
+        Gap::Closed => 0,
+    }
+}
+
+// 13 and 12 of a branch on round a.
+fn judge_on(r: Replica, log: &[u8], masks: &[u16], frames: &[u8], a: u32) -> Judged
+    ensures { λ j. ⌜ j ≡ Judge.judgedOn r (now (log .entry)) (now (masks .entry)) (now (frames .entry)) a ⌝ }
+{
+    let place = gap_place(log::first_uncertified(r.f, masks, a, frames));
+    if place != 0 {
+        return refusal(13, place);
+    }
+    if !log::keeps(log, a, frames, r.committed_round.0) {
+        return refusal(12, 0);
+    }
+    Judged {
+        number: 0,
+        place: 0,
+        attach: a,
+    }
+}
+
+// 11, 13 and 12.
+fn judge_attached(r: Replica, log: &[u8], masks: &[u16], frames: &[u8]) -> Judged
+    ensures { λ j. ⌜ j ≡ Judge.judgedAt r (now (log .entry)) (now (masks .entry)) (now (frames .entry)) (Log.attach (now (log .entry)) (Frames.firstFrame (now (frames .entry))) (Frame.round (Frames.firstFrame (now (frames .entry))) - 1)) ⌝ }
+{
+    let at = log::attach(log, frame::part(frames, 0, 512));
+    match at {
+        Attachment::At(a) => judge_on(r, log, masks, frames, a),
+        Attachment::Nowhere => refusal(11, 0),
+    }
+}
+
+// 7, 8, 9 and 10 of whole frames, and what follows them.
+fn judge_whole(r: Replica, log: &[u8], masks: &[u16], frames: &[u8]) -> Judged
+    requires { ⌜ length (now frames) ≤ 512 * r .«last_round» .0 ⌝ }
+    ensures { λ j. ⌜ j ≡ Judge.judgedWhole r (now (log .entry)) (now (masks .entry)) (now (frames .entry)) ⌝ }
+{
+    let verdict = log::judge(r.f, r.last_round.0, frames);
+    if verdict.number != 0 {
+        return refusal(verdict.number, verdict.place as u32);
+    }
+    if is_stale(r.round.0, frames) {
+        return refusal(10, 0);
+    }
+    judge_attached(r, log, masks, frames)
+}
+
+// A branch judged in place.
+pub fn judge_branch(r: Replica, log: &[u8], masks: &[u16], frames: &[u8]) -> Judged
+    ensures { λ j. ⌜ j ≡ Judge.judgedBranch r (now (log .entry)) (now (masks .entry)) (now (frames .entry)) ⌝ }
+{
+    if !is_whole(r.last_round.0, frames) {
+        return refusal(6, 0);
+    }
+    judge_whole(r, log, masks, frames)
+}

@@ -1,0 +1,6 @@
+pub mod Same
+pub mod Slices
+pub mod Forms
+pub mod Writes
+pub mod Make
+pub mod Facts

@@ -1,0 +1,72 @@
+-- `log::store_each` meets its contract. The loop's invariant: storing the frames that are left makes the log asked for. Assumes nothing.
+use mathlib.Core.Path.{_≡_, refl, ap}
+use Prim.Native.Nat.{_≤_, _-_}
+use lib.ListN.{length}
+use borrow.Author.Needs.{needs}
+use Rattle.apollo.specs.Frame as Frame
+use Rattle.log.specs.Slots.{storeEach}
+use Rattle.log.proofs.Slots.{each-more, each-end}
+use Rattle.log.proofs.Frames.{rest, rest-start}
+use Rattle.log.proofs.store_each.Statement.{statement}
+use Rattle.log.proofs.store_each.Tie as tie
+
+abbrev Inv-loop : tie.InvT-loop
+Inv-loop log₀ frames n i₀ log i = (i ≤ n) × (length log ≡ length log₀) × (storeEach log (rest frames n i) ≡ storeEach log₀ (Frame.frames n frames))
+
+abbrev μ-loop : tie.MeasureT-loop
+μ-loop log₀ frames n i₀ log i = n - i
+
+loop-holds : tie.Need-loop-holds Inv-loop μ-loop
+loop-holds c = (search needs, refl, ap (storeEach _) (rest-start _ _))
+
+mul-start : tie.Need-mul-start Inv-loop μ-loop
+mul-start c = search needs
+
+add-end : tie.Need-add-end Inv-loop μ-loop
+add-end c = search needs
+
+sub-store-frame : tie.Need-sub-store-frame Inv-loop μ-loop
+sub-store-frame c = search needs
+
+part-store-frame-start : tie.Need-part-store-frame-start Inv-loop μ-loop
+part-store-frame-start c = search needs
+
+part-store-frame-end : tie.Need-part-store-frame-end Inv-loop μ-loop
+part-store-frame-end c = search needs
+
+store-frame-requires : tie.Need-store-frame-requires Inv-loop μ-loop
+store-frame-requires c κs = search needs
+
+add-i : tie.Need-add-i Inv-loop μ-loop
+add-i c = search needs
+
+loop-less : tie.Need-loop-less Inv-loop μ-loop
+loop-less c = search needs
+
+loop-again : tie.Need-loop-again Inv-loop μ-loop
+loop-again c = (search needs, search needs, each-more (c .before .before .before .before .before .before .loop .log) (c .before .before .store-frame .last .0) (c .before .before .before .before .before .before .before .before .before .args .frames .now) _ _ (c .before .before .before .before .before .before .loop .i) (c .before .before .before .before .before .loop-test .taken) (c .before .before .store-frame .ensures) (c .before .before .before .before .before .before .loop .inv .2))
+
+same-length : tie.Need-same-length Inv-loop μ-loop
+same-length c = search needs
+
+returns : tie.Need-returns Inv-loop μ-loop
+returns c = each-end (c .before .loop .log) (c .before .before .before .before .args .frames .now) _ _ (c .before .loop .i) (c .loop-test .left) (c .before .loop .inv .2)
+
+pub store-each-spec : {M : Type 1} → statement M
+store-each-spec =
+    tie.close
+    (tie.spec
+    Inv-loop
+    μ-loop
+    loop-holds
+    mul-start
+    add-end
+    sub-store-frame
+    part-store-frame-start
+    part-store-frame-end
+    store-frame-requires
+    add-i
+    loop-less
+    loop-again
+    same-length
+    returns)

@@ -1,0 +1,22 @@
+-- `log::take_branch` meets its contract: what stands above the round is zeroed, then the frames are stored. Assumes nothing.
+use borrow.Author.Needs.{needs}
+use Rattle.log.specs.Slots.{taken}
+use Rattle.log.proofs.take_branch.Statement.{statement}
+use Rattle.log.proofs.take_branch.Tie as tie
+
+clear-above-requires : tie.Need-clear-above-requires
+clear-above-requires c κs = search needs
+
+store-each-requires : tie.Need-store-each-requires
+store-each-requires c κs = search needs
+
+same-length : tie.Need-same-length
+same-length c = search needs
+
+returns : tie.Need-returns
+unfolding taken
+returns c = cc
+
+pub take-branch-spec : {M : Type 1} → statement M
+take-branch-spec =
+    tie.close (tie.spec clear-above-requires store-each-requires same-length returns)

@@ -1,0 +1,23 @@
+-- What the answers of the code mean.
+use mathlib.Core.Option.{Option, none, some}
+use Prim.Native.Nat.{ℕ}
+use Rattle.apollo.specs.Branch as Branch
+use Rattle.log.specs.declared.Attachment.{Attachment}
+use Rattle.log.specs.declared.Attachment.the-variants.{At, Nowhere}
+use Rattle.log.specs.declared.Verdict.{Verdict}
+use Rattle.log.specs.declared.Gap.{Gap}
+use Rattle.log.specs.declared.Gap.the-variants.{Uncertified, Closed}
+
+-- the round that a frame attaches to
+abbrev pub attachOf : Attachment → Option ℕ
+attachOf (At r) = some r
+attachOf Nowhere = none
+
+-- number and place of a refusal
+abbrev pub verdictOf : Verdict → Branch.Verdict
+verdictOf v = record { number = v .number; place = v .place }
+
+-- the first skipped round that is not certified, 0 if none
+abbrev pub gapOf : Gap → ℕ
+gapOf (Uncertified r) = r
+gapOf Closed = 0

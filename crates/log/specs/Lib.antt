@@ -1,0 +1,5 @@
+pub mod Answers
+pub mod Branch
+pub mod Fetch
+pub mod Masks
+pub mod Slots

@@ -1,0 +1,82 @@
+// Reads of a replica: the entry at a committed height, and the chain frames above a height. Every public function takes
+// any record and height, and slices of any length and content.
+use apollo::Fetched;
+use apollo::Height;
+use apollo::Part;
+use apollo::Replica;
+ghost use mathlib.Core.Path.{_≡_};
+ghost use mathlib.Core.Bool.{true};
+ghost use Prim.Native.Nat.{_<_};
+ghost use Rattle.apollo.specs.Calls.{readCall, fetchCall, mayCopy};
+ghost use Rattle.reads.specs.Answers.{noPart, entryPart, noFrames, fetched};
+
+fn no_part(number: u8) -> Part
+    ensures { λ p. ⌜ p ≡ noPart number ⌝ }
+{
+    Part {
+        number,
+        start: 0,
+        length: 0,
+    }
+}
+
+// The part of the log that is the entry in slot r.
+fn entry_part(log: &[u8], r: u32) -> Part
+    requires { ⌜ 0 < r ⌝ }
+    ensures { λ p. ⌜ p ≡ entryPart (now (log .entry)) r ⌝ }
+{
+    let i = (r - 1) as usize;
+    Part {
+        number: 0,
+        start: 512 * i + 44,
+        length: frame::entry_length(log::slot(log, r)),
+    }
+}
+
+// The part of the log that is the entry at a committed height: 2, 15, and taken.
+pub fn read_part(replica: Replica, log: &[u8], height: Height) -> Part
+    ensures { λ p. ⌜ p ≡ readCall replica (now (log .entry)) (height .0) .answer ⌝ }
+{
+    if !record::valid_replica(replica, log) {
+        return no_part(2);
+    }
+    let r = log::lowest(log, height.0, replica.committed_round.0);
+    if r == 0 {
+        return no_part(15);
+    }
+    entry_part(log, r)
+}
+
+// The entry at a committed height, as a part of the lent log, empty if refused.
+pub fn read<'a>(replica: Replica, log: &'a [u8], height: Height, number: &mut u8) -> &'a [u8]
+    ensures { λ x. ⌜ now x ≡ readCall replica (now (log .entry)) (height .0) .bytes ⌝ }
+    ensures { λ _. ⌜ now (number .exit) ≡ readCall replica (now (log .entry)) (height .0) .answer .number ⌝ }
+{
+    let p = read_part(replica, log, height);
+    *number = p.number;
+    frame::part(log, p.start, p.length)
+}
+
+fn no_frames(number: u8) -> Fetched
+    ensures { λ a. ⌜ a ≡ noFrames number ⌝ }
+{
+    Fetched { number, count: 0 }
+}
+
+// The chain frames above a height are copied to the start of the out buffer, as many as fit: 2, 4, 15, and taken.
+pub fn fetch(replica: Replica, log: &[u8], height: Height, out: &mut [u8]) -> Fetched
+    ensures { λ a. ⌜ fetched a (now (out .exit)) ≡ fetchCall replica (now (log .entry)) (height .0) (now (out .entry)) (a .count) ⌝ }
+    ensures { λ a. ⌜ (a .number ≡ 0 → mayCopy replica (now (log .entry)) (height .0) (now (out .entry)) (a .count) ≡ true) ⌝ }
+{
+    if !record::valid_replica(replica, log) {
+        return no_frames(2);
+    }
+    if out.len() < 1024 {
+        return no_frames(4);
+    }
+    let count = log::fetch_frames(log, height.0, replica.last_round.0, out);
+    if count == 0 {
+        return no_frames(15);
+    }
+    Fetched { number: 0, count }
+}

@@ -1,0 +1,20 @@
+-- `record::commit_limit` meets its contract. Assumes nothing.
+use native.Mathlib.Omega.{arith}
+use Rattle.apollo.specs.Enter.{commitLimit}
+use borrow.Author.Needs.{needs}
+use Rattle.record.proofs.commit_limit.Statement.{statement}
+use Rattle.record.proofs.commit_limit.Tie as tie
+
+cast-f : tie.Need-cast-f
+cast-f c = search needs
+
+returns : tie.Need-returns
+unfolding commitLimit
+returns c = omega arith
+
+returns-2 : tie.Need-returns-2
+unfolding commitLimit
+returns-2 c = omega arith
+
+pub commit-limit-spec : {M : Type 1} → statement M
+commit-limit-spec = tie.close (tie.spec cast-f returns returns-2)

@@ -1,0 +1,5 @@
+mod Judge
+mod Own
+mod Enter
+mod Calls
+mod Adoption

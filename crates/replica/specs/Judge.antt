@@ -1,0 +1,36 @@
+-- The number of the first refusal, 0 if there is none.
+use Prim.Native.Nat.{ℕ, _+_}
+use mathlib.Core.List.{List}
+use mathlib.Core.Bool.{_&&_, not, cond}
+use lib.ListN.{length}
+use lib.Dec.{eqb, ltb}
+use Rattle.sha256.specs.Fips.{sha256}
+use Rattle.apollo.specs.declared.Replica.{Replica}
+use Rattle.apollo.specs.Setup.{setupOf}
+use Rattle.apollo.specs.Frame.{signer, round, blameForm, checked}
+use Rattle.apollo.specs.Masks.{bit, mask}
+use Rattle.apollo.specs.Replica.{validSetup, validReplica, validMasks}
+use Rattle.apollo.specs.Refusal.{badSetup, badReplica, roundsOver, outTooShort, entryTooLong, badLength, badDigest, badForm, stale, early}
+
+-- 4 and 5
+unfoldable pub roomNumber : (entry out : List ℕ) → ℕ
+roomNumber entry out = cond (ltb (length out) 1024) outTooShort (cond (ltb 400 (length entry)) entryTooLong 0)
+
+-- 1, 4 and 5 of open
+unfoldable pub openNumber : Replica → (log masks entry out : List ℕ) → ℕ
+openNumber r log masks entry out = cond (not (validSetup r log && validMasks r masks)) badSetup (roomNumber entry out)
+
+-- 2 to 5 of branch, blame and tick
+unfoldable pub guardNumber : Replica → (log masks entry out : List ℕ) → ℕ
+guardNumber r log masks entry out =
+    cond (not (validReplica r log && validMasks r masks)) badReplica
+    (cond (eqb (r .round .0) (r .«last_round» .0 + 1)) roundsOver (roomNumber entry out))
+
+-- 6, 7, 8, 14 and 10 of blame
+unfoldable pub blameNumber : Replica → (masks x : List ℕ) → ℕ
+blameNumber r masks x =
+    cond (eqb (length x) 512)
+    (cond (not (checked sha256 x)) badDigest
+    (cond (not (blameForm (setupOf r) x)) badForm
+    (cond (ltb (r .round .0) (round x)) early (cond (bit (signer x) (mask masks (round x))) stale 0))))
+    badLength
