@@ -1,0 +1,90 @@
+/* The structs lie alike on both sides of the C interface: what a call is handed comes back field by field, and the sizes and offsets are
+ * those that the library's `#[repr(C)]` structs have by their fields. Exits with 0 if all is so. */
+#include "apollo.h"
+
+#include <stdio.h>
+#include <stdlib.h>
+#include <string.h>
+
+#define EXPECT(what)                                          \
+  do {                                                        \
+    if (!(what)) {                                            \
+      printf("line %d: not so: %s\n", __LINE__, #what);       \
+      exit(1);                                                \
+    }                                                         \
+  } while (0)
+
+#define AT(type, field, offset) EXPECT(offsetof(type, field) == (offset))
+
+static void sizes(void) {
+  EXPECT(sizeof(apollo_round) == 4 && sizeof(apollo_height) == 4 && sizeof(apollo_ticks) == 4);
+  EXPECT(sizeof(apollo_replica) == 36);
+  AT(apollo_replica, id, 0);
+  AT(apollo_replica, f, 1);
+  AT(apollo_replica, timeout, 4);
+  AT(apollo_replica, last_round, 8);
+  AT(apollo_replica, round, 12);
+  AT(apollo_replica, timer, 16);
+  AT(apollo_replica, tip_round, 20);
+  AT(apollo_replica, tip_height, 24);
+  AT(apollo_replica, committed_round, 28);
+  AT(apollo_replica, committed_height, 32);
+  EXPECT(sizeof(apollo_answer) == 44);
+  AT(apollo_answer, number, 0);
+  AT(apollo_answer, frames, 1);
+  AT(apollo_answer, leader, 2);
+  AT(apollo_answer, place, 4);
+  AT(apollo_answer, replica, 8);
+  EXPECT(sizeof(apollo_part) == 24);
+  AT(apollo_part, start, 8);
+  AT(apollo_part, length, 16);
+  EXPECT(sizeof(apollo_fetched) == 16);
+  AT(apollo_fetched, count, 8);
+}
+
+/* A record that no call made comes back as it went in, with refusal 2. */
+static void echoed(void) {
+  apollo_replica r = {201, 202, {1000003}, {1000004}, {1000005}, {1000006}, {1000007}, {1000008}, {1000009}, {1000010}};
+  uint8_t log[512] = {0}, out[1024] = {0}, entry[1] = {0};
+  uint16_t masks[1] = {0};
+  apollo_answer a = apollo_tick(r, log, sizeof log, masks, 1, entry, 0, out, sizeof out);
+  EXPECT(a.number == APOLLO_BAD_REPLICA && a.frames == 0 && a.leader == APOLLO_NO_LEADER && a.place == 0);
+  EXPECT(a.replica.id == 201 && a.replica.f == 202 && a.replica.timeout.value == 1000003 && a.replica.last_round.value == 1000004);
+  EXPECT(a.replica.round.value == 1000005 && a.replica.timer.value == 1000006 && a.replica.tip_round.value == 1000007);
+  EXPECT(a.replica.tip_height.value == 1000008 && a.replica.committed_round.value == 1000009);
+  EXPECT(a.replica.committed_height.value == 1000010);
+  apollo_part p = apollo_read(r, log, sizeof log, (apollo_height){1});
+  EXPECT(p.number == APOLLO_BAD_REPLICA && p.start == 0 && p.length == 0);
+  apollo_fetched f = apollo_fetch(r, log, sizeof log, (apollo_height){0}, out, sizeof out);
+  EXPECT(f.number == APOLLO_BAD_REPLICA && f.count == 0);
+}
+
+/* What calls make stands in the right fields: open fills the record, a branch of a bad second frame tells its place, read tells a part. */
+static void filled(void) {
+  enum { T = 3 };
+  uint8_t log[2][512 * T], out[2][1024], frames[1024] = {0}, entry[5] = {'n', 'i', 'g', 'h', 't'};
+  uint16_t masks[2][T];
+  apollo_answer a = apollo_open(0, 1, (apollo_ticks){7}, (apollo_round){T}, log[0], sizeof log[0], masks[0], T, entry, 5, out[0], 1024);
+  EXPECT(a.number == 0 && a.frames == 1 && a.leader == 1 && a.replica.id == 0 && a.replica.f == 1);
+  EXPECT(a.replica.timeout.value == 7 && a.replica.timer.value == 7 && a.replica.last_round.value == T && a.replica.round.value == 2);
+  EXPECT(a.replica.tip_round.value == 1 && a.replica.tip_height.value == 1 && a.replica.committed_round.value == 0);
+  apollo_answer b = apollo_open(1, 1, (apollo_ticks){9}, (apollo_round){T}, log[1], sizeof log[1], masks[1], T, entry, 5, out[1], 1024);
+  EXPECT(b.number == 0 && b.frames == 0 && b.leader == 0 && b.replica.id == 1 && b.replica.timeout.value == 9);
+  memcpy(frames, out[0], 512);
+  apollo_answer c = apollo_branch(b.replica, log[1], sizeof log[1], masks[1], T, frames, 1024, entry, 5, out[1], 1024);
+  EXPECT(c.number == APOLLO_BAD_DIGEST && c.place == 1);
+  c = apollo_branch(b.replica, log[1], sizeof log[1], masks[1], T, frames, 512, entry, 5, out[1], 1024);
+  EXPECT(c.number == 0 && c.frames == 1 && c.leader == 2 && c.replica.committed_round.value == 1 && c.replica.committed_height.value == 1);
+  apollo_part p = apollo_read(c.replica, log[1], sizeof log[1], (apollo_height){1});
+  EXPECT(p.number == 0 && p.start == 44 && p.length == 5 && memcmp(log[1] + p.start, "night", 5) == 0);
+  apollo_fetched f = apollo_fetch(c.replica, log[1], sizeof log[1], (apollo_height){0}, out[0], 1024);
+  EXPECT(f.number == 0 && f.count == 2 && memcmp(out[0], log[1], 1024) == 0);
+}
+
+int main(void) {
+  sizes();
+  echoed();
+  filled();
+  puts("sizes, offsets and values agree");
+  return 0;
+}
