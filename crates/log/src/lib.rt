@@ -96,7 +96,7 @@ pub fn add_blame(masks: &mut [u16], r: u32, i: u8)
 }
 
 // The slots above round r are zeroed.
-pub fn clear_above(log: &mut [u8], r: u32)
+fn clear_above(log: &mut [u8], r: u32)
     ensures { λ _. ⌜ now (log .exit) ≡ Log.clearAbove (now (log .entry)) r ⌝ }
 {
     let a = 512 * (r as usize);
@@ -132,7 +132,7 @@ fn store_frame(log: &mut [u8], x: &[u8])
 }
 
 // Each whole frame is stored in the slot of its round.
-pub fn store_each(log: &mut [u8], frames: &[u8])
+fn store_each(log: &mut [u8], frames: &[u8])
     ensures { λ _. ⌜ now (log .exit) ≡ storeEach (now (log .entry)) (framesOf (now (frames .entry))) ⌝ }
 {
     let n = frames.len() / 512;
@@ -161,7 +161,7 @@ pub fn slot<'a>(log: &'a [u8], r: u32) -> &'a [u8]
 }
 
 // Slot r is filled.
-pub fn is_filled(log: &[u8], r: u32) -> bool
+fn is_filled(log: &[u8], r: u32) -> bool
     ensures { λ b. ⌜ b ≡ Log.filled (Log.slot (now (log .entry)) r) ⌝ }
 {
     if r == 0 {
