@@ -1,10 +1,12 @@
-//! The model against the paper: published digests, the bench sheet, the rehearsal, every refusal.
+//! The library under test against the paper: published digests, the bench sheet, the rehearsal, every refusal. That is the model, or
+//! the archive where APOLLO_LIB names its folder.
 
 use std::collections::VecDeque;
 
 use beside::frame::{self, blame, block, Frame, GENESIS, SIZE};
-use beside::model::{self, leader, shown, Answer, Fetched, Lent, Part, Record, Setup};
-use beside::sha256::{digest, K};
+use beside::library::under_test;
+use beside::model::{leader, shown, slots, Answer, Fetched, Lent, Part, Record, Setup};
+use beside::sha256::K;
 
 /// A card with its buffers.
 struct Card {
@@ -69,7 +71,7 @@ impl Card {
 
     fn try_open(&mut self, own: u8, f: u8, wait: u32, term: u32) -> Answer {
         let setup = Setup { own, f, wait, term };
-        model::open(setup, self.lend())
+        under_test().open(setup, self.lend())
     }
 
     fn keep(&mut self, answer: Answer) -> Answer {
@@ -79,39 +81,39 @@ impl Card {
 
     fn branch(&mut self, frames: &[Frame]) -> Answer {
         let record = self.record;
-        let answer = model::branch(record, frames.as_flattened(), self.lend());
+        let answer = under_test().branch(record, frames.as_flattened(), self.lend());
         self.keep(answer)
     }
 
     fn blame(&mut self, frame: &[u8]) -> Answer {
         let record = self.record;
-        let answer = model::blame(record, frame, self.lend());
+        let answer = under_test().blame(record, frame, self.lend());
         self.keep(answer)
     }
 
     fn tick(&mut self) -> Answer {
         let record = self.record;
-        let answer = model::tick(record, self.lend());
+        let answer = under_test().tick(record, self.lend());
         self.keep(answer)
     }
 
     fn read(&self, height: u32) -> Part {
-        model::read(self.record, &self.log, height)
+        under_test().read(self.record, &self.log, height)
     }
 
     fn fetch(&mut self, height: u32) -> Fetched {
-        model::fetch(self.record, &self.log, height, &mut self.out)
+        under_test().fetch(self.record, &self.log, height, &mut self.out)
     }
 
     fn out_frame(&self, index: usize) -> &Frame {
-        &model::slots(&self.out)[index]
+        &slots(&self.out)[index]
     }
 
     /// The rounds of the line.
     fn line(&self) -> Vec<u32> {
         let rounds = 1..=self.record.term;
         rounds
-            .filter(|&round| frame::filled(&model::slots(&self.log)[round as usize - 1]))
+            .filter(|&round| frame::filled(&slots(&self.log)[round as usize - 1]))
             .collect()
     }
 }
@@ -139,19 +141,19 @@ fn published_digests() {
     let long = b"abcdbcdecdefdefgefghfghighijhijkijkljklmklmnlmnomnopnopq";
     assert_eq!(long.len() * 8, 448);
     assert_eq!(
-        hex(&digest(b"abc")),
+        hex(&under_test().digest(b"abc")),
         "ba7816bf8f01cfea414140de5dae2223b00361a396177a9cb410ff61f20015ad"
     );
     assert_eq!(
-        hex(&digest(b"")),
+        hex(&under_test().digest(b"")),
         "e3b0c44298fc1c149afbf4c8996fb92427ae41e4649b934ca495991b7852b855"
     );
     assert_eq!(
-        hex(&digest(long)),
+        hex(&under_test().digest(long)),
         "248d6a61d20638b8e5c026930c3e6039a33ce45964ff2167f6ecedd419db06c1"
     );
     assert_eq!(
-        hex(&digest(&vec![b'a'; 1_000_000])),
+        hex(&under_test().digest(&vec![b'a'; 1_000_000])),
         "cdc76e5c9914fb9281a1c7e284d73e67f1809a48a497200e046d39ccc7112cd0"
     );
 }
@@ -418,8 +420,8 @@ fn refusal_6_cut() {
     for bytes in [0, 1, 511, 513, 1023, 1025] {
         let mut all = frames.as_flattened().to_vec();
         all.resize(bytes, 0);
-        assert_eq!(told(model::branch(record, &all, card.lend())), (6, 0));
-        assert_eq!(told(model::blame(record, &all, card.lend())), (6, 0));
+        assert_eq!(told(under_test().branch(record, &all, card.lend())), (6, 0));
+        assert_eq!(told(under_test().blame(record, &all, card.lend())), (6, 0));
     }
     let three = [frames[0], frames[1], frames[1]];
     assert_eq!(told(card.branch(&three)), (6, 0), "more than T");
