@@ -1,6 +1,6 @@
 -- The ranges of the fields that a call changes.
-use Prim.Native.Nat.{_+_}
 use mathlib.Core.Bool.{Bool, _&&_}
+use Prim.Native.Nat.{_+_}
 use lib.Dec.{leb, ltb}
 use Rattle.apollo.specs.declared.Replica.{Replica}
 use Rattle.apollo.specs.Bytes.{within}

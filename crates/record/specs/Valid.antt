@@ -1,8 +1,8 @@
 -- What the tests of a record tell, as facts: `Rattle.record.proofs.Valid` has them from the tests.
-use Prim.Native.Nat.{ℕ, _+_, _*_, _≤_, _<_}
 use mathlib.Core.Path.{_≡_}
 use mathlib.Core.Bool.{false}
 use mathlib.Core.List.{List}
+use Prim.Native.Nat.{ℕ, _+_, _*_, _≤_, _<_}
 use lib.ListN.{length}
 use Rattle.apollo.specs.declared.Replica.{Replica}
 use Rattle.apollo.specs.Replica.{leads}

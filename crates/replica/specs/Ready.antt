@@ -1,7 +1,7 @@
 -- What entering a round and taking a branch rest on.
-use Prim.Native.Nat.{ℕ, _+_, _*_, _≤_, _<_}
 use mathlib.Core.Path.{_≡_}
 use mathlib.Core.List.{List}
+use Prim.Native.Nat.{ℕ, _+_, _*_, _≤_, _<_}
 use lib.ListN.{length}
 use Rattle.apollo.specs.declared.Replica.{Replica}
 use Rattle.apollo.specs.Frame.{round, height}

@@ -1,6 +1,6 @@
 -- `record::commit` meets its contract. Assumes nothing.
-use Rattle.apollo.specs.Enter.{commit}
 use borrow.Author.Needs.{needs}
+use Rattle.apollo.specs.Enter.{commit}
 use Rattle.record.proofs.commit.Statement.{statement}
 use Rattle.record.proofs.commit.Tie as tie
 

@@ -1,7 +1,7 @@
 -- `record::commit_limit` meets its contract. Assumes nothing.
 use native.Mathlib.Omega.{arith}
-use Rattle.apollo.specs.Enter.{commitLimit}
 use borrow.Author.Needs.{needs}
+use Rattle.apollo.specs.Enter.{commitLimit}
 use Rattle.record.proofs.commit_limit.Statement.{statement}
 use Rattle.record.proofs.commit_limit.Tie as tie
 

@@ -1,6 +1,6 @@
 -- `record::leads` meets its contract. Assumes nothing.
-use Rattle.record.proofs.Valid.{leads-test}
 use borrow.Author.Needs.{needs}
+use Rattle.record.proofs.Valid.{leads-test}
 use Rattle.record.proofs.leads.Statement.{statement}
 use Rattle.record.proofs.leads.Tie as tie
 

@@ -1,6 +1,6 @@
 -- `record::valid_replica` meets its contract. Assumes nothing.
-use Rattle.record.proofs.Valid.{replica-test}
 use borrow.Author.Needs.{needs}
+use Rattle.record.proofs.Valid.{replica-test}
 use Rattle.record.proofs.valid_replica.Statement.{statement}
 use Rattle.record.proofs.valid_replica.Tie as tie
 

@@ -1,7 +1,7 @@
 -- `record::valid_rounds` meets its contract. Assumes nothing.
 use mathlib.Core.Path.{refl}
-use Rattle.record.specs.Rounds.{validRounds}
 use borrow.Author.Needs.{needs}
+use Rattle.record.specs.Rounds.{validRounds}
 use Rattle.record.proofs.valid_rounds.Statement.{statement}
 use Rattle.record.proofs.valid_rounds.Tie as tie
 

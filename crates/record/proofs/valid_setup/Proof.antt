@@ -1,6 +1,6 @@
 -- `record::valid_setup` meets its contract. Assumes nothing.
-use Rattle.apollo.specs.Replica.{validSetup}
 use borrow.Author.Needs.{needs}
+use Rattle.apollo.specs.Replica.{validSetup}
 use Rattle.record.proofs.valid_setup.Statement.{statement}
 use Rattle.record.proofs.valid_setup.Tie as tie
 

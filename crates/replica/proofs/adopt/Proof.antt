@@ -1,11 +1,11 @@
 -- `replica::adopt` meets its contract. Assumes nothing.
-use Rattle.apollo.specs.Frame.{round}
-use Prim.Native.Nat.{ℕ}
 use mathlib.Core.List.{List}
 use mathlib.Core.Path.{ap}
+use Prim.Native.Nat.{ℕ}
 use native.Mathlib.Omega.{arith}
-use Rattle.replica.proofs.Adoption.{adopt-ready, adopted-outcome}
 use borrow.Author.Needs.{needs}
+use Rattle.apollo.specs.Frame.{round}
+use Rattle.replica.proofs.Adoption.{adopt-ready, adopted-outcome}
 use Rattle.replica.proofs.adopt.Statement.{statement}
 use Rattle.replica.proofs.adopt.Tie as tie
 

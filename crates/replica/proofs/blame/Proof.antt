@@ -1,10 +1,10 @@
 -- `replica::blame` meets its contract. Assumes nothing.
-use Rattle.replica.specs.Call.{state}
-use Rattle.apollo.specs.Blame.{blameWith}
 use mathlib.Core.Path.{sym, _∙_}
+use borrow.Author.Needs.{needs}
+use Rattle.apollo.specs.Blame.{blameWith}
+use Rattle.replica.specs.Call.{state}
 use Rattle.replica.proofs.Calls.{passed-ready, heard-effect, signer-few}
 use Rattle.replica.proofs.Judge.{guard-refused, guard-taken, passed, heard-refused, heard-taken}
-use borrow.Author.Needs.{needs}
 use Rattle.replica.proofs.blame.Statement.{statement}
 use Rattle.replica.proofs.blame.Tie as tie
 

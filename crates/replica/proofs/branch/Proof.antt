@@ -1,11 +1,11 @@
 -- `replica::branch` meets its contract. Assumes nothing.
-use Rattle.replica.specs.Call.{state}
-use Rattle.branch.specs.declared.Judged.{Judged}
 use mathlib.Core.Path.{sym, ap, _∙_}
+use borrow.Author.Needs.{needs}
+use Rattle.branch.specs.declared.Judged.{Judged}
 use Rattle.branch.proofs.Answer.{branch-answer}
+use Rattle.replica.specs.Call.{state}
 use Rattle.replica.proofs.Adoption.{adoptable, judged-refused, judged-taken}
 use Rattle.replica.proofs.Judge.{guard-refused, guard-taken, passed}
-use borrow.Author.Needs.{needs}
 use Rattle.replica.proofs.branch.Statement.{statement}
 use Rattle.replica.proofs.branch.Tie as tie
 

@@ -3,9 +3,9 @@ use mathlib.Core.Path.{_≡_, refl, _∙_}
 use mathlib.Core.List.{_++_}
 use Prim.Native.Nat.{_≤_, _-_}
 use native.Mathlib.Omega.{arith}
+use lib.ListN.{length, drop, replicate}
 use borrow.Author.Fill.{fill-more}
 use borrow.Author.Needs.{needs}
-use lib.ListN.{length, drop, replicate}
 use Rattle.frame.proofs.Writes.{clear-end}
 use Rattle.replica.proofs.clear_masks.Statement.{statement}
 use Rattle.replica.proofs.clear_masks.Tie as tie

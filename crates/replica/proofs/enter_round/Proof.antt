@@ -1,9 +1,9 @@
 -- `replica::enter_round` meets its contract. Assumes nothing.
-use Rattle.apollo.specs.declared.Replica.{Replica}
-use native.Mathlib.Omega.{arith}
 use mathlib.Core.Path.{sym, _∙_, ap}
-use Rattle.replica.proofs.Enter.{leads-last, entered-own, entered-other}
+use native.Mathlib.Omega.{arith}
 use borrow.Author.Needs.{needs}
+use Rattle.apollo.specs.declared.Replica.{Replica}
+use Rattle.replica.proofs.Enter.{leads-last, entered-own, entered-other}
 use Rattle.replica.proofs.enter_round.Statement.{statement}
 use Rattle.replica.proofs.enter_round.Tie as tie
 

@@ -1,14 +1,14 @@
 -- `replica::expire` meets its contract. Assumes nothing.
-use lib.ListN.{length-take, length-drop}
-use Rattle.apollo.specs.declared.Replica.{Replica}
-use native.Mathlib.Omega.{arith}
 use mathlib.Core.Path.{_∙_, ap}
-use borrow.Rule.Slice.PartMut.{same-len-mid}
 use Prim.Native.Nat.{_-_}
+use native.Mathlib.Omega.{arith}
+use lib.ListN.{length-take, length-drop}
 use lib.ListN.{length, length-take, length-drop}
+use borrow.Rule.Slice.PartMut.{same-len-mid}
+use borrow.Author.Needs.{needs}
+use Rattle.apollo.specs.declared.Replica.{Replica}
 use Rattle.replica.proofs.Enter.{frames-few}
 use Rattle.replica.proofs.Calls.{expire-ready, expired}
-use borrow.Author.Needs.{needs}
 use Rattle.replica.proofs.expire.Statement.{statement}
 use Rattle.replica.proofs.expire.Tie as tie
 

@@ -1,6 +1,6 @@
 -- `replica::guard` meets its contract. Assumes nothing.
-use Rattle.replica.proofs.Judge.{guard-record, guard-over, guard-room}
 use borrow.Author.Needs.{needs}
+use Rattle.replica.proofs.Judge.{guard-record, guard-over, guard-room}
 use Rattle.replica.proofs.guard.Statement.{statement}
 use Rattle.replica.proofs.guard.Tie as tie
 

@@ -1,8 +1,8 @@
 -- `replica::judge_blame` meets its contract. Assumes nothing.
-use borrow.Author.Tests.{not-true, not-false}
 use mathlib.Core.Path.{sym, _∙_}
-use Rattle.replica.proofs.Judge.{blame-cut, blame-digest, blame-form, blame-early, blame-stale, blame-new}
+use borrow.Author.Tests.{not-true, not-false}
 use borrow.Author.Needs.{needs}
+use Rattle.replica.proofs.Judge.{blame-cut, blame-digest, blame-form, blame-early, blame-stale, blame-new}
 use Rattle.replica.proofs.judge_blame.Statement.{statement}
 use Rattle.replica.proofs.judge_blame.Tie as tie
 

@@ -1,6 +1,6 @@
 -- `replica::judge_open` meets its contract. Assumes nothing.
-use Rattle.replica.proofs.Judge.{open-setup, open-room}
 use borrow.Author.Needs.{needs}
+use Rattle.replica.proofs.Judge.{open-setup, open-room}
 use Rattle.replica.proofs.judge_open.Statement.{statement}
 use Rattle.replica.proofs.judge_open.Tie as tie
 

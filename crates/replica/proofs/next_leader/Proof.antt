@@ -1,6 +1,6 @@
 -- `replica::next_leader` meets its contract. Assumes nothing.
-use Rattle.replica.proofs.Enter.{no-leader, some-leader}
 use borrow.Author.Needs.{needs}
+use Rattle.replica.proofs.Enter.{no-leader, some-leader}
 use Rattle.replica.proofs.next_leader.Statement.{statement}
 use Rattle.replica.proofs.next_leader.Tie as tie
 

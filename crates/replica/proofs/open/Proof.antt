@@ -1,8 +1,8 @@
 -- `replica::open` meets its contract. Assumes nothing.
 use mathlib.Core.Path.{sym, _∙_}
+use borrow.Author.Needs.{needs}
 use Rattle.replica.proofs.Calls.{open-refused, open-taken, open-ready}
 use Rattle.replica.proofs.Judge.{opened}
-use borrow.Author.Needs.{needs}
 use Rattle.replica.proofs.open.Statement.{statement}
 use Rattle.replica.proofs.open.Tie as tie
 

@@ -1,9 +1,9 @@
 -- `replica::propose` meets its contract. Assumes nothing.
-use native.Mathlib.Omega.{arith}
 use mathlib.Core.Path.{refl}
+use native.Mathlib.Omega.{arith}
 use lib.ListN.{length-take}
-use Rattle.replica.proofs.Own.{tipped-f, proposed-outcome}
 use borrow.Author.Needs.{needs}
+use Rattle.replica.proofs.Own.{tipped-f, proposed-outcome}
 use Rattle.replica.proofs.propose.Statement.{statement}
 use Rattle.replica.proofs.propose.Tie as tie
 

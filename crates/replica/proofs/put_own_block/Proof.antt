@@ -1,6 +1,6 @@
 -- `replica::put_own_block` meets its contract. Assumes nothing.
-use Rattle.replica.proofs.Own.{genesis-digest, slot-digest, own-block}
 use borrow.Author.Needs.{needs}
+use Rattle.replica.proofs.Own.{genesis-digest, slot-digest, own-block}
 use Rattle.replica.proofs.put_own_block.Statement.{statement}
 use Rattle.replica.proofs.put_own_block.Tie as tie
 

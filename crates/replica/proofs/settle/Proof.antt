@@ -1,8 +1,8 @@
 -- `replica::settle` meets its contract. Assumes nothing.
-use borrow.Author.Tests.{not-true, not-false}
 use mathlib.Core.Path.{sym, _∙_}
-use Rattle.replica.proofs.Enter.{next-ready, settled-other, settled-still, settled-next}
+use borrow.Author.Tests.{not-true, not-false}
 use borrow.Author.Needs.{needs}
+use Rattle.replica.proofs.Enter.{next-ready, settled-other, settled-still, settled-next}
 use Rattle.replica.proofs.settle.Statement.{statement}
 use Rattle.replica.proofs.settle.Tie as tie
 

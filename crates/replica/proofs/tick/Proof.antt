@@ -1,11 +1,11 @@
 -- `replica::tick` meets its contract. Assumes nothing.
+use mathlib.Core.Path.{sym, _∙_, ap}
+use native.Mathlib.Omega.{arith}
+use borrow.Author.Needs.{needs}
 use Rattle.apollo.specs.declared.Replica.{Replica}
 use Rattle.apollo.specs.Tick.{tickWith}
-use native.Mathlib.Omega.{arith}
-use mathlib.Core.Path.{sym, _∙_, ap}
 use Rattle.replica.proofs.Calls.{passed-ready, ticked-none, ticked-out, ticked-down}
 use Rattle.replica.proofs.Judge.{guard-refused, guard-taken, passed}
-use borrow.Author.Needs.{needs}
 use Rattle.replica.proofs.tick.Statement.{statement}
 use Rattle.replica.proofs.tick.Tie as tie
 

@@ -1,6 +1,6 @@
 -- `replica::tipped` meets its contract. Assumes nothing.
-use Rattle.replica.proofs.Own.{tipped-steps}
 use borrow.Author.Needs.{needs}
+use Rattle.replica.proofs.Own.{tipped-steps}
 use Rattle.replica.proofs.tipped.Statement.{statement}
 use Rattle.replica.proofs.tipped.Tie as tie
 
