@@ -11,7 +11,7 @@ use borrow.Author.Tests.{lt-ltb, eq-eqb, ne-eqb, eqb-true, eqb-false}
 use Rattle.sha256.specs.Fips.{sha256}
 use Rattle.apollo.specs.declared.Replica.{Replica}
 use Rattle.apollo.specs.Bytes.{zeros}
-use Rattle.apollo.specs.Setup.{Setup, setupOf, leader}
+use Rattle.apollo.specs.Setup.{Setup, setupOf, leader, setup}
 use Rattle.apollo.specs.Frame.{round, height, linked}
 use Rattle.apollo.specs.Log.{genesis, slot, filled, store, clearAbove, attach}
 use Rattle.apollo.specs.Masks.{mask, certified, gap}
@@ -20,7 +20,7 @@ use Rattle.apollo.specs.Enter.{State, Effect, commit, tipped, waiting, h
 use Rattle.apollo.specs.Outcome.{refused, taken}
 use Rattle.apollo.specs.Branch.{lastOf, childOf, firstUncertified, storeAll, grown, adopting, placed}
 use Rattle.apollo.specs.Calls.{branchCall}
-use Rattle.apollo.specs.BenchSheet.{setup, Callable, ParentIn, Item9, Item10, Held, number, place, newRound, block, blocks}
+use Rattle.apollo.specs.BenchSheet.{Callable, ParentIn, Item9, Item10, Held, number, place, newRound, block, blocks}
 use Rattle.apollo.proofs.Tests.{and-true, both, cond-true, cond-false, same-of, different}
 use Rattle.apollo.proofs.Validity.{Facts, facts}
 use Rattle.apollo.proofs.Slots.{slot-length, length-store, store-same, store-other, length-clear, clear-low, clear-high, take-slots, slot-take}

@@ -5,11 +5,11 @@ use mathlib.Core.List.{List, [], _∷_, _++_}
 use mathlib.Core.Bool.{Bool, true, false, cond}
 use Rattle.apollo.specs.declared.Replica.{Replica}
 use Rattle.apollo.specs.Bytes.{number4, zeros}
-use Rattle.apollo.specs.Setup.{Setup, leader}
+use Rattle.apollo.specs.Setup.{Setup, leader, setup}
 use Rattle.apollo.specs.Log.{genesis, slot, filled, highest}
 use Rattle.apollo.specs.Masks.{bit, count, mask, certified}
 use Rattle.apollo.specs.Enter.{commitLimit, commit}
-use Rattle.apollo.specs.BenchSheet.{setup, chainRounds, committedRound, committedHeight}
+use Rattle.apollo.specs.BenchSheet.{chainRounds, committedRound, committedHeight}
 
 pub leaders : (T : ℕ)
     → (leader (setup 1 T) 1 ≡ 0) × (leader (setup 1 T) 3 ≡ 2) × (leader (setup 1 T) 4 ≡ 0) × (leader (setup 7 T) 16 ≡ 0)

@@ -12,7 +12,7 @@ use borrow.Author.Tests.{lt-ltb, le-ltb, eq-eqb}
 use Rattle.sha256.specs.Fips.{sha256}
 use Rattle.apollo.specs.declared.Replica.{Replica}
 use Rattle.apollo.specs.Bytes.{number4, zeros}
-use Rattle.apollo.specs.Setup.{leader}
+use Rattle.apollo.specs.Setup.{leader, setup}
 use Rattle.apollo.specs.Frame.{round, height, digest, sealed, blockHead, makeBlock}
 use Rattle.apollo.specs.Log.{slot, genesis, store, highest}
 use Rattle.apollo.specs.Replica.{fresh, zeroReplica, leads, validSetup, validReplica, validMasks}
@@ -21,7 +21,7 @@ use Rattle.apollo.specs.Outcome.{Outcome, refused, taken, guarded}
 use Rattle.apollo.specs.Open.{openWith}
 use Rattle.apollo.specs.Tick.{tickWith}
 use Rattle.apollo.specs.Calls.{openCall, tickCall}
-use Rattle.apollo.specs.BenchSheet.{setup, after, number, newRound, block}
+use Rattle.apollo.specs.BenchSheet.{after, number, newRound, block}
 use Rattle.apollo.proofs.Tests.{both, cond-true, cond-false}
 use Rattle.apollo.proofs.Validity.{SetupFacts, setup-facts, valid-of}
 use Rattle.apollo.proofs.Slots.{length-zeros, length-store}

@@ -1,6 +1,7 @@
 -- The bench sheet of document 01, whole. Assumes nothing.
 use mathlib.Core.Path.{refl}
-use Rattle.apollo.specs.BenchSheet.{BenchSheet, setup}
+use Rattle.apollo.specs.Setup.{setup}
+use Rattle.apollo.specs.BenchSheet.{BenchSheet}
 use Rattle.apollo.proofs.BenchCommit.{leaders, chain-1-2, chain-1, chain-1-3, chain-1-2-3, mask-3, mask-1, mask-21}
 use Rattle.apollo.proofs.BenchRefusals.{ends-in-2, ends-in-3, branch-400, blame-400, tick-400, branch-401, blame-401, tick-401}
 use Rattle.apollo.proofs.BenchTicks.{first-blames, second-blames}

@@ -8,14 +8,14 @@ use lib.Seq.{take-at}
 use borrow.Author.Tests.{eq-eqb, ne-eqb}
 use Rattle.sha256.specs.Fips.{sha256}
 use Rattle.apollo.specs.declared.Ticks.{Ticks}
-use Rattle.apollo.specs.Setup.{setupOf}
+use Rattle.apollo.specs.Setup.{setupOf, setup}
 use Rattle.apollo.specs.Frame.{round, sealed, blameHead, makeBlame}
 use Rattle.apollo.specs.Replica.{leads, withRound, withTimer}
 use Rattle.apollo.specs.Enter.{State, Effect, waiting, hearing, settle}
 use Rattle.apollo.specs.Outcome.{Outcome, taken}
 use Rattle.apollo.specs.Tick.{blaming, ticked, tickWith}
 use Rattle.apollo.specs.Calls.{tickCall}
-use Rattle.apollo.specs.BenchSheet.{setup, Callable, Blames, after, number}
+use Rattle.apollo.specs.BenchSheet.{Callable, Blames, after, number}
 use Rattle.apollo.proofs.Tests.{cond-true, cond-false}
 use Rattle.apollo.proofs.Validity.{SetupFacts, Facts, facts, valid-of}
 use Rattle.apollo.proofs.Judging.{passes}

@@ -10,14 +10,14 @@ use borrow.Author.Tests.{lt-ltb, eq-eqb, ne-eqb, eqb-true, eqb-false}
 use Rattle.sha256.specs.Fips.{sha256}
 use Rattle.apollo.specs.declared.Replica.{Replica}
 use Rattle.apollo.specs.Bytes.{number4, zeros, same}
-use Rattle.apollo.specs.Setup.{setupOf, leader}
+use Rattle.apollo.specs.Setup.{setupOf, leader, setup}
 use Rattle.apollo.specs.Frame.{kind, round, height, parent, digest, linked, makeBlock}
 use Rattle.apollo.specs.Log.{genesis, slot, filled, store, highest}
 use Rattle.apollo.specs.Masks.{mask}
 use Rattle.apollo.specs.Replica.{leads, withCommitted}
 use Rattle.apollo.specs.Enter.{State, commitLimit, commit}
 use Rattle.apollo.specs.Branch.{childOf}
-use Rattle.apollo.specs.BenchSheet.{setup, chainRounds, Callable, ParentIn, Item9, Item10, Held, block, blocks}
+use Rattle.apollo.specs.BenchSheet.{chainRounds, Callable, ParentIn, Item9, Item10, Held, block, blocks}
 use Rattle.apollo.proofs.Tests.{both, cond-true, same-of}
 use Rattle.apollo.proofs.Validity.{valid-of}
 use Rattle.apollo.proofs.Slots.{length-zeros, length-store, store-same, store-other}

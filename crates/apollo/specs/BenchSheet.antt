@@ -8,7 +8,7 @@ use lib.ListN.{length, take}
 use lib.Dec.{eqb}
 use Rattle.sha256.specs.Fips.{sha256}
 use Rattle.apollo.specs.declared.Replica.{Replica}
-use Rattle.apollo.specs.Setup.{Setup, setupOf, leader}
+use Rattle.apollo.specs.Setup.{Setup, setup, setupOf, leader}
 use Rattle.apollo.specs.Frame.{signer, round, blockForm, blameForm, linked, checked}
 use Rattle.apollo.specs.Log.{genesis, slot, filled}
 use Rattle.apollo.specs.Masks.{mask, certified}
@@ -17,10 +17,6 @@ use Rattle.apollo.specs.Enter.{State, commit}
 use Rattle.apollo.specs.Outcome.{Outcome}
 use Rattle.apollo.specs.Branch.{lastOf, childOf}
 use Rattle.apollo.specs.Calls.{openCall, branchCall, blameCall, tickCall}
-
--- f and T
-abbrev pub setup : (f lastRound : ℕ) → Setup
-setup f lastRound = record { f = f; lastRound = lastRound }
 
 -- the rounds of the chain (line) up to round r
 unfoldable pub chainRounds : (log : List ℕ) (r : ℕ) → List ℕ

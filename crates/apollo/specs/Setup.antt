@@ -7,6 +7,10 @@ pub record Setup : Type 0 where
   pub f : ℕ
   pub lastRound : ℕ
 
+-- the set-up from its numbers
+abbrev pub setup : (f lastRound : ℕ) → Setup
+setup f lastRound = record { f = f; lastRound = lastRound }
+
 -- the set-up in a record
 abbrev pub setupOf : Replica → Setup
 setupOf r = record { f = r .f; lastRound = r .«last_round» .0 }

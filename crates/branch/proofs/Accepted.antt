@@ -13,8 +13,10 @@ use Rattle.apollo.specs.Setup.{setupOf}
 use Rattle.apollo.specs.Frame.{round, frames}
 use Rattle.apollo.specs.Log.{attach}
 use Rattle.apollo.specs.Branch.{Verdict, lastOf, firstUncertified}
-use Rattle.log.specs.Branch.{judgedFrames, keepsAll, Ordered}
-use Rattle.log.proofs.Ordered.{ordered}
+use Rattle.chain.specs.Judged.{judgedFrames}
+use Rattle.span.specs.Keeps.{keepsAll}
+use Rattle.chain.specs.Ordered.{Ordered}
+use Rattle.chain.proofs.Ordered.{ordered}
 use Rattle.branch.specs.declared.Judged.{Judged}
 use Rattle.branch.specs.Frames.{framesOf, firstFrame, lastFrame}
 use Rattle.branch.specs.Judge.{refusal, accepted, judgedOn, judgedAt, judgedWhole, isWhole, judgedBranch}

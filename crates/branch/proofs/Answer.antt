@@ -16,9 +16,11 @@ use Rattle.apollo.specs.Replica.{validReplica, validMasks}
 use Rattle.apollo.specs.Enter.{State, Effect}
 use Rattle.apollo.specs.Outcome.{Outcome, refused, taken, guarded}
 use Rattle.apollo.specs.Branch.{lastOf, firstUncertified, judgedAll, adopting, placed, branched, branchWith}
-use Rattle.log.specs.Branch.{judgedFrames, keepsAll, Ordered}
-use Rattle.log.proofs.Ordered.{ordered}
-use Rattle.log.proofs.Grown.{taken-grown, keeps-grown}
+use Rattle.chain.specs.Judged.{judgedFrames}
+use Rattle.span.specs.Keeps.{keepsAll}
+use Rattle.chain.specs.Ordered.{Ordered}
+use Rattle.chain.proofs.Ordered.{ordered}
+use Rattle.span.proofs.Grown.{taken-grown, keeps-grown}
 use Rattle.record.specs.Valid.{Valid}
 use Rattle.record.proofs.Valid.{valid}
 use Rattle.branch.specs.declared.Judged.{Judged}

@@ -14,7 +14,8 @@ use Rattle.apollo.specs.Setup.{setupOf}
 use Rattle.apollo.specs.Frame.{round}
 use Rattle.apollo.specs.Log.{attach}
 use Rattle.apollo.specs.Branch.{Verdict, firstUncertified}
-use Rattle.log.specs.Branch.{judgedFrames, keepsAll}
+use Rattle.chain.specs.Judged.{judgedFrames}
+use Rattle.span.specs.Keeps.{keepsAll}
 use Rattle.branch.specs.Frames.{framesOf, firstFrame, lastFrame}
 use Rattle.branch.specs.Judge.{refusal, accepted, judgedOn, judgedAt, judgedWhole, isWhole, judgedBranch}
 

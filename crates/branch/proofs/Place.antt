@@ -9,7 +9,7 @@ use Rattle.sha256.specs.Fips.{sha256}
 use Rattle.apollo.specs.Setup.{Setup}
 use Rattle.apollo.specs.Frame.{frames}
 use Rattle.apollo.specs.Branch.{Verdict, childOf, faulty, judged, judgedAll}
-use Rattle.log.specs.Branch.{judgedFrames}
+use Rattle.chain.specs.Judged.{judgedFrames}
 use Rattle.branch.proofs.Frames.{frames-length}
 
 place-step : (z c : Bool) (i m k : ℕ) (v : Verdict) → v .place ≤ i + 1 + m

@@ -15,7 +15,8 @@ use Rattle.apollo.specs.Enter.{State, Effect, holding, enterRound}
 use Rattle.apollo.specs.Outcome as Outcome
 use Rattle.apollo.specs.Branch.{Verdict, firstUncertified}
 use Rattle.apollo.specs.Refusal.{badLength, stale, unattached, revertsCommitted, notCertified}
-use Rattle.log.specs.Branch.{judgedFrames, keepsAll}
+use Rattle.chain.specs.Judged.{judgedFrames}
+use Rattle.span.specs.Keeps.{keepsAll}
 use Rattle.log.specs.Slots.{taken}
 use Rattle.branch.specs.declared.Judged.{Judged}
 use Rattle.branch.specs.Frames.{framesOf, firstFrame, lastFrame}

@@ -1,15 +1,15 @@
 // The judgement of a branch that is handed in: refusals 6 to 13, each with its place. Every public function takes any
 // record and slices of any length and content.
 use apollo::Replica;
-use log::Attachment;
-use log::Gap;
+use chain::Attachment;
+use span::Gap;
 ghost use mathlib.Core.Path.{_≡_};
 ghost use Prim.Native.Nat.{_-_, _*_, _≤_};
 ghost use lib.ListN.{length};
 ghost use lib.Dec.{ltb};
 ghost use Rattle.apollo.specs.Frame as Frame;
 ghost use Rattle.apollo.specs.Log as Log;
-ghost use Rattle.log.specs.Answers.{gapOf};
+ghost use Rattle.span.specs.Answers.{gapOf};
 ghost use Rattle.branch.specs.Frames as Frames;
 ghost use Rattle.branch.specs.Judge as Judge;
 
@@ -36,9 +36,9 @@ pub fn last_frame<'a>(frames: &'a [u8]) -> &'a [u8]
 {
     let n = frames.len();
     if n < 512 {
-        return frame::part(frames, 0, 512);
+        return slices::part(frames, 0, 512);
     }
-    frame::part(frames, n - 512, 512)
+    slices::part(frames, n - 512, 512)
 }
 
 // 1 to T whole frames.
@@ -76,11 +76,11 @@ fn gap_place(gap: Gap) -> u32
 fn judge_on(r: Replica, log: &[u8], masks: &[u16], frames: &[u8], a: u32) -> Judged
     ensures { λ j. ⌜ j ≡ Judge.judgedOn r (now (log .entry)) (now (masks .entry)) (now (frames .entry)) a ⌝ }
 {
-    let place = gap_place(log::first_uncertified(r.f, masks, a, frames));
+    let place = gap_place(span::first_uncertified(r.f, masks, a, frames));
     if place != 0 {
         return refusal(13, place);
     }
-    if !log::keeps(log, a, frames, r.committed_round.0) {
+    if !span::keeps(log, a, frames, r.committed_round.0) {
         return refusal(12, 0);
     }
     Judged {
@@ -94,7 +94,7 @@ fn judge_on(r: Replica, log: &[u8], masks: &[u16], frames: &[u8], a: u32) -> Jud
 fn judge_attached(r: Replica, log: &[u8], masks: &[u16], frames: &[u8]) -> Judged
     ensures { λ j. ⌜ j ≡ Judge.judgedAt r (now (log .entry)) (now (masks .entry)) (now (frames .entry)) (Log.attach (now (log .entry)) (Frames.firstFrame (now (frames .entry))) (Frame.round (Frames.firstFrame (now (frames .entry))) - 1)) ⌝ }
 {
-    let at = log::attach(log, frame::part(frames, 0, 512));
+    let at = chain::attach(log, slices::part(frames, 0, 512));
     match at {
         Attachment::At(a) => judge_on(r, log, masks, frames, a),
         Attachment::Nowhere => refusal(11, 0),
@@ -106,7 +106,7 @@ fn judge_whole(r: Replica, log: &[u8], masks: &[u16], frames: &[u8]) -> Judged
     requires { ⌜ length (now frames) ≤ 512 * r .«last_round» .0 ⌝ }
     ensures { λ j. ⌜ j ≡ Judge.judgedWhole r (now (log .entry)) (now (masks .entry)) (now (frames .entry)) ⌝ }
 {
-    let verdict = log::judge(r.f, r.last_round.0, frames);
+    let verdict = chain::judge(r.f, r.last_round.0, frames);
     if verdict.number != 0 {
         return refusal(verdict.number, verdict.place as u32);
     }

@@ -1,10 +1,3 @@
-pub mod Fetched
 pub mod Frames
-pub mod Grown
-pub mod Judged
-pub mod Kept
-pub mod Masks
-pub mod Ordered
 pub mod Search
 pub mod Slots
-pub mod Walk

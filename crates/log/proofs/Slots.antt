@@ -11,7 +11,7 @@ use borrow.Author.Tests.{eq-eqb, ne-eqb, le-leb, lt-leb}
 use Rattle.apollo.specs.Bytes.{zeros}
 use Rattle.apollo.specs.Log.{store, clearAbove}
 use Rattle.apollo.specs.Frame.{round}
-use Rattle.frame.specs.Put.{copied}
+use Rattle.slices.specs.Copy.{copied}
 use Rattle.log.specs.Slots.{storeAt, storeEach}
 use Rattle.log.proofs.Frames.{rest, rest-next, rest-end, frame-part}
 

@@ -1,5 +1,1 @@
-pub mod Answers
-pub mod Branch
-pub mod Fetch
-pub mod Masks
 pub mod Slots

@@ -124,7 +124,7 @@ fn set_replica(t: Table, l: Line, i: usize, log: &mut [u8], masks: &mut [u16]) -
     if !is_setup(l, 2) {
         return passed_over(t);
     }
-    frame::clear(log);
+    slices::clear(log);
     clear_masks(masks);
     let mut next = t;
     let r = replica_at(l, 2);
@@ -136,7 +136,7 @@ fn set_replica(t: Table, l: Line, i: usize, log: &mut [u8], masks: &mut [u16]) -
 fn set_slot(t: Table, l: Line, log: &mut [u8], bytes: &[u8]) -> Table {
     let n = l.numbers;
     let round = n[2];
-    let x = frame::part(bytes, 0, l.first);
+    let x = slices::part(bytes, 0, l.first);
     if (round == 0) | (9 < round) | (x.len() != 512) {
         return passed_over(t);
     }
@@ -241,14 +241,14 @@ fn answer(
     out: &mut [u8],
 ) -> Answer {
     let letter = l.letter;
-    let entry = frame::part(bytes, 0, l.first);
+    let entry = slices::part(bytes, 0, l.first);
     if letter == b'o' {
         return open(l, log, masks, entry, out);
     }
     if letter == b't' {
         return replica::tick(r, log, masks, entry, out);
     }
-    let frames = frame::part(bytes, 512, l.second);
+    let frames = slices::part(bytes, 512, l.second);
     if letter == b'v' {
         return replica::blame(r, log, masks, frames, entry, out);
     }
@@ -375,7 +375,7 @@ fn end_line(t: Table, logs: &mut [u8], masks: &mut [u16], bytes: &[u8]) -> Table
     }
     let letter = l.letter;
     if letter == b'n' {
-        frame::clear(logs);
+        slices::clear(logs);
         clear_masks(masks);
         return new_table(next.lines);
     }
@@ -383,7 +383,7 @@ fn end_line(t: Table, logs: &mut [u8], masks: &mut [u16], bytes: &[u8]) -> Table
         return give(next, l);
     }
     if letter == b'h' {
-        return told(next, print::digest(frame::part(bytes, 0, l.first)));
+        return told(next, print::digest(slices::part(bytes, 0, l.first)));
     }
     single(next, l, logs, masks, bytes)
 }

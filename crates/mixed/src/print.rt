@@ -15,7 +15,7 @@ fn put(text: &mut [u8], at: usize, s: &[u8]) -> usize
     if text.len() - at < s.len() {
         return at;
     }
-    frame::copy(&mut text[at..], s);
+    slices::copy(&mut text[at..], s);
     at + s.len()
 }
 

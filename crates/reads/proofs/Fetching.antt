@@ -10,7 +10,7 @@ use Rattle.apollo.specs.declared.Replica.{Replica}
 use Rattle.apollo.specs.declared.Fetched.{Fetched}
 use Rattle.apollo.specs.Replica.{validReplica}
 use Rattle.apollo.specs.Fetch.{fetchable, mayCopy, fetchCall}
-use Rattle.log.specs.Fetch.{tall}
+use Rattle.heights.specs.Fetch.{tall}
 use Rattle.record.proofs.Valid.{valid}
 use Rattle.reads.specs.Answers.{noFrames, fetched}
 

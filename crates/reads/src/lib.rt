@@ -40,7 +40,7 @@ pub fn read_part(replica: Replica, log: &[u8], height: Height) -> Part
     if !record::valid_replica(replica, log) {
         return no_part(2);
     }
-    let r = log::lowest(log, height.0, replica.committed_round.0);
+    let r = heights::lowest(log, height.0, replica.committed_round.0);
     if r == 0 {
         return no_part(15);
     }
@@ -54,7 +54,7 @@ pub fn read<'a>(replica: Replica, log: &'a [u8], height: Height, number: &mut u8
 {
     let p = read_part(replica, log, height);
     *number = p.number;
-    frame::part(log, p.start, p.length)
+    slices::part(log, p.start, p.length)
 }
 
 fn no_frames(number: u8) -> Fetched
@@ -74,7 +74,7 @@ pub fn fetch(replica: Replica, log: &[u8], height: Height, out: &mut [u8]) -> Fe
     if out.len() < 1024 {
         return no_frames(4);
     }
-    let count = log::fetch_frames(log, height.0, replica.last_round.0, out);
+    let count = heights::fetch_frames(log, height.0, replica.last_round.0, out);
     if count == 0 {
         return no_frames(15);
     }

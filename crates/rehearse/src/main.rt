@@ -61,11 +61,11 @@ fn send(t: Table, j: usize, frames: u8, out: &[u8], queues: &mut [u8]) -> Table
     if frames == 0 {
         return t;
     }
-    let next = join(t, j, frame::part(out, 0, 512), queues);
+    let next = join(t, j, slices::part(out, 0, 512), queues);
     if frames == 1 {
         return next;
     }
-    join(next, j, frame::part(out, 512, 512), queues)
+    join(next, j, slices::part(out, 512, 512), queues)
 }
 
 // Replica i's record is kept, and what it emitted joins the queues of the other two.

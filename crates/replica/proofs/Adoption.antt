@@ -16,8 +16,8 @@ use Rattle.apollo.specs.Log.{attach}
 use Rattle.apollo.specs.Enter.{State, commit, tipped, holding, enterRound}
 use Rattle.apollo.specs.Outcome.{Outcome, refused, taken}
 use Rattle.apollo.specs.Branch.{Verdict, lastOf, childOf, faulty, judged, judgedAll}
-use Rattle.frame.proofs.Facts.{BlockFields, block-fields}
-use Rattle.log.specs.Branch.{judgedFrames}
+use Rattle.forms.proofs.Facts.{BlockFields, block-fields}
+use Rattle.chain.specs.Judged.{judgedFrames}
 use Rattle.log.specs.Slots as Slots
 use Rattle.branch.specs.declared.Judged.{Judged}
 use Rattle.branch.specs.Frames.{framesOf, firstFrame, lastFrame}

@@ -21,11 +21,11 @@ use Rattle.apollo.specs.Enter.{State, Effect, waiting, hearing, enterRound, set
 use Rattle.apollo.specs.Outcome.{Outcome, refused, taken}
 use Rattle.apollo.specs.Open.{openWith}
 use Rattle.apollo.specs.Tick.{blaming, ticked}
-use Rattle.frame.specs.Put.{putBlame}
-use Rattle.frame.proofs.Same.{length-zeros}
-use Rattle.frame.proofs.Facts.{blame-fields}
-use Rattle.frame.proofs.Make.{length-blame, put-blame-fits}
-use Rattle.log.specs.Masks.{addBlame16}
+use Rattle.writing.specs.Put.{putBlame}
+use Rattle.slices.proofs.Same.{length-zeros}
+use Rattle.forms.proofs.Facts.{blame-fields}
+use Rattle.writing.proofs.Make.{length-blame, put-blame-fits}
+use Rattle.masks.specs.Masks.{addBlame16}
 use Rattle.replica.specs.Call.{state, outcome, takenAnswer, refusedAnswer}
 use Rattle.replica.specs.Judge.{roomNumber, openNumber, blameNumber}
 use Rattle.replica.specs.Ready.{Ready}

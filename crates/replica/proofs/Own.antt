@@ -14,8 +14,8 @@ use Rattle.apollo.specs.Log.{genesis, slot, store}
 use Rattle.apollo.specs.Replica.{withRound, withTimer, withTip}
 use Rattle.apollo.specs.Enter.{commit, tipped, holding, ownBlock, proposing}
 use Rattle.apollo.specs.Outcome.{taken}
-use Rattle.frame.specs.Put.{putBlock}
-use Rattle.frame.proofs.Make.{length-block, put-block-fits}
+use Rattle.writing.specs.Put.{putBlock}
+use Rattle.writing.proofs.Make.{length-block, put-block-fits}
 use Rattle.log.specs.Slots.{slotPart, storeAt}
 use Rattle.log.proofs.Search.{slot-part}
 use Rattle.log.proofs.Slots.{store-fits}

@@ -80,11 +80,11 @@ fn put_own_block(r: Replica, log: &[u8], entry: &[u8], out: &mut [u8])
     let height = r.tip_height.0 + 1;
     if tip == 0 {
         let genesis = [0u8; 32];
-        frame::put_block(out, r.id, round, height, &genesis, entry);
+        writing::put_block(out, r.id, round, height, &genesis, entry);
         return;
     }
-    let parent = frame::part(log::slot(log, tip), 480, 32);
-    frame::put_block(out, r.id, round, height, parent, entry);
+    let parent = slices::part(log::slot(log, tip), 480, 32);
+    writing::put_block(out, r.id, round, height, parent, entry);
 }
 
 // The block for R is emitted, stored and made the tip.
@@ -125,7 +125,7 @@ fn settle(
     if round != r.round.0 {
         return taken(r, 0);
     }
-    if !log::certified(r.f, masks, round) {
+    if !masks::certified(r.f, masks, round) {
         return taken(r, 0);
     }
     enter_round(record::with_round(r, round + 1), log, entry, out)
@@ -176,17 +176,17 @@ fn judge_blame(r: Replica, masks: &[u16], x: &[u8]) -> u8
     if x.len() != 512 {
         return 6;
     }
-    if !frame::checked(x) {
+    if !forms::checked(x) {
         return 7;
     }
-    if !frame::blame_form(r.f, r.last_round.0, x) {
+    if !forms::blame_form(r.f, r.last_round.0, x) {
         return 8;
     }
     let round = frame::round(x);
     if r.round.0 < round {
         return 14;
     }
-    if log::has_blame(masks, round, frame::signer(x)) {
+    if masks::has_blame(masks, round, frame::signer(x)) {
         return 10;
     }
     0
@@ -227,8 +227,8 @@ fn expire(r: Replica, log: &mut [u8], masks: &mut [u16], entry: &[u8], out: &mut
     ensures { λ a. ⌜ outcome a (now (log .exit)) (now (masks .exit)) (now (out .exit)) ≡ Outcome.taken (Tick.blaming sha256 (now (entry .entry)) (state r (now (log .entry)) (now (masks .entry)))) (now (out .entry)) ⌝ }
 {
     let round = r.round.0;
-    frame::put_blame(out, r.id, round);
-    log::add_blame(masks, round, r.id);
+    writing::put_blame(out, r.id, round);
+    masks::add_blame(masks, round, r.id);
     let q = record::with_timer(r, 0);
     let mut a = settle(q, log, masks, round, entry, &mut out[512..]);
     a.frames = a.frames + 1;
@@ -253,7 +253,7 @@ pub fn open(
     if number != 0 {
         return refused(record::zero_replica(), number, 0);
     }
-    frame::clear(log);
+    slices::clear(log);
     clear_masks(masks);
     enter_round(r, log, entry, out)
 }
@@ -300,7 +300,7 @@ pub fn blame(
         return refused(replica, number, 0);
     }
     let round = frame::round(frame);
-    log::add_blame(masks, round, frame::signer(frame));
+    masks::add_blame(masks, round, frame::signer(frame));
     settle(replica, log, masks, round, entry, out)
 }
 

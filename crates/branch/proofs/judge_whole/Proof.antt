@@ -2,7 +2,7 @@
 use mathlib.Core.Path.{ap, _∙_}
 use Rattle.branch.proofs.Judge.{whole-faulty, whole-stale, whole-fresh}
 use Rattle.branch.proofs.Place.{place-bound}
-use Rattle.log.specs.Answers.{verdictOf}
+use Rattle.chain.specs.Answers.{verdictOf}
 use Rattle.apollo.specs.Branch.{Verdict}
 use Rattle.apollo.specs.Setup.{setupOf}
 use native.Mathlib.Omega.{arith}

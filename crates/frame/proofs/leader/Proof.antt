@@ -4,7 +4,7 @@ use mathlib.Core.Path.{refl}
 use borrow.Author.Needs.{needs}
 use native.Mathlib.Nat.{mod-lt}
 use native.Mathlib.Omega.{arith}
-use Rattle.frame.proofs.Forms.{leader-first}
+use Rattle.frame.proofs.Fields.{leader-first}
 use Rattle.apollo.specs.Setup.{leader}
 use Rattle.frame.proofs.leader.Statement.{statement}
 use Rattle.frame.proofs.leader.Tie as tie

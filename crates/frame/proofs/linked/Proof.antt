@@ -1,6 +1,6 @@
 -- `frame::linked` meets its contract. Assumes nothing.
 use borrow.Author.Needs.{needs}
-use Rattle.frame.proofs.Forms.{link-name, link-zero, link-height}
+use Rattle.frame.proofs.Fields.{link-name, link-zero, link-height}
 use Rattle.frame.proofs.linked.Statement.{statement}
 use Rattle.frame.proofs.linked.Tie as tie
 

@@ -6,7 +6,7 @@ use native.Mathlib.Omega.{arith}
 use lib.ListN.{length, drop, replicate}
 use borrow.Author.Fill.{fill-more}
 use borrow.Author.Needs.{needs}
-use Rattle.frame.proofs.Writes.{clear-end}
+use Rattle.slices.proofs.Copies.{clear-end}
 use Rattle.replica.proofs.clear_masks.Statement.{statement}
 use Rattle.replica.proofs.clear_masks.Tie as tie
 

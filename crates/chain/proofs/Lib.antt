@@ -1,0 +1,3 @@
+pub mod Attaching
+pub mod Judged
+pub mod Ordered

@@ -1,0 +1,68 @@
+-- `chain::attach` meets its contract. The loop's invariant: the frame attaches to no slot above `r`. Assumes nothing.
+use mathlib.Core.Path.{_≡_, sym, ap, _∙_}
+use Prim.Native.Nat.{ℕ, _≤_, _-_}
+use native.Mathlib.Omega.{arith}
+use borrow.Author.Needs.{needs}
+use Rattle.apollo.specs.Log as Log
+use Rattle.apollo.specs.Frame as Frame
+use Rattle.chain.proofs.Attaching.{attach-here, attach-below, attach-last}
+use Rattle.chain.proofs.attach.Statement.{statement}
+use Rattle.chain.proofs.attach.Tie as tie
+
+abbrev Inv-loop : tie.InvT-loop
+Inv-loop log x r₀ r = (r ≤ Frame.round x - 1) × (Log.attach log x r ≡ Log.attach log x (Frame.round x - 1))
+
+abbrev μ-loop : tie.MeasureT-loop
+μ-loop log x r₀ r = r
+
+round-requires : tie.Need-round-requires Inv-loop μ-loop
+round-requires c κs = search needs
+
+previous-requires : tie.Need-previous-requires Inv-loop μ-loop
+previous-requires c κs = search needs
+
+loop-holds : tie.Need-loop-holds Inv-loop μ-loop
+loop-holds c = let e : c .previous .result ≡ Frame.round (c .before .before .before .before .args .x .now) - 1 = c .previous .ensures ∙ ap (λ (k : ℕ). k - 1) (c .before .round .ensures) in
+    (omega arith, ap (Log.attach (c .before .before .before .before .args .log .now) (c .before .before .before .before .args .x .now)) e)
+
+attaches-requires : tie.Need-attaches-requires Inv-loop μ-loop
+attaches-requires c κs = search needs
+
+returns : tie.Need-returns Inv-loop μ-loop
+returns c = attach-here (c .before .before .before .before .before .before .before .before .args .log .now) (c .before .before .before .before .before .before .before .before .args .x .now) (c .before .before .before .loop .r) (c .before .before .loop-test .taken) (sym (c .if1 .taken) ∙ c .before .attaches .ensures) ∙ c .before .before .before .loop .inv .1
+
+sub-r : tie.Need-sub-r Inv-loop μ-loop
+sub-r c = search needs
+
+loop-less : tie.Need-loop-less Inv-loop μ-loop
+loop-less c = search needs
+
+loop-again : tie.Need-loop-again Inv-loop μ-loop
+loop-again c = (search needs, attach-below (c .before .before .before .before .before .before .before .before .args .log .now) (c .before .before .before .before .before .before .before .before .args .x .now) (c .before .before .before .loop .r) (c .before .before .loop-test .taken) (sym (c .if1 .left) ∙ c .before .attaches .ensures) ∙ c .before .before .before .loop .inv .1)
+
+attaches-genesis-requires : tie.Need-attaches-genesis-requires Inv-loop μ-loop
+attaches-genesis-requires c κs = search needs
+
+returns-2 : tie.Need-returns-2 Inv-loop μ-loop
+returns-2 c = (rw (c .if2 .taken) at (attach-last (c .before .before .before .before .before .before .before .before .args .log .now) (c .before .before .before .before .before .before .before .before .args .x .now) (c .before .before .before .loop .r) (c .before .attaches-genesis .result) (c .before .before .loop-test .left) (c .before .attaches-genesis .ensures))) ∙ c .before .before .before .loop .inv .1
+
+returns-3 : tie.Need-returns-3 Inv-loop μ-loop
+returns-3 c = (rw (c .if2 .left) at (attach-last (c .before .before .before .before .before .before .before .before .args .log .now) (c .before .before .before .before .before .before .before .before .args .x .now) (c .before .before .before .loop .r) (c .before .attaches-genesis .result) (c .before .before .loop-test .left) (c .before .attaches-genesis .ensures))) ∙ c .before .before .before .loop .inv .1
+
+pub attach-spec : {M : Type 1} → statement M
+attach-spec =
+    tie.close
+    (tie.spec
+    Inv-loop
+    μ-loop
+    round-requires
+    previous-requires
+    loop-holds
+    attaches-requires
+    returns
+    sub-r
+    loop-less
+    loop-again
+    attaches-genesis-requires
+    returns-2
+    returns-3)

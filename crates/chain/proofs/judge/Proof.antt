@@ -1,0 +1,109 @@
+-- `chain::judge` meets its contract. The loop's invariant: judging the frames that are left, after the one before, gives the answer. Assumes nothing.
+use mathlib.Core.Path.{_≡_, sym}
+use Prim.Native.Nat.{_*_, _≤_, _-_}
+use native.Mathlib.Omega.{arith}
+use lib.Seq.{length-take-le}
+use borrow.Author.Needs.{needs}
+use Rattle.sha256.specs.Fips.{sha256}
+use Rattle.apollo.specs.Branch as Branch
+use Rattle.apollo.specs.Frame as Frame
+use Rattle.apollo.specs.Bytes.{part}
+use Rattle.apollo.specs.Setup.{setup}
+use Rattle.chain.specs.Judged.{judgedFrames}
+use Rattle.chain.proofs.Judged.{judge-none, judge-first, judge-start, judge-stop, judge-more, judge-end}
+use Rattle.log.proofs.Frames.{rest}
+use Rattle.chain.proofs.judge.Statement.{statement}
+use Rattle.chain.proofs.judge.Tie as tie
+
+abbrev Inv-loop : tie.InvT-loop
+Inv-loop f last-round frames n first i₀ i = (1 ≤ i) × (i ≤ n) × (Branch.judged sha256 (setup f last-round) i (part frames (512 * (i - 1)) 512) (rest frames n i) ≡ judgedFrames (setup f last-round) (Frame.frames n frames))
+
+abbrev μ-loop : tie.MeasureT-loop
+μ-loop f last-round frames n first i₀ i = n - i
+
+returns : tie.Need-returns Inv-loop μ-loop
+returns c = judge-none _ (c .before .before .args .frames .now) _ (c .if1 .taken)
+
+slice-aggregate-faulty : tie.Need-slice-aggregate-faulty Inv-loop μ-loop
+slice-aggregate-faulty c = sym (length-take-le 512 (c .before .before .before .args .frames .now) (omega arith))
+
+faulty-requires : tie.Need-faulty-requires Inv-loop μ-loop
+faulty-requires c κs = search needs
+
+returns-2 : tie.Need-returns-2 Inv-loop μ-loop
+returns-2 c = judge-first _ (c .before .before .before .before .before .args .frames .now) _ (omega arith) (c .before .faulty .result) (c .before .faulty .ensures) (c .if2 .taken)
+
+loop-holds : tie.Need-loop-holds Inv-loop μ-loop
+loop-holds c = (search needs, search needs, judge-start _ (c .before .before .before .before .before .args .frames .now) _ (omega arith) (c .before .faulty .result) (c .before .faulty .ensures) (c .if2 .left))
+
+mul-a : tie.Need-mul-a Inv-loop μ-loop
+mul-a c = search needs
+
+sub-p : tie.Need-sub-p Inv-loop μ-loop
+sub-p c = search needs
+
+add-e : tie.Need-add-e Inv-loop μ-loop
+add-e c = search needs
+
+sub-judge-next : tie.Need-sub-judge-next Inv-loop μ-loop
+sub-judge-next c = search needs
+
+part-judge-next-start : tie.Need-part-judge-next-start Inv-loop μ-loop
+part-judge-next-start c = search needs
+
+part-judge-next-end : tie.Need-part-judge-next-end Inv-loop μ-loop
+part-judge-next-end c = search needs
+
+sub-judge-next-2 : tie.Need-sub-judge-next-2 Inv-loop μ-loop
+sub-judge-next-2 c = search needs
+
+part-judge-next-start-2 : tie.Need-part-judge-next-start-2 Inv-loop μ-loop
+part-judge-next-start-2 c = search needs
+
+part-judge-next-end-2 : tie.Need-part-judge-next-end-2 Inv-loop μ-loop
+part-judge-next-end-2 c = search needs
+
+judge-next-requires : tie.Need-judge-next-requires Inv-loop μ-loop
+judge-next-requires c κs = search needs
+
+returns-3 : tie.Need-returns-3 Inv-loop μ-loop
+returns-3 c = judge-stop _ (c .before .before .before .before .before .before .before .before .before .before .before .args .frames .now) _ (c .before .before .before .before .before .loop .i) (c .before .judge-next .result) _ (omega arith) (omega arith) (c .before .judge-next .ensures) (c .before .before .before .before .before .loop .inv .2) (c .if3 .taken)
+
+add-i : tie.Need-add-i Inv-loop μ-loop
+add-i c = search needs
+
+loop-less : tie.Need-loop-less Inv-loop μ-loop
+loop-less c = search needs
+
+loop-again : tie.Need-loop-again Inv-loop μ-loop
+loop-again c = (search needs, search needs, judge-more _ (c .before .before .before .before .before .before .before .before .before .before .before .args .frames .now) _ (c .before .before .before .before .before .loop .i) (c .before .judge-next .result) _ (omega arith) (omega arith) (c .before .judge-next .ensures) (c .before .before .before .before .before .loop .inv .2) (c .if3 .left))
+
+returns-4 : tie.Need-returns-4 Inv-loop μ-loop
+returns-4 c = judge-end _ (c .before .before .before .before .before .before .before .args .frames .now) _ (c .before .loop .i) _ _ (c .loop-test .left) (c .before .loop .inv .2)
+
+pub judge-spec : {M : Type 1} → statement M
+judge-spec =
+    tie.close
+    (tie.spec
+    Inv-loop
+    μ-loop
+    returns
+    slice-aggregate-faulty
+    faulty-requires
+    returns-2
+    loop-holds
+    mul-a
+    sub-p
+    add-e
+    sub-judge-next
+    part-judge-next-start
+    part-judge-next-end
+    sub-judge-next-2
+    part-judge-next-start-2
+    part-judge-next-end-2
+    judge-next-requires
+    returns-3
+    add-i
+    loop-less
+    loop-again
+    returns-4)

@@ -1,0 +1,76 @@
+-- `forms::blame_form` meets its contract, by a law for each test. Assumes nothing.
+use native.Mathlib.Omega.{arith}
+use borrow.Author.Needs.{needs}
+use Rattle.apollo.specs.Setup.{setup}
+use Rattle.forms.proofs.Forms.{blame-kind, blame-signer, blame-head, blame-round, blame-rest}
+use Rattle.forms.proofs.blame_form.Statement.{statement}
+use Rattle.forms.proofs.blame_form.Tie as tie
+
+kind-requires : tie.Need-kind-requires
+kind-requires c κs = search needs
+
+returns : tie.Need-returns
+returns c = blame-kind _ _ _ (c .before .kind .ensures) (c .if1 .taken)
+
+mul-if2 : tie.Need-mul-if2
+mul-if2 c = search needs
+
+add-if2 : tie.Need-add-if2
+add-if2 c = search needs
+
+signer-requires : tie.Need-signer-requires
+signer-requires c κs = search needs
+
+cast-if2 : tie.Need-cast-if2
+cast-if2 c = search needs
+
+returns-2 : tie.Need-returns-2
+returns-2 c =
+    let a = c .before .before .before .before .before .args in
+    blame-signer (setup (a .f) (a .last-round)) (a .x .now) (c .before .signer .result) (c .before .signer .ensures) (omega arith)
+
+is-blank-requires : tie.Need-is-blank-requires
+is-blank-requires c κs = search needs
+
+returns-3 : tie.Need-returns-3
+returns-3 c = blame-head _ _ _ (c .before .is-blank .ensures) (c .if3 .taken)
+
+round-requires : tie.Need-round-requires
+round-requires c κs = search needs
+
+within-requires : tie.Need-within-requires
+within-requires c κs = search needs
+
+returns-4 : tie.Need-returns-4
+returns-4 c = blame-round _ _ _ _ (c .before .before .round .ensures) (c .before .within .ensures) (c .if4 .taken)
+
+is-blank-requires-2 : tie.Need-is-blank-requires-2
+is-blank-requires-2 c κs = search needs
+
+returns-5 : tie.Need-returns-5
+returns-5 c =
+    let w = c .before .before in
+    let b = w .before .before .before in
+    let g = b .before .before in
+    let k = g .before .before in
+    let a = k .before .before .args in
+    blame-rest (setup (a .f) (a .last-round)) (a .x .now) _ (g .signer .result) _ _ _ _ (k .kind .ensures) (g .signer .ensures) (w .before .round .ensures) (g .before .if1 .left) (omega arith) (b .is-blank .ensures) (w .before .before .if3 .left) (w .within .ensures) (c .before .if4 .left) (c .is-blank2 .ensures)
+
+pub blame-form-spec : {M : Type 1} → statement M
+blame-form-spec =
+    tie.close
+    (tie.spec
+    kind-requires
+    returns
+    mul-if2
+    add-if2
+    signer-requires
+    cast-if2
+    returns-2
+    is-blank-requires
+    returns-3
+    round-requires
+    within-requires
+    returns-4
+    is-blank-requires-2
+    returns-5)

@@ -1,0 +1,49 @@
+-- `heights::fetch_slot` meets its contract: the slot is stored in the next slot of the out buffer. Assumes nothing.
+use mathlib.Core.Bool.{true, false}
+use mathlib.Core.Path.{_≡_, sym, _∙_}
+use native.Mathlib.Omega.{arith}
+use borrow.Author.Tests.{not-true, not-false}
+use borrow.Author.Needs.{needs}
+use Rattle.heights.specs.Fetch.{isTall}
+use Rattle.heights.proofs.Fetched.{slot-copied}
+use Rattle.heights.proofs.fetch_slot.Statement.{statement}
+use Rattle.heights.proofs.fetch_slot.Tie as tie
+
+is-tall-requires : tie.Need-is-tall-requires
+is-tall-requires c κs = search needs
+
+returns : tie.Need-returns
+returns c = let e : isTall (c .before .before .before .before .args .log .now) (c .before .before .before .before .args .h) (c .before .before .before .before .args .r) ≡ false = sym (c .before .is-tall .ensures) ∙ not-true _ (c .if1 .taken) in
+    ((rw e, search needs), rw e)
+
+add-store : tie.Need-add-store
+add-store c = search needs
+
+slot-requires : tie.Need-slot-requires
+slot-requires c κs = search needs
+
+store-requires : tie.Need-store-requires
+store-requires c κs = search needs
+
+add-result : tie.Need-add-result
+add-result c = search needs
+
+same-length : tie.Need-same-length
+same-length c = search needs
+
+returns-2 : tie.Need-returns-2
+returns-2 c = let e : isTall (c .before .before .before .before .before .before .before .before .before .args .log .now) (c .before .before .before .before .before .before .before .before .before .args .h) (c .before .before .before .before .before .before .before .before .before .args .r) ≡ true = sym (c .before .before .before .before .before .before .is-tall .ensures) ∙ not-false _ (c .before .before .before .before .before .if1 .left) in
+    ((rw e, search needs), rw e (slot-copied (c .before .before .before .before .before .before .before .before .before .args .log .now) (c .before .before .before .before .before .before .before .before .before .args .out .now) _ (c .before .before .before .slot .result .now) (c .before .before .before .before .before .before .before .before .before .args .r) (c .before .before .before .before .before .before .before .before .before .args .k) (omega arith) (omega arith) (c .before .before .before .slot .ensures) (omega arith) (c .before .before .store .ensures)))
+
+pub fetch-slot-spec : {M : Type 1} → statement M
+fetch-slot-spec =
+    tie.close
+    (tie.spec
+    is-tall-requires
+    returns
+    add-store
+    slot-requires
+    store-requires
+    add-result
+    same-length
+    returns-2)

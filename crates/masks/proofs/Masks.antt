@@ -1,0 +1,58 @@
+-- Masks of 16 bits: a power of two in a word, a mask reduced to n bits, its ones, and its bits. Assumes nothing.
+use mathlib.Core.Path.{_≡_, sym, ap}
+use mathlib.Core.Bool.{false}
+use mathlib.Core.List.{List}
+use Prim.Native.Nat.{ℕ, _+_, _-_, _*_, _/_, _%_, _^_, _≤_, _<_}
+use native.Mathlib.Nat.{one-mul, mod-eq-of-lt, div-eq-of-lt, lt-of-lt-of-le}
+use lib.Pow.{pow-lt, pow-mono, pow-pos}
+use lib.Bits.{bitOr}
+use lib.Count.{ones}
+use lib.Dec.{eqb, leb}
+use lib.ListN.{length, getD, set}
+use lib.Seq.{set-out}
+use borrow.Author.Tests.{lt-ltb, le-ltb}
+use Rattle.apollo.specs.Masks.{bit, setBit, mask, certified}
+use Rattle.apollo.proofs.Masks.{ones-count, or-set, bit-shift}
+use Rattle.apollo.specs.Setup.{setup}
+use Rattle.masks.specs.Masks.{addBlame16}
+
+-- 2 ^ n in a word of 2 ^ w
+pub one-bit : (w n : ℕ) → n < w → 1 * 2 ^ n % 2 ^ w ≡ 2 ^ n
+one-bit w n h = rw one-mul (mod-eq-of-lt (pow-lt h))
+
+pub one-bit-pos : (w n : ℕ) → n < w → 0 < 1 * 2 ^ n % 2 ^ w
+one-bit-pos w n h = rw (one-bit w n h) (pow-pos n)
+
+below-pow : (m n : ℕ) → m < 2 ^ 16 → 16 ≤ n → m < 2 ^ n
+below-pow m n h g = lt-of-lt-of-le h (pow-mono g)
+
+-- nothing is dropped from a mask reduced to 16 bits or more
+pub reduced-whole : (m n : ℕ) → m < 2 ^ 16 → 16 ≤ n → m ≡ m % 2 ^ n
+reduced-whole m n h g = sym (mod-eq-of-lt (below-pow m n h g))
+
+-- the ones of the reduced mask, compared with f + 1
+pub enough : (f t : ℕ) (masks : List ℕ) (r m x : ℕ) → m ≡ mask masks r → x ≡ m % 2 ^ (2 * f + 1)
+    → leb (f + 1) (ones x) ≡ certified (setup f t) masks r
+unfolding certified
+enough f t masks r m x e d = rw (d, e) (ap (leb (f + 1)) (ones-count (2 * f + 1) (mask masks r)))
+
+-- a bit of a mask, read by a shift
+pub bit-read : (masks : List ℕ) (r i m : ℕ) → m ≡ mask masks r → eqb (m / 2 ^ i % 2) 1 ≡ bit i (mask masks r)
+bit-read masks r i m e = rw (← e) (sym (bit-shift i m))
+
+-- there is no bit from 16 on
+pub bit-high : (masks : List ℕ) (r i m : ℕ) → m ≡ mask masks r → m < 2 ^ 16 → 16 ≤ i → false ≡ bit i (mask masks r)
+bit-high masks r i m e h g =
+    let z : m / 2 ^ i ≡ 0 = div-eq-of-lt (below-pow m i h g) in
+    rw (← e, bit-shift i m, z)
+
+module _ (masks : List ℕ) (r i k : ℕ) (e : k ≡ r - 1) where
+  -- the or with 2 ^ i in the round's place
+  pub blame-added : i < 16 → set masks k (bitOr (getD masks k 0) (1 * 2 ^ i % 2 ^ 16)) ≡ addBlame16 masks r i
+  blame-added h = rw (one-bit 16 i h, or-set i (getD masks k 0), lt-ltb i 16 h, e)
+
+  pub blame-past : i < 16 → length masks ≤ k → masks ≡ addBlame16 masks r i
+  blame-past h g = rw (lt-ltb i 16 h, ← e) (sym (set-out masks k (setBit i (getD masks k 0)) g))
+
+pub blame-high : (masks : List ℕ) (r i : ℕ) → 16 ≤ i → masks ≡ addBlame16 masks r i
+blame-high masks r i h = rw (le-ltb i 16 h)

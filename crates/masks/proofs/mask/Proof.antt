@@ -1,0 +1,28 @@
+-- `masks::mask` meets its contract: the element at the round's place, 0 past the end. Assumes nothing.
+use mathlib.Core.Path.{ap, sym}
+use lib.ListN.{getD, List·getD-eq-default}
+use borrow.Author.Needs.{needs}
+use Rattle.masks.proofs.mask.Statement.{statement}
+use Rattle.masks.proofs.mask.Tie as tie
+
+previous-requires : tie.Need-previous-requires
+previous-requires c κs = search needs
+
+cast-i : tie.Need-cast-i
+cast-i c = search needs
+
+mul-result : tie.Need-mul-result
+mul-result c = search needs
+
+shared-slice-read-result : tie.Need-shared-slice-read-result
+shared-slice-read-result c = search needs
+
+returns : tie.Need-returns
+returns c = ap (λ i. getD (c .before .before .before .before .args .masks .now) i 0) (c .before .before .previous .ensures)
+
+returns-2 : tie.Need-returns-2
+returns-2 c = rw (← c .before .previous .ensures) (sym (List·getD-eq-default (c .before .before .before .args .masks .now) 0 (c .if1 .left)))
+
+pub mask-spec : {M : Type 1} → statement M
+mask-spec =
+    tie.close (tie.spec previous-requires cast-i mul-result shared-slice-read-result returns returns-2)

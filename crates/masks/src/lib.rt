@@ -1,0 +1,52 @@
+// The blame masks of a replica: certified (shown) rounds, and blames added. Every function takes masks of any length and any
+// numbers.
+ghost use mathlib.Core.Path.{_≡_};
+ghost use Prim.Native.Nat.{ℕ, _%_, _^_};
+ghost use Rattle.apollo.specs.Masks as Masks;
+ghost use Rattle.apollo.specs.Setup.{setup};
+ghost use Rattle.masks.specs.Masks.{addBlame16};
+
+// The mask of round r, 0 past the end.
+fn mask(masks: &[u16], r: u32) -> u16
+    ensures { λ m. ⌜ m ≡ Masks.mask (now (masks .entry)) r ⌝ }
+{
+    let i = frame::previous(r) as usize;
+    if i < masks.len() { masks[i] } else { 0 }
+}
+
+// A mask reduced to n bits.
+fn reduced(m: u16, n: u32) -> u32
+    ensures { λ x. ⌜ x ≡ m % 2 ^ n ⌝ }
+{
+    let w = m as u32;
+    if n < 16 { w % (1u32 << n) } else { w }
+}
+
+// Round r is certified (shown), whatever the last round is.
+pub fn certified(f: u8, masks: &[u16], r: u32) -> bool
+    ensures { λ x. ⌜ ((t : ℕ) → x ≡ Masks.certified (setup f t) (now (masks .entry)) r) ⌝ }
+{
+    let g = f as u32;
+    let m = mask(masks, r);
+    g + 1 <= u32::count_ones(reduced(m, 2 * g + 1))
+}
+
+// Replica i's blame for round r is there.
+pub fn has_blame(masks: &[u16], r: u32, i: u8) -> bool
+    ensures { λ x. ⌜ x ≡ Masks.bit i (Masks.mask (now (masks .entry)) r) ⌝ }
+{
+    let m = mask(masks, r);
+    if i < 16 { (m >> i) % 2 == 1 } else { false }
+}
+
+// Replica i's blame for round r is added.
+pub fn add_blame(masks: &mut [u16], r: u32, i: u8)
+    ensures { λ _. ⌜ now (masks .exit) ≡ addBlame16 (now (masks .entry)) r i ⌝ }
+{
+    let k = frame::previous(r) as usize;
+    if i < 16 {
+        if k < masks.len() {
+            masks[k] = masks[k] | (1u16 << i);
+        }
+    }
+}

@@ -1,0 +1,4 @@
+pub mod Same
+pub mod Parts
+pub mod Blank
+pub mod Copies

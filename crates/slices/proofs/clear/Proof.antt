@@ -1,0 +1,56 @@
+-- `slices::clear` meets its contract. The loop's invariant: the first i bytes are zero. Assumes nothing.
+use mathlib.Core.Path.{_≡_, refl, _∙_}
+use mathlib.Core.List.{_++_}
+use Prim.Native.Nat.{_≤_, _-_}
+use native.Mathlib.Omega.{arith}
+use borrow.Author.Fill.{fill-more}
+use borrow.Author.Needs.{needs}
+use lib.ListN.{length, drop, replicate}
+use Rattle.slices.proofs.Copies.{clear-end}
+use Rattle.slices.proofs.clear.Statement.{statement}
+use Rattle.slices.proofs.clear.Tie as tie
+
+abbrev Inv-loop : tie.InvT-loop
+Inv-loop out₀ i₀ out i = (i ≤ length out₀) × (length out ≡ length out₀) × (out ≡ replicate i 0 ++ drop i out₀)
+
+abbrev μ-loop : tie.MeasureT-loop
+μ-loop out₀ i₀ out i = length out₀ - i
+
+loop-holds : tie.Need-loop-holds Inv-loop μ-loop
+loop-holds c = (search needs, refl, refl)
+
+slice-write-out : tie.Need-slice-write-out Inv-loop μ-loop
+slice-write-out c = search needs
+
+add-i : tie.Need-add-i Inv-loop μ-loop
+add-i c = search needs
+
+loop-less : tie.Need-loop-less Inv-loop μ-loop
+loop-less c = search needs
+
+loop-again : tie.Need-loop-again Inv-loop μ-loop
+loop-again c =
+    let l = c .before in
+    (search needs, search needs, rw (l .loop .inv .2) (fill-more (l .loop .i) 0 (l .before .args .out .now) (omega arith)))
+
+same-length : tie.Need-same-length Inv-loop μ-loop
+same-length c = search needs
+
+returns : tie.Need-returns Inv-loop μ-loop
+returns c =
+    let l = c .before in
+    l .loop .inv .2 ∙ clear-end (l .before .args .out .now) (l .loop .i) (omega arith) (omega arith)
+
+pub clear-spec : {M : Type 1} → statement M
+clear-spec =
+    tie.close
+    (tie.spec
+    Inv-loop
+    μ-loop
+    loop-holds
+    slice-write-out
+    add-i
+    loop-less
+    loop-again
+    same-length
+    returns)

@@ -1,0 +1,122 @@
+-- `span::first_uncertified` meets its contract. Both loops' invariants: what is left of the walk gives the answer. Assumes nothing.
+use mathlib.Core.Path.{_≡_, sym, ap, _∙_}
+use Prim.Native.Nat.{_+_, _≤_, _<_, _-_, _^_}
+use native.Mathlib.Omega.{arith}
+use borrow.Author.Needs.{needs}
+use borrow.Author.Tests.{not-true, not-false}
+use Rattle.apollo.specs.Branch as Branch
+use Rattle.apollo.specs.Frame as Frame
+use Rattle.apollo.specs.Setup.{setup}
+use Rattle.span.proofs.Walk.{onward, pass, stop, leave, enter, end, walk-any}
+use Rattle.log.proofs.Frames.{rest, rest-start}
+use Rattle.span.proofs.first_uncertified.Statement.{statement}
+use Rattle.span.proofs.first_uncertified.Tie as tie
+
+abbrev Inv-loop : tie.InvT-loop
+Inv-loop f masks a frames n lo i s e to end p₀ p = (p < 2 ^ 32) × (onward (setup f 0) masks p to (rest frames n (i + 1)) ≡ Branch.firstUncertified (setup f 0) masks a (Frame.frames n frames))
+
+abbrev μ-loop : tie.MeasureT-loop
+μ-loop f masks a frames n lo i s e to end p₀ p = end - p
+
+abbrev Inv-walk : tie.InvT-walk
+Inv-walk f masks a frames n lo₀ i₀ lo i = (i ≤ n) × (lo < 2 ^ 32) × (Branch.firstUncertified (setup f 0) masks lo (rest frames n i) ≡ Branch.firstUncertified (setup f 0) masks a (Frame.frames n frames))
+
+abbrev μ-walk : tie.MeasureT-walk
+μ-walk f masks a frames n lo₀ i₀ lo i = n - i
+
+walk-holds : tie.Need-walk-holds Inv-loop μ-loop Inv-walk μ-walk
+walk-holds c = (search needs, search needs, ap (Branch.firstUncertified _ _ _) (rest-start _ _))
+
+mul-s : tie.Need-mul-s Inv-loop μ-loop Inv-walk μ-walk
+mul-s c = search needs
+
+add-e : tie.Need-add-e Inv-loop μ-loop Inv-walk μ-walk
+add-e c = search needs
+
+sub-round : tie.Need-sub-round Inv-loop μ-loop Inv-walk μ-walk
+sub-round c = search needs
+
+part-round-start : tie.Need-part-round-start Inv-loop μ-loop Inv-walk μ-walk
+part-round-start c = search needs
+
+part-round-end : tie.Need-part-round-end Inv-loop μ-loop Inv-walk μ-walk
+part-round-end c = search needs
+
+round-requires : tie.Need-round-requires Inv-loop μ-loop Inv-walk μ-walk
+round-requires c κs = search needs
+
+cast-end : tie.Need-cast-end Inv-loop μ-loop Inv-walk μ-walk
+cast-end c = search needs
+
+cast-p : tie.Need-cast-p Inv-loop μ-loop Inv-walk μ-walk
+cast-p c = search needs
+
+loop-holds : tie.Need-loop-holds Inv-loop μ-loop Inv-walk μ-walk
+loop-holds c = (search needs, enter _ (c .before .before .before .before .before .before .args .masks .now) (c .before .before .before .before .before .before .args .frames .now) (c .before .before .before .walk .lo) _ (c .before .before .before .walk .i) (c .round .result) (omega arith) (c .round .ensures) ∙ c .before .before .before .walk .inv .2)
+
+add-loop : tie.Need-add-loop Inv-loop μ-loop Inv-walk μ-walk
+add-loop c = search needs
+
+add-place : tie.Need-add-place Inv-loop μ-loop Inv-walk μ-walk
+add-place c = search needs
+
+cast-place : tie.Need-cast-place Inv-loop μ-loop Inv-walk μ-walk
+cast-place c = search needs
+
+certified-requires : tie.Need-certified-requires Inv-loop μ-loop Inv-walk μ-walk
+certified-requires c κs = search needs
+
+add-p : tie.Need-add-p Inv-loop μ-loop Inv-walk μ-walk
+add-p c = search needs
+
+loop-less : tie.Need-loop-less Inv-loop μ-loop Inv-walk μ-walk
+loop-less c = search needs
+
+loop-again : tie.Need-loop-again Inv-loop μ-loop Inv-walk μ-walk
+loop-again c = (search needs, pass _ (c .before .before .before .before .before .before .before .before .before .before .args .masks .now) (c .before .before .before .loop .p) (c .before .before .before .before .round .result) _ (c .before .before .loop-test .taken) (sym (c .before .certified .ensures 0) ∙ not-false _ (c .if2 .left)) ∙ c .before .before .before .loop .inv .1)
+
+add-i : tie.Need-add-i Inv-loop μ-loop Inv-walk μ-walk
+add-i c = search needs
+
+walk-less : tie.Need-walk-less Inv-loop μ-loop Inv-walk μ-walk
+walk-less c = search needs
+
+walk-again : tie.Need-walk-again Inv-loop μ-loop Inv-walk μ-walk
+walk-again c = (search needs, search needs, leave _ (c .before .before .before .before .before .before .before .before .args .masks .now) (c .before .loop .p) (c .before .before .round .result) _ (c .loop-test .left) ∙ c .before .loop .inv .1)
+
+returns : tie.Need-returns Inv-loop μ-loop Inv-walk μ-walk
+returns c = λ t. end (setup (c .before .before .before .before .args .f) 0) (c .before .before .before .before .args .masks .now) (c .before .before .before .before .args .frames .now) (c .before .walk .lo) _ (c .before .walk .i) (c .if1 .taken) ∙ (c .before .walk .inv .2 ∙ walk-any (c .before .before .before .before .args .f) t _ _ _)
+
+returns-2 : tie.Need-returns-2 Inv-loop μ-loop Inv-walk μ-walk
+returns-2 c = λ t. stop (setup (c .before .before .before .before .before .before .before .before .before .before .args .f) 0) (c .before .before .before .before .before .before .before .before .before .before .args .masks .now) (c .before .before .before .loop .p) (c .before .before .before .before .round .result) _ (c .before .before .loop-test .taken) (sym (c .before .certified .ensures 0) ∙ not-true _ (c .if2 .taken)) ∙ (c .before .before .before .loop .inv .1 ∙ walk-any (c .before .before .before .before .before .before .before .before .before .before .args .f) t _ _ _)
+
+pub first-uncertified-spec : {M : Type 1} → statement M
+first-uncertified-spec =
+    tie.close
+    (tie.spec
+    Inv-loop
+    μ-loop
+    Inv-walk
+    μ-walk
+    walk-holds
+    mul-s
+    add-e
+    sub-round
+    part-round-start
+    part-round-end
+    round-requires
+    cast-end
+    cast-p
+    loop-holds
+    add-loop
+    add-place
+    cast-place
+    certified-requires
+    add-p
+    loop-less
+    loop-again
+    add-i
+    walk-less
+    walk-again
+    returns
+    returns-2)

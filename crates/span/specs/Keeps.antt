@@ -1,0 +1,19 @@
+-- Refusal 12 without a copy of the log.
+use mathlib.Core.List.{List, [], _∷_}
+use mathlib.Core.Bool.{Bool, _&&_, cond}
+use Prim.Native.Nat.{ℕ, _-_, _*_}
+use lib.Dec.{ltb}
+use Rattle.apollo.specs.Bytes.{same}
+use Rattle.apollo.specs.Frame.{round, blank}
+use Rattle.log.specs.Slots.{slotPart}
+
+-- up to the committed round: zeros between round lo and frame x, and x in its slot
+unfoldable pub keepsFrame : (log : List ℕ) (lo : ℕ) (x : List ℕ) (committed : ℕ) → Bool
+keepsFrame log lo x committed =
+    cond (ltb committed (round x)) (blank log (512 * lo) (512 * committed))
+    (blank log (512 * lo) (512 * (round x - 1)) && same (slotPart log (round x)) x)
+
+-- the same for each frame on the one before, the first on round lo, and zeros after the last
+unfoldable pub keepsAll : (log : List ℕ) (lo : ℕ) → List (List ℕ) → (committed : ℕ) → Bool
+keepsAll log lo [] committed = blank log (512 * lo) (512 * committed)
+keepsAll log lo (x ∷ xs) committed = keepsFrame log lo x committed && keepsAll log (round x) xs committed
