@@ -20,5 +20,4 @@ pub mod Open
 pub mod World
 pub mod Honest
 pub mod Agreement
-pub mod Blocks
 pub mod Witness

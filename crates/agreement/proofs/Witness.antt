@@ -23,7 +23,7 @@ use Rattle.agreement.specs.Run.{branch, Call, opening, act, Event, hande
 use Rattle.agreement.specs.Premises.{Each, Lawful, Mostly, Unforged, Patient, Distinct, Premises}
 use Rattle.agreement.specs.Claim.{committed, Agreed}
 use Rattle.agreement.proofs.Tests.{same-of}
-use Rattle.agreement.proofs.Blocks.{d1, d2, head1, head2, b1, b2, name1, name2}
+use Rattle.blocks.proofs.Blocks.{d1, d2, head1, head2, b1, b2, name1, name2}
 use Rattle.agreement.proofs.Agreement.{agreement}
 
 -- f = 1, T = 2, replica 2 missing: replicas 0 and 1 open, and each takes the other's first block
