@@ -1,45 +1,28 @@
 -- What judging and attaching show of a branch: whole frames, rounds that rise from the attaching round up to the last.
 -- Assumes nothing.
 use mathlib.Core.Path.{_≡_, refl}
-use mathlib.Core.Bool.{Bool, true, false, _&&_, not, cond}
+use mathlib.Core.Bool.{Bool, true, false, not, cond}
 use mathlib.Core.List.{List, [], _∷_}
 use mathlib.Core.Option.{some}
 use Prim.Native.Nat.{ℕ, zero, suc, _+_, _-_, _*_, _≤_, _<_}
 use native.Mathlib.Omega.{arith}
-use lib.Dec.{eqb, leb, ltb}
+use lib.Dec.{eqb, ltb}
 use lib.ListN.{length, take, drop, length-take, length-drop}
-use borrow.Author.Tests.{ltb-true, leb-true, eqb-true}
+use borrow.Author.Tests.{ltb-true, eqb-true}
 use Rattle.sha256.specs.Fips.{sha256}
-use Rattle.apollo.specs.Bytes.{within}
-use Rattle.apollo.specs.Setup.{Setup, leader}
-use Rattle.apollo.specs.Frame.{kind, signer, entryLength, round, height, blank, linked, checked, blockForm, frames}
+use Rattle.apollo.specs.Setup.{Setup}
+use Rattle.apollo.specs.Frame.{round, linked, checked, blockForm, frames}
 use Rattle.apollo.specs.Log.{attach}
 use Rattle.apollo.specs.Branch.{Verdict, childOf, faulty, judged, judgedAll}
+use Rattle.apollo.proofs.Tests.{and-true}
+use Rattle.forms.proofs.Facts.{BlockFields, block-fields}
 use Rattle.chain.specs.Judged.{judgedFrames}
 use Rattle.chain.specs.Ordered.{Ordered}
 use Rattle.chain.proofs.Attaching.{attach-le}
 
-and-left : (a b : Bool) → (a && b) ≡ true → a ≡ true
-and-left true b e = refl
-and-left false b e = e
-
-and-right : (a b : Bool) → (a && b) ≡ true → b ≡ true
-and-right true b e = e
-and-right false b e = cc
-
-middle : (a b c d e : Bool) → (a && (b && c) && d && e) ≡ true → (b ≡ true) × (c ≡ true)
-middle a b c d e h =
-    let w : (b && c) ≡ true = and-right a (b && c) (and-left (a && (b && c)) d (and-left (a && (b && c) && d) e h)) in
-    (and-left b c w, and-right b c w)
-
 -- a block's round is from 1 up to the last
 form-round : (s : Setup) (x : List ℕ) → blockForm s x ≡ true → (1 ≤ round x) × (round x ≤ s .lastRound)
-unfolding blockForm
-form-round s x e =
-    let w : (leb 1 (round x) ≡ true) × (leb (round x) (s .lastRound) ≡ true) =
-    middle (eqb (kind x) 1 && eqb (signer x) (leader s (round x)) && leb (entryLength x) 400) (leb 1 (round x))
-    (leb (round x) (s .lastRound)) (within 1 (height x) (round x)) (blank x (44 + entryLength x) 480) e in
-    (leb-true 1 (round x) (w .0), leb-true (round x) (s .lastRound) (w .1))
+form-round s x e = let f : BlockFields s x = block-fields s x e in (f .round-low, f .round-high)
 
 sound-form : (s : Setup) (x : List ℕ) → faulty sha256 s x ≡ 0 → blockForm s x ≡ true
 unfolding faulty
@@ -86,7 +69,7 @@ rising s k x (y ∷ ys) r e w =
     let p : Step (faulty sha256 s y) (childOf x y) (judged sha256 s (k + 1) y ys) =
     step (eqb (faulty sha256 s y) 0) (childOf x y) (faulty sha256 s y) k (judged sha256 s (k + 1) y ys) refl e in
     let f : (1 ≤ round y) × (round y ≤ s .lastRound) = form-round s y (sound-form s y (p .sound)) in
-    (w .0, ltb-true (round x) (round y) (and-right (linked x y) (ltb (round x) (round y)) (p .follows)), rising s (k + 1) y ys (f .1) (p .onward) (w .1))
+    (w .0, ltb-true (round x) (round y) ((and-true (linked x y) (ltb (round x) (round y)) (p .follows)) .1), rising s (k + 1) y ys (f .1) (p .onward) (w .1))
 
 -- a judged branch of n frames whose first frame attaches to round a
 pub ordered : (s : Setup) (log b : List ℕ) (n a : ℕ) → 0 < n → 512 * n ≤ length b → judgedFrames s (frames n b) .number ≡ 0

@@ -1,6 +1,6 @@
 -- For the crates that build on this one: what a form that holds says of the bytes. Assumes nothing.
-use mathlib.Core.Path.{_≡_, refl}
-use mathlib.Core.Bool.{Bool, true, false, _&&_}
+use mathlib.Core.Path.{_≡_}
+use mathlib.Core.Bool.{Bool, true, _&&_}
 use mathlib.Core.List.{List}
 use Prim.Native.Nat.{ℕ, _+_, _≤_, _<_}
 use lib.Dec.{eqb, leb, ltb}
@@ -8,16 +8,7 @@ use borrow.Author.Tests.{eqb-true, leb-true, ltb-true}
 use Rattle.apollo.specs.Bytes.{within}
 use Rattle.apollo.specs.Setup.{Setup, replicas, leader}
 use Rattle.apollo.specs.Frame.{kind, signer, entryLength, round, height, blank, blockForm, blameForm}
-
--- the two parts of a conjunction
-and-l : (a b : Bool) → a && b ≡ true → a ≡ true
-and-l true b e = refl
-and-l false b e = e
-
-and-r : (a b : Bool) → a && b ≡ true → b ≡ true
-and-r true b e = e
-and-r false true e = refl
-and-r false false e = e
+use Rattle.apollo.proofs.Tests.{and-true}
 
 pub record BlockFields (s : Setup) (x : List ℕ) : Type 0 where
   pub of-block : kind x ≡ 1
@@ -38,21 +29,21 @@ block-fields s x e =
     let r : Bool = within 1 (round x) (s .lastRound) in
     let h : Bool = within 1 (height x) (round x) in
     let z : Bool = blank x (44 + entryLength x) 480 in
-    let e₅ : k && g && n && r && h ≡ true = and-l (k && g && n && r && h) z e in
-    let e₄ : k && g && n && r ≡ true = and-l (k && g && n && r) h e₅ in
-    let e₃ : k && g && n ≡ true = and-l (k && g && n) r e₄ in
-    let e₂ : k && g ≡ true = and-l (k && g) n e₃ in
-    let er : r ≡ true = and-r (k && g && n) r e₄ in
-    let eh : h ≡ true = and-r (k && g && n && r) h e₅ in
+    let e₅ : k && g && n && r && h ≡ true = (and-true (k && g && n && r && h) z e) .0 in
+    let e₄ : k && g && n && r ≡ true = (and-true (k && g && n && r) h e₅) .0 in
+    let e₃ : k && g && n ≡ true = (and-true (k && g && n) r e₄) .0 in
+    let e₂ : k && g ≡ true = (and-true (k && g) n e₃) .0 in
+    let er : r ≡ true = (and-true (k && g && n) r e₄) .1 in
+    let eh : h ≡ true = (and-true (k && g && n && r) h e₅) .1 in
     record {
-      of-block = eqb-true (kind x) 1 (and-l k g e₂);
-      by-leader = eqb-true (signer x) (leader s (round x)) (and-r k g e₂);
-      entry-fits = leb-true (entryLength x) 400 (and-r (k && g) n e₃);
-      round-low = leb-true 1 (round x) (and-l (leb 1 (round x)) (leb (round x) (s .lastRound)) er);
-      round-high = leb-true (round x) (s .lastRound) (and-r (leb 1 (round x)) (leb (round x) (s .lastRound)) er);
-      height-low = leb-true 1 (height x) (and-l (leb 1 (height x)) (leb (height x) (round x)) eh);
-      height-high = leb-true (height x) (round x) (and-r (leb 1 (height x)) (leb (height x) (round x)) eh);
-      rest = and-r (k && g && n && r && h) z e;
+      of-block = eqb-true (kind x) 1 ((and-true k g e₂) .0);
+      by-leader = eqb-true (signer x) (leader s (round x)) ((and-true k g e₂) .1);
+      entry-fits = leb-true (entryLength x) 400 ((and-true (k && g) n e₃) .1);
+      round-low = leb-true 1 (round x) ((and-true (leb 1 (round x)) (leb (round x) (s .lastRound)) er) .0);
+      round-high = leb-true (round x) (s .lastRound) ((and-true (leb 1 (round x)) (leb (round x) (s .lastRound)) er) .1);
+      height-low = leb-true 1 (height x) ((and-true (leb 1 (height x)) (leb (height x) (round x)) eh) .0);
+      height-high = leb-true (height x) (round x) ((and-true (leb 1 (height x)) (leb (height x) (round x)) eh) .1);
+      rest = (and-true (k && g && n && r && h) z e) .1;
     }
 
 pub record BlameFields (s : Setup) (x : List ℕ) : Type 0 where
@@ -69,12 +60,12 @@ blame-fields s x e =
     let n : Bool = blank x 2 4 in
     let r : Bool = within 1 (round x) (s .lastRound) in
     let z : Bool = blank x 8 480 in
-    let e₄ : k && g && n && r ≡ true = and-l (k && g && n && r) z e in
-    let e₂ : k && g ≡ true = and-l (k && g) n (and-l (k && g && n) r e₄) in
-    let er : r ≡ true = and-r (k && g && n) r e₄ in
+    let e₄ : k && g && n && r ≡ true = (and-true (k && g && n && r) z e) .0 in
+    let e₂ : k && g ≡ true = (and-true (k && g) n ((and-true (k && g && n) r e₄) .0)) .0 in
+    let er : r ≡ true = (and-true (k && g && n) r e₄) .1 in
     record {
-      of-blame = eqb-true (kind x) 2 (and-l k g e₂);
-      by-replica = ltb-true (signer x) (replicas s) (and-r k g e₂);
-      round-low = leb-true 1 (round x) (and-l (leb 1 (round x)) (leb (round x) (s .lastRound)) er);
-      round-high = leb-true (round x) (s .lastRound) (and-r (leb 1 (round x)) (leb (round x) (s .lastRound)) er);
+      of-blame = eqb-true (kind x) 2 ((and-true k g e₂) .0);
+      by-replica = ltb-true (signer x) (replicas s) ((and-true k g e₂) .1);
+      round-low = leb-true 1 (round x) ((and-true (leb 1 (round x)) (leb (round x) (s .lastRound)) er) .0);
+      round-high = leb-true (round x) (s .lastRound) ((and-true (leb 1 (round x)) (leb (round x) (s .lastRound)) er) .1);
     }

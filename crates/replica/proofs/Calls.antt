@@ -22,7 +22,7 @@ use Rattle.apollo.specs.Outcome.{Outcome, refused, taken}
 use Rattle.apollo.specs.Open.{openWith}
 use Rattle.apollo.specs.Tick.{blaming, ticked}
 use Rattle.writing.specs.Put.{putBlame}
-use Rattle.slices.proofs.Same.{length-zeros}
+use Rattle.apollo.proofs.Slots.{length-zeros}
 use Rattle.forms.proofs.Facts.{blame-fields}
 use Rattle.writing.proofs.Make.{length-blame, put-blame-fits}
 use Rattle.masks.specs.Masks.{addBlame16}

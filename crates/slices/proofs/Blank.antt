@@ -7,7 +7,8 @@ use native.Mathlib.Omega.{arith}
 use lib.ListN.{length, take, drop, length-take, length-drop}
 use Rattle.apollo.specs.Bytes.{same, zeros}
 use Rattle.apollo.specs.Frame.{blank}
-use Rattle.slices.proofs.Same.{same-length, length-zeros}
+use Rattle.apollo.proofs.Slots.{length-zeros}
+use Rattle.slices.proofs.Same.{same-length}
 
 module _ (log : List ℕ) (a e : ℕ) where
   pub blank-none : e ≤ a → true ≡ blank log a e

@@ -7,10 +7,11 @@ use native.Mathlib.Numerals.{add-one}
 use native.Mathlib.Omega.{arith}
 use lib.Bits.{bitOr, bitXor, and-le-l, and-le-r, or-add-and, xor-add-and, xor-self, xor-zero-r}
 use lib.Dec.{eqb}
-use lib.ListN.{length, getD, drop, length-replicate, getD-replicate, drop-of-length-le}
+use lib.ListN.{length, getD, drop, getD-replicate, drop-of-length-le}
 use lib.Seq.{drop-cons}
 use borrow.Author.Tests.{eq-eqb, ne-eqb, eqb-true, eqb-false}
 use Rattle.apollo.specs.Bytes.{same, zeros}
+use Rattle.apollo.proofs.Slots.{length-zeros}
 
 -- no bit of d is set, and x and y differ in none
 join-differ : (d x y : ℕ) → eqb (bitOr d (bitXor x y)) 0 ≡ eqb d 0 && eqb x y
@@ -63,11 +64,7 @@ same-length (x ∷ a) (y ∷ b) n = and-false (eqb x y) (same a b) (same-length 
     and-false true s e = e
     and-false false s e = refl
 
-pub length-zeros : (n : ℕ) → length (zeros n) ≡ n
-unfolding zeros
-length-zeros n = length-replicate n 0
-
-pub getD-zeros : (n i : ℕ) → i < n → getD (zeros n) i 0 ≡ 0
+getD-zeros : (n i : ℕ) → i < n → getD (zeros n) i 0 ≡ 0
 unfolding zeros
 getD-zeros n i h = getD-replicate n i 0 0 h
 

@@ -14,14 +14,15 @@ use Rattle.apollo.specs.Bytes.{part, same, zeros}
 use Rattle.apollo.specs.Frame.{round, blank}
 use Rattle.apollo.specs.Log.{store, clearAbove}
 use Rattle.apollo.specs.Branch.{storeAll, grown}
-use Rattle.slices.proofs.Same.{length-zeros}
+use Rattle.apollo.proofs.Tests.{same-refl}
+use Rattle.apollo.proofs.Slots.{length-zeros, length-store, length-clear}
 use Rattle.log.specs.Slots.{slotPart, storeEach, taken}
 use Rattle.chain.specs.Ordered.{Ordered}
 use Rattle.span.specs.Keeps.{keepsFrame, keepsAll}
 use Rattle.log.proofs.Slots.{store-fits}
 use Rattle.slices.proofs.Blank.{blank-none}
 
--- equality of lists: both ways round, of a list with itself, and of two parts each
+-- equality of lists: both ways round, and of two parts each
 eqb-sym : (m n : ℕ) → eqb m n ≡ eqb n m
 eqb-sym m n = by (eqb m n) refl
   where
@@ -35,11 +36,6 @@ same-sym [] [] = refl
 same-sym [] (y ∷ b) = refl
 same-sym (x ∷ a) [] = refl
 same-sym (x ∷ a) (y ∷ b) = rw (eqb-sym x y, same-sym a b)
-
-same-refl : (a : List ℕ) → same a a ≡ true
-unfolding same
-same-refl [] = refl
-same-refl (x ∷ a) = rw (eq-eqb x x refl, same-refl a)
 
 same-append : (a b c d : List ℕ) → length a ≡ length b → same (a ++ c) (b ++ d) ≡ (same a b && same c d)
 unfolding same
@@ -70,10 +66,6 @@ drop-zeros (suc k) (suc n) =
 module _ (log : List ℕ) (r : ℕ) (x : List ℕ) (g : 1 ≤ r) (h : 512 * r ≤ length log) (l : length x ≡ 512) where
   head-length : length (take (512 * (r - 1)) log) ≡ 512 * (r - 1)
   head-length = simp length-take (omega arith)
-
-  pub length-store : length (store log r x) ≡ length log
-  unfolding store
-  length-store = simp (length-append, length-take, length-drop) (omega arith)
 
   take-store : (k : ℕ) → k ≤ 512 * (r - 1) → take k (store log r x) ≡ take k log
   unfolding store
@@ -113,10 +105,6 @@ each-all t lo log (x ∷ xs) l o =
     let h : 512 * round x ≤ length log = omega arith in
     rw (store-fits log x (round x) g h (o .0))
     (each-all t (round x) (store log (round x) x) xs (length-store log (round x) x g h (o .0) ∙ l) (o .2))
-
-length-clear : (log : List ℕ) (a : ℕ) → 512 * a ≤ length log → length (clearAbove log a) ≡ length log
-unfolding clearAbove
-length-clear log a h = simp (length-append, length-take, length-zeros) (omega arith)
 
 clear-high : (log : List ℕ) (a : ℕ) → 512 * a ≤ length log → drop (512 * a) (clearAbove log a) ≡ zeros (length log - 512 * a)
 unfolding clearAbove

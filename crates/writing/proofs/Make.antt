@@ -11,7 +11,7 @@ use Rattle.sha256.proofs.Hash.{digest-length}
 use Rattle.apollo.specs.Bytes.{bytes2, bytes4, zeros}
 use Rattle.apollo.specs.Frame.{blockHead, blameHead, sealed, makeBlock, makeBlame}
 use Rattle.writing.specs.Put.{putBlock, putBlame, Written}
-use Rattle.slices.proofs.Same.{length-zeros}
+use Rattle.apollo.proofs.Slots.{length-zeros}
 use Rattle.writing.proofs.Writes.{Begun, begun-start, begun-more}
 
 length-block-head : (id r h : ℕ) (parent entry : List ℕ) → length parent ≡ 32 → length entry ≤ 400

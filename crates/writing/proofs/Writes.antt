@@ -8,7 +8,7 @@ use lib.Seq.{take-at, drop-drop, drop-append-add}
 use borrow.Rule.Slice.PartMut.{putMid}
 use Rattle.apollo.specs.Bytes.{zeros}
 use Rattle.slices.specs.Copy.{copied}
-use Rattle.slices.proofs.Same.{length-zeros}
+use Rattle.apollo.proofs.Slots.{length-zeros}
 use Rattle.slices.proofs.Copies.{copied-all}
 use Rattle.writing.specs.Put.{Written}
 
