@@ -19,8 +19,8 @@ use Rattle.apollo.specs.Branch.{lastOf, firstUncertified, judgedAll, adopting, 
 use Rattle.log.specs.Branch.{judgedFrames, keepsAll, Ordered}
 use Rattle.log.proofs.Ordered.{ordered}
 use Rattle.log.proofs.Grown.{taken-grown, keeps-grown}
-use Rattle.record.specs.Valid.{Valid}
-use Rattle.record.proofs.Valid.{valid}
+use Rattle.apollo.proofs.Validity.{Valid}
+use Rattle.apollo.proofs.Validity.{valid}
 use Rattle.branch.specs.declared.Judged.{Judged}
 use Rattle.branch.specs.Frames.{framesOf, firstFrame, lastFrame}
 use Rattle.branch.specs.Judge.{refusal, accepted, judgedOn, judgedAt, judgedWhole, isWhole, judgedBranch, adopted, answered}
