@@ -6,21 +6,28 @@
  *
  * What the host does
  *   - One record, one log of 512 * T bytes and one array of T masks for each card. Hand each call the record, log and masks exactly
- *     as that card's last call left them; nobody else writes them meanwhile.
+ *     as that card's last call left them; nobody else writes them meanwhile. `answer.replica` is the record for the next call, also
+ *     after a refusal.
  *   - Call apollo_open once per card and term. The record of a refused open is all zeros: hand it to no call.
+ *   - Lend each of open, branch, blame and tick an entry: any of them may bring the card to a round that it leads, and it then proposes
+ *     that entry at once. The entry was used if the call emitted a block; else lend it again. It is on the list for good when
+ *     apollo_read shows it: a block that was emitted may still be passed over.
  *   - Send each emitted frame to the other cards, signed; send nothing else under the card's signature. The first
  *     `answer.frames` frames of 512 bytes in the out buffer were emitted by this call.
- *   - Check the sender's signature of what comes in, then hand it in: blocks by apollo_branch, blames by apollo_blame.
- *   - Relay the newest block and the blames to the leader that the answer names.
+ *   - Check the sender's signature of what comes in, then hand it in: blocks by apollo_branch, blames by apollo_blame (byte 0 says
+ *     which, byte 1 who signed).
+ *   - Keep a frame that is answered 11, 13 or 14 and hand it in again later: a parent, some blames or an earlier block are still missing.
+ *     Or get a longer branch from a neighbour's apollo_fetch. Drop a frame that is answered 6 to 10 or 12.
+ *   - Relay to the leader that the answer names the newest block (apollo_fetch above tip_height - 1) and the blames that came in for the
+ *     rounds since. The host keeps those frames: a mask only says who blamed.
  *   - Call apollo_tick at a steady pace. Give the cards a timeout that a correct leader always meets.
- *   - Where apollo_branch answers 11 or 13, a parent or some blames are still missing: hand the same frames in again later, or a longer
- *     branch that a neighbour's apollo_fetch gave.
+ *   - On 3 the term is over: read the committed list, and open a new term. Blocks of a term's last f rounds are never committed.
  * What the host must not do: change a byte of the log or the masks, or a field of the record; hand one card's record in with another
  * card's log; answer for a card whose state it has lost (open it afresh as a failed card).
  *
  * Every call takes any bytes and any record and answers with a number: 0 taken, else a refusal, and a refusal changes no record and
- * no lent buffer. Pointers must be valid for their lengths, and buffers of one call must not overlap; a pointer with length 0 must not
- * be null.
+ * no lent buffer. Pointers must be valid for their lengths, and buffers of one call must not overlap. A pointer with length 0 may be
+ * null: an empty entry is NULL, 0.
  */
 #ifndef APOLLO_H
 #define APOLLO_H
@@ -42,6 +49,17 @@ enum {
   APOLLO_MAX_TIMEOUT = 60000,
   APOLLO_NO_LEADER = 255    /* the leader told after a refusal, or when the term is over */
 };
+
+/* A frame: 512 bytes, numbers big-endian. What is not named is zero. The calls judge all of it; a host needs kind and signer.
+ *     0         kind: APOLLO_BLOCK or APOLLO_BLAME
+ *     1         signer, a card's number
+ *     2 to 3    in a block: length of the entry
+ *     4 to 7    round
+ *     8 to 11   in a block: height
+ *     12 to 43  in a block: the parent's digest, zeros for none
+ *     44 to 443 in a block: the entry, then zeros
+ *     480 to 511 the frame's digest: SHA-256 of bytes 0 to 479 */
+enum { APOLLO_BLOCK = 1, APOLLO_BLAME = 2 };
 
 /* Refusals. The word in quotes is the one on the repair sheets. */
 typedef enum {
@@ -101,7 +119,8 @@ typedef struct {
 } apollo_fetched;
 
 /* Opens a card: zeroes log and masks and waits for round 1, or proposes at once if it leads round 1.
- * log_len is 512 * T, masks_len is T. entry: what the card proposes if it leads (0 to 400 bytes).
+ * log_len is 512 * T, masks_len is T, out_len at least 1,024, here and below. entry: what the card proposes if it comes to lead, 0 to 400
+ * bytes.
  * Refuses 1, 4, 5. */
 apollo_answer apollo_open(uint8_t id, uint8_t f, apollo_ticks timeout, apollo_round last_round, uint8_t *log, size_t log_len,
                           uint16_t *masks, size_t masks_len, const uint8_t *entry, size_t entry_len, uint8_t *out, size_t out_len);
@@ -119,7 +138,8 @@ apollo_answer apollo_blame(apollo_replica replica, uint8_t *log, size_t log_len,
                            const uint8_t *frame, size_t frame_len, const uint8_t *entry, size_t entry_len, uint8_t *out,
                            size_t out_len);
 
-/* One tick of the clock. The tick that brings the timer to 0 emits the card's blame for the round waited for.
+/* One tick of the clock. The tick that brings the timer to 0 emits the card's blame for the round waited for; if that is the last of
+ * f + 1, the round is passed over as above.
  * Refuses 2 to 5. */
 apollo_answer apollo_tick(apollo_replica replica, uint8_t *log, size_t log_len, uint16_t *masks, size_t masks_len,
                           const uint8_t *entry, size_t entry_len, uint8_t *out, size_t out_len);
@@ -129,7 +149,7 @@ apollo_answer apollo_tick(apollo_replica replica, uint8_t *log, size_t log_len, 
 apollo_part apollo_read(apollo_replica replica, const uint8_t *log, size_t log_len, apollo_height height);
 
 /* Copies held blocks of a height above the given one to out, oldest first, for a neighbour to hand in as a branch. Go on from the
- * last height copied until it answers 15.
+ * height of the last frame copied until it answers 15.
  * Refuses 2, 4, 15. */
 apollo_fetched apollo_fetch(apollo_replica replica, const uint8_t *log, size_t log_len, apollo_height height, uint8_t *out,
                             size_t out_len);

@@ -22,7 +22,7 @@ use Rattle.apollo.specs.Branch.{lastOf, childOf, firstUncertified, store
 use Rattle.apollo.specs.Calls.{branchCall}
 use Rattle.apollo.specs.BenchSheet.{Callable, ParentIn, Item9, Item10, Held, number, place, newRound, block, blocks}
 use Rattle.apollo.proofs.Tests.{and-true, both, cond-true, cond-false, same-of, different}
-use Rattle.apollo.proofs.Validity.{Facts, facts}
+use Rattle.apollo.proofs.Validity.{Valid, valid}
 use Rattle.apollo.proofs.Slots.{slot-length, length-store, store-same, store-other, length-clear, clear-low, clear-high, take-slots, slot-take}
 use Rattle.apollo.proofs.Judging.{fresh-branch, attaches, block-length}
 use Rattle.apollo.proofs.BenchCommit.{slots-filled, committed-2, mask-1, mask-3}
@@ -58,8 +58,8 @@ module _ {s : State} {out : List ℕ} (c : Callable s out) (entry : List ℕ) (l
   on-parent : branchCall s x entry out ≡ placed sha256 entry out s x [] (some p)
   unfolding lastOf blocks flatten
   on-parent =
-      let f : Facts (s .replica) (s .log) = facts (s .replica) (s .log) (c .valid) in
-      let last : 1 ≤ s .replica .«last_round» .0 = f .setup .last-low in
+      let f : Valid (s .replica) (s .log) = valid (s .replica) (s .log) (c .valid) in
+      let last : 1 ≤ s .replica .«last_round» .0 = f .setup .last-least in
       ap (λ (b : List ℕ). branchCall s b entry out) (sym (append-nil x)) ∙ fresh-branch c entry l x [] last good (omega arith)
       ∙ ap (placed sha256 entry out s x []) (attaches (s .log) x p low parent)
 
@@ -144,12 +144,12 @@ module _ {s : State} {x out : List ℕ} (h : Item9 s x out) (entry : List ℕ) (
   module _ (m : mask (s .masks) 2 ≡ 3) where
     taken-9 : branchCall s x entry out ≡ taken (adopting sha256 entry s 1 x []) out
     taken-9 =
-        let f : Facts (s .replica) (s .log) = facts (s .replica) (s .log) (h .callable .valid) in
-        let size : length (s .log) ≡ 512 * s .replica .«last_round» .0 = f .setup .log-length in
+        let f : Valid (s .replica) (s .log) = valid (s .replica) (s .log) (h .callable .valid) in
+        let size : length (s .log) ≡ 512 * s .replica .«last_round» .0 = f .setup .size in
         let last : s .replica .«last_round» .0 ≡ 6 = h .last in
         let r : round x ≡ 3 = h .round in
         let tip : s .replica .«tip_round» .0 ≡ 1 = h .tip in
-        let low : s .replica .«committed_round» .0 ≤ s .replica .«tip_round» .0 = f .committed-high in
+        let low : s .replica .«committed_round» .0 ≤ s .replica .«tip_round» .0 = f .committed-most in
         at-9
         ∙ adopts entry out s x [] 1
         (skips-1 (setupOf (s .replica)) (s .masks) x (h .round) ∙ cond-true _ _ (mask-3 (setupOf (s .replica)) (s .masks) 2 (h .f) m))
@@ -187,8 +187,8 @@ empty-unfilled = refl
 module _ {s : State} {out : List ℕ} (h : Item10 s out) (entry : List ℕ) (l : length entry ≤ 400) where
   size-10 : 2048 ≤ length (s .log)
   size-10 =
-      let f : Facts (s .replica) (s .log) = facts (s .replica) (s .log) (h .callable .valid) in
-      let size : length (s .log) ≡ 512 * s .replica .«last_round» .0 = f .setup .log-length in
+      let f : Valid (s .replica) (s .log) = valid (s .replica) (s .log) (h .callable .valid) in
+      let size : length (s .log) ≡ 512 * s .replica .«last_round» .0 = f .setup .size in
       let R : s .replica .round .0 ≡ 4 = h .awaited in
       let running : s .replica .round .0 ≤ s .replica .«last_round» .0 = h .callable .running in
       omega arith

@@ -23,7 +23,7 @@ use Rattle.apollo.specs.Tick.{tickWith}
 use Rattle.apollo.specs.Calls.{openCall, tickCall}
 use Rattle.apollo.specs.BenchSheet.{after, number, newRound, block}
 use Rattle.apollo.proofs.Tests.{both, cond-true, cond-false}
-use Rattle.apollo.proofs.Validity.{SetupFacts, setup-facts, valid-of}
+use Rattle.apollo.proofs.Validity.{ValidSetup, valid-setup, valid-of}
 use Rattle.apollo.proofs.Slots.{length-zeros, length-store}
 use Rattle.apollo.proofs.Made.{block-length, block-made}
 
@@ -125,8 +125,8 @@ module _ (f timeout : ℕ) (log masks entry out : List ℕ) (valid : validSetup 
   left-valid : validReplica (proposing sha256 entry new .replica) (proposing sha256 entry new .log) ≡ true
   unfolding new first stored proposing holding tipped commit commitLimit fresh leads
   left-valid =
-      let s : SetupFacts (fresh 0 f timeout 1) log = setup-facts (fresh 0 f timeout 1) log valid in
-      let low : 1 ≤ f = s .f-low in
+      let s : ValidSetup (fresh 0 f timeout 1) log = valid-setup (fresh 0 f timeout 1) log valid in
+      let low : 1 ≤ f = s .f-least in
       let c : (highest stored (1 - f) ≡ 0) × (height (slot stored (highest stored (1 - f))) ≡ 0) =
       none-committed (1 - f) (omega arith) in
       let size : length (zeros 512) ≡ 512 = length-zeros 512 in
@@ -137,23 +137,23 @@ module _ (f timeout : ℕ) (log masks entry out : List ℕ) (valid : validSetup 
         setup =
             record {
               id-below = s .id-below;
-              f-low = s .f-low;
-              f-high = s .f-high;
-              timeout-low = s .timeout-low;
-              timeout-high = s .timeout-high;
-              last-low = omega arith;
-              last-high = omega arith;
-              log-length = omega arith;
+              f-least = s .f-least;
+              f-most = s .f-most;
+              timeout-least = s .timeout-least;
+              timeout-most = s .timeout-most;
+              last-least = omega arith;
+              last-most = omega arith;
+              size = omega arith;
             };
-        round-low = omega arith;
-        round-high = omega arith;
-        timer-high = omega arith;
+        round-least = omega arith;
+        round-most = omega arith;
+        timer-most = omega arith;
         tip-below = omega arith;
         tip-height = omega arith;
-        committed-high = omega arith;
-        committed-under = omega arith;
+        committed-most = omega arith;
+        committed-height-most = omega arith;
         committed-height = omega arith;
-        led = refl;
+        waits = refl;
       })
 
   left-over : (entry′ out′ : List ℕ) → tickCall (proposing sha256 entry new) entry′ out′ ≡ refused (proposing sha256 entry new) out′ 3 0

@@ -17,7 +17,7 @@ use Rattle.apollo.specs.Tick.{blaming, ticked, tickWith}
 use Rattle.apollo.specs.Calls.{tickCall}
 use Rattle.apollo.specs.BenchSheet.{Callable, Blames, after, number}
 use Rattle.apollo.proofs.Tests.{cond-true, cond-false}
-use Rattle.apollo.proofs.Validity.{SetupFacts, Facts, facts, valid-of}
+use Rattle.apollo.proofs.Validity.{ValidSetup, Valid, valid, valid-of}
 use Rattle.apollo.proofs.Judging.{passes}
 use Rattle.apollo.proofs.Made.{blame-length, blame-round, blame-form, blame-checked}
 
@@ -46,7 +46,7 @@ module _ {s : State} {out : List ℕ} (c : Callable s out) (entry : List ℕ) (l
   blames =
       let R : ℕ = s .replica .round .0 in
       let i : ℕ = s .replica .id in
-      let f : Facts (s .replica) (s .log) = facts (s .replica) (s .log) (c .valid) in
+      let f : Valid (s .replica) (s .log) = valid (s .replica) (s .log) (c .valid) in
       let e : Effect = settle sha256 entry (hearing (waiting s R 0) R i) R in
       let rest : List ℕ = drop (512 * length (makeBlame sha256 i R ∷ e .emitted)) out in
       let a : (makeBlame sha256 i R ++ flatten (e .emitted)) ++ rest ≡ makeBlame sha256 i R ++ (flatten (e .emitted) ++ rest) =
@@ -54,12 +54,12 @@ module _ {s : State} {out : List ℕ} (c : Callable s out) (entry : List ℕ) (l
       let t : take 512 ((makeBlame sha256 i R ++ flatten (e .emitted)) ++ rest) ≡ makeBlame sha256 i R =
       ap (take 512) a ∙ take-at (makeBlame sha256 i R) _ 512 (blame-length i R) in
       let high : R ≤ s .replica .«last_round» .0 = c .running in
-      let last : s .replica .«last_round» .0 ≤ 4096 = f .setup .last-high in
+      let last : s .replica .«last_round» .0 ≤ 4096 = f .setup .last-most in
       record {
         taken = refl;
         emitted = omega arith;
         form =
-            rw t (blame-form (setupOf (s .replica)) i R (f .setup .id-below) (f .round-low) (c .running) (omega arith));
+            rw t (blame-form (setupOf (s .replica)) i R (f .setup .id-below) (f .round-least) (c .running) (omega arith));
         check = rw t (blame-checked i R);
         by = unfold makeBlame sealed blameHead in refl;
         for = rw a (blame-round i R (flatten (e .emitted) ++ rest) (omega arith));
@@ -74,31 +74,31 @@ lower : {s : State} {out : List ℕ} → Callable s out → (out′ : List ℕ) 
     → Callable (waiting s (s .replica .round .0) n) out′
 unfolding waiting leads
 lower {s} c out′ room n l =
-    let f : Facts (s .replica) (s .log) = facts (s .replica) (s .log) (c .valid) in
-    let g : SetupFacts (s .replica) (s .log) = f .setup in
+    let f : Valid (s .replica) (s .log) = valid (s .replica) (s .log) (c .valid) in
+    let g : ValidSetup (s .replica) (s .log) = f .setup in
     record {
       valid =
           valid-of (withTimer (withRound (s .replica) (s .replica .round .0)) n) (s .log) (record {
             setup =
                 record {
                   id-below = g .id-below;
-                  f-low = g .f-low;
-                  f-high = g .f-high;
-                  timeout-low = g .timeout-low;
-                  timeout-high = g .timeout-high;
-                  last-low = g .last-low;
-                  last-high = g .last-high;
-                  log-length = g .log-length;
+                  f-least = g .f-least;
+                  f-most = g .f-most;
+                  timeout-least = g .timeout-least;
+                  timeout-most = g .timeout-most;
+                  last-least = g .last-least;
+                  last-most = g .last-most;
+                  size = g .size;
                 };
-            round-low = f .round-low;
-            round-high = f .round-high;
-            timer-high = l;
+            round-least = f .round-least;
+            round-most = f .round-most;
+            timer-most = l;
             tip-below = f .tip-below;
             tip-height = f .tip-height;
-            committed-high = f .committed-high;
-            committed-under = f .committed-under;
+            committed-most = f .committed-most;
+            committed-height-most = f .committed-height-most;
             committed-height = f .committed-height;
-            led = f .led;
+            waits = f .waits;
           });
       lent = c .lent;
       running = c .running;

@@ -154,23 +154,23 @@ callable id round tip committed m i low high t c led =
             setup =
                 record {
                   id-below = i;
-                  f-low = omega arith;
-                  f-high = omega arith;
-                  timeout-low = omega arith;
-                  timeout-high = omega arith;
-                  last-low = omega arith;
-                  last-high = omega arith;
-                  log-length = holds .size;
+                  f-least = omega arith;
+                  f-most = omega arith;
+                  timeout-least = omega arith;
+                  timeout-most = omega arith;
+                  last-least = omega arith;
+                  last-most = omega arith;
+                  size = holds .size;
                 };
-            round-low = low;
-            round-high = omega arith;
-            timer-high = omega arith;
+            round-least = low;
+            round-most = omega arith;
+            timer-most = omega arith;
             tip-below = t;
             tip-height = omega arith;
-            committed-high = c;
-            committed-under = c;
+            committed-most = c;
+            committed-height-most = c;
             committed-height = omega arith;
-            led = led;
+            waits = led;
           });
       lent = refl;
       running = high;

@@ -20,8 +20,7 @@ use Rattle.apollo.specs.Enter.{State}
 use Rattle.apollo.specs.Outcome.{Outcome, refused, guarded}
 use Rattle.apollo.specs.Branch.{lastOf, childOf, Verdict, faulty, judged, judgedAll, placed, branched, branchWith}
 use Rattle.apollo.specs.BenchSheet.{Callable, ParentIn, block, blocks}
-use Rattle.apollo.proofs.Tests.{and-true, both, cond-true, cond-false}
-use Rattle.apollo.proofs.Validity.{within-of}
+use Rattle.apollo.proofs.Tests.{and-true, both, cond-true, cond-false, within-of}
 
 module _ {s : State} {out : List ℕ} (c : Callable s out) (entry : List ℕ) where
   before-entry : (o : Outcome)

@@ -1,19 +1,35 @@
 -- Tests: what a choice is where its test is known, and equality of lists as a test. Assumes nothing.
-use Prim.Native.Nat.{ℕ}
+use Prim.Native.Nat.{ℕ, _≤_}
 use mathlib.Core.Path.{_≡_, refl, sym, subst, subst⁻¹}
 use mathlib.Core.List.{List, [], _∷_}
 use mathlib.Core.Bool.{Bool, true, false, _&&_, cond, true≢false}
-use lib.Dec.{eqb}
-use borrow.Author.Tests.{eq-eqb, eqb-true}
-use Rattle.apollo.specs.Bytes.{same}
+use lib.Dec.{eqb, leb}
+use borrow.Author.Tests.{eq-eqb, eqb-true, leb-true, le-leb}
+use Rattle.apollo.specs.Bytes.{same, within}
+
+-- each part of a conjunction that holds
+pub and-first : (a b : Bool) → (a && b) ≡ true → a ≡ true
+and-first true b e = refl
+and-first false b e = e
+
+pub and-second : (a b : Bool) → (a && b) ≡ true → b ≡ true
+and-second true b e = e
+and-second false b e = absurd (true≢false (sym e))
 
 pub and-true : (a b : Bool) → (a && b) ≡ true → (a ≡ true) × (b ≡ true)
-and-true true b e = (refl, e)
-and-true false b e = absurd (true≢false (sym e))
+and-true a b e = (and-first a b e, and-second a b e)
 
 pub both : (a b : Bool) → a ≡ true → b ≡ true → (a && b) ≡ true
 both true b e d = d
 both false b e d = e
+
+-- lo ≤ n ≤ hi, of its test, and back
+pub within-true : (lo n hi : ℕ) → within lo n hi ≡ true → (lo ≤ n) × (n ≤ hi)
+within-true lo n hi e =
+    (leb-true lo n (and-first (leb lo n) (leb n hi) e), leb-true n hi (and-second (leb lo n) (leb n hi) e))
+
+pub within-of : (lo n hi : ℕ) → lo ≤ n → n ≤ hi → within lo n hi ≡ true
+within-of lo n hi l h = both (leb lo n) (leb n hi) (le-leb lo n l) (le-leb n hi h)
 
 -- what holds in both cases of a test holds of the choice
 pub by-cond : {A : Type 0} (P : A → Type 0) (b : Bool) {x y : A} → (b ≡ true → P x) → (b ≡ false → P y) → P (cond b x y)

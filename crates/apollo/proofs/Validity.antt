@@ -10,43 +10,35 @@ use Rattle.apollo.specs.declared.Replica.{Replica}
 use Rattle.apollo.specs.Bytes.{within}
 use Rattle.apollo.specs.Setup.{setupOf, replicas}
 use Rattle.apollo.specs.Replica.{leads, validSetup, validReplica}
-use Rattle.apollo.proofs.Tests.{and-true, both}
+use Rattle.apollo.proofs.Tests.{and-true, both, within-true, within-of}
 
 -- own number, f, wait, T and the length of the log are in range
-pub record SetupFacts (r : Replica) (log : List ℕ) : Type 0 where
+pub record ValidSetup (r : Replica) (log : List ℕ) : Type 0 where
   pub id-below : r .id < 2 * r .f + 1
-  pub f-low : 1 ≤ r .f
-  pub f-high : r .f ≤ 7
-  pub timeout-low : 1 ≤ r .timeout .0
-  pub timeout-high : r .timeout .0 ≤ 60000
-  pub last-low : 1 ≤ r .«last_round» .0
-  pub last-high : r .«last_round» .0 ≤ 4096
-  pub log-length : length log ≡ 512 * r .«last_round» .0
+  pub f-least : 1 ≤ r .f
+  pub f-most : r .f ≤ 7
+  pub timeout-least : 1 ≤ r .timeout .0
+  pub timeout-most : r .timeout .0 ≤ 60000
+  pub last-least : 1 ≤ r .«last_round» .0
+  pub last-most : r .«last_round» .0 ≤ 4096
+  pub size : length log ≡ 512 * r .«last_round» .0
 
 -- the other fields are
-pub record Facts (r : Replica) (log : List ℕ) : Type 0 where
-  pub setup : SetupFacts r log
-  pub round-low : 1 ≤ r .round .0
-  pub round-high : r .round .0 ≤ r .«last_round» .0 + 1
-  pub timer-high : r .timer .0 ≤ r .timeout .0
+pub record Valid (r : Replica) (log : List ℕ) : Type 0 where
+  pub setup : ValidSetup r log
+  pub round-least : 1 ≤ r .round .0
+  pub round-most : r .round .0 ≤ r .«last_round» .0 + 1
+  pub timer-most : r .timer .0 ≤ r .timeout .0
   pub tip-below : r .«tip_round» .0 < r .round .0
   pub tip-height : r .«tip_height» .0 ≤ r .«tip_round» .0
-  pub committed-high : r .«committed_round» .0 ≤ r .«tip_round» .0
-  pub committed-under : r .«committed_height» .0 ≤ r .«tip_height» .0
+  pub committed-most : r .«committed_round» .0 ≤ r .«tip_round» .0
+  pub committed-height-most : r .«committed_height» .0 ≤ r .«tip_height» .0
   pub committed-height : r .«committed_height» .0 ≤ r .«committed_round» .0
-  pub led : leads r ≡ false
+  pub waits : leads r ≡ false
 
-within-true : (lo n hi : ℕ) → within lo n hi ≡ true → (lo ≤ n) × (n ≤ hi)
-within-true lo n hi e =
-    let p : (leb lo n ≡ true) × (leb n hi ≡ true) = and-true (leb lo n) (leb n hi) e in
-    (leb-true lo n (p .0), leb-true n hi (p .1))
-
-pub within-of : (lo n hi : ℕ) → lo ≤ n → n ≤ hi → within lo n hi ≡ true
-within-of lo n hi l h = both (leb lo n) (leb n hi) (le-leb lo n l) (le-leb n hi h)
-
-pub setup-facts : (r : Replica) (log : List ℕ) → validSetup r log ≡ true → SetupFacts r log
+pub valid-setup : (r : Replica) (log : List ℕ) → validSetup r log ≡ true → ValidSetup r log
 unfolding validSetup
-setup-facts r log e =
+valid-setup r log e =
     let a = and-true _ (eqb (length log) (512 * r .«last_round» .0)) e in
     let b = and-true _ (within 1 (r .«last_round» .0) 4096) (a .0) in
     let c = and-true _ (within 1 (r .timeout .0) 60000) (b .0) in
@@ -56,16 +48,16 @@ setup-facts r log e =
     let l : (1 ≤ r .«last_round» .0) × (r .«last_round» .0 ≤ 4096) = within-true 1 (r .«last_round» .0) 4096 (b .1) in
     record {
       id-below = ltb-true (r .id) (replicas (setupOf r)) (d .0);
-      f-low = f .0;
-      f-high = f .1;
-      timeout-low = t .0;
-      timeout-high = t .1;
-      last-low = l .0;
-      last-high = l .1;
-      log-length = eqb-true (length log) (512 * r .«last_round» .0) (a .1);
+      f-least = f .0;
+      f-most = f .1;
+      timeout-least = t .0;
+      timeout-most = t .1;
+      last-least = l .0;
+      last-most = l .1;
+      size = eqb-true (length log) (512 * r .«last_round» .0) (a .1);
     }
 
-setup-of : (r : Replica) (log : List ℕ) → SetupFacts r log → validSetup r log ≡ true
+setup-of : (r : Replica) (log : List ℕ) → ValidSetup r log → validSetup r log ≡ true
 unfolding validSetup
 setup-of r log s =
     both _ (eqb (length log) (512 * r .«last_round» .0))
@@ -73,14 +65,14 @@ setup-of r log s =
     (both _ (within 1 (r .timeout .0) 60000)
     (both (ltb (r .id) (replicas (setupOf r))) (within 1 (r .f) 7)
     (lt-ltb (r .id) (replicas (setupOf r)) (s .id-below))
-    (within-of 1 (r .f) 7 (s .f-low) (s .f-high)))
-    (within-of 1 (r .timeout .0) 60000 (s .timeout-low) (s .timeout-high)))
-    (within-of 1 (r .«last_round» .0) 4096 (s .last-low) (s .last-high)))
-    (eq-eqb (length log) (512 * r .«last_round» .0) (s .log-length))
+    (within-of 1 (r .f) 7 (s .f-least) (s .f-most)))
+    (within-of 1 (r .timeout .0) 60000 (s .timeout-least) (s .timeout-most)))
+    (within-of 1 (r .«last_round» .0) 4096 (s .last-least) (s .last-most)))
+    (eq-eqb (length log) (512 * r .«last_round» .0) (s .size))
 
-pub facts : (r : Replica) (log : List ℕ) → validReplica r log ≡ true → Facts r log
+pub valid : (r : Replica) (log : List ℕ) → validReplica r log ≡ true → Valid r log
 unfolding validReplica
-facts r log e =
+valid r log e =
     let a = and-true _ (not (leads r)) e in
     let b = and-true _ (leb (r .«committed_height» .0) (r .«committed_round» .0)) (a .0) in
     let c = and-true _ (leb (r .«committed_height» .0) (r .«tip_height» .0)) (b .0) in
@@ -92,19 +84,19 @@ facts r log e =
     let w : (1 ≤ r .round .0) × (r .round .0 ≤ r .«last_round» .0 + 1) =
     within-true 1 (r .round .0) (r .«last_round» .0 + 1) (m .1) in
     record {
-      setup = setup-facts r log (m .0);
-      round-low = w .0;
-      round-high = w .1;
-      timer-high = leb-true (r .timer .0) (r .timeout .0) (k .1);
+      setup = valid-setup r log (m .0);
+      round-least = w .0;
+      round-most = w .1;
+      timer-most = leb-true (r .timer .0) (r .timeout .0) (k .1);
       tip-below = ltb-true (r .«tip_round» .0) (r .round .0) (h .1);
       tip-height = leb-true (r .«tip_height» .0) (r .«tip_round» .0) (g .1);
-      committed-high = leb-true (r .«committed_round» .0) (r .«tip_round» .0) (d .1);
-      committed-under = leb-true (r .«committed_height» .0) (r .«tip_height» .0) (c .1);
+      committed-most = leb-true (r .«committed_round» .0) (r .«tip_round» .0) (d .1);
+      committed-height-most = leb-true (r .«committed_height» .0) (r .«tip_height» .0) (c .1);
       committed-height = leb-true (r .«committed_height» .0) (r .«committed_round» .0) (b .1);
-      led = not-true (leads r) (a .1);
+      waits = not-true (leads r) (a .1);
     }
 
-pub valid-of : (r : Replica) (log : List ℕ) → Facts r log → validReplica r log ≡ true
+pub valid-of : (r : Replica) (log : List ℕ) → Valid r log → validReplica r log ≡ true
 unfolding validReplica
 valid-of r log s =
     both _ (not (leads r))
@@ -115,11 +107,11 @@ valid-of r log s =
     (both _ (ltb (r .«tip_round» .0) (r .round .0))
     (both _ (leb (r .timer .0) (r .timeout .0))
     (both (validSetup r log) (within 1 (r .round .0) (r .«last_round» .0 + 1)) (setup-of r log (s .setup))
-    (within-of 1 (r .round .0) (r .«last_round» .0 + 1) (s .round-low) (s .round-high)))
-    (le-leb (r .timer .0) (r .timeout .0) (s .timer-high)))
+    (within-of 1 (r .round .0) (r .«last_round» .0 + 1) (s .round-least) (s .round-most)))
+    (le-leb (r .timer .0) (r .timeout .0) (s .timer-most)))
     (lt-ltb (r .«tip_round» .0) (r .round .0) (s .tip-below)))
     (le-leb (r .«tip_height» .0) (r .«tip_round» .0) (s .tip-height)))
-    (le-leb (r .«committed_round» .0) (r .«tip_round» .0) (s .committed-high)))
-    (le-leb (r .«committed_height» .0) (r .«tip_height» .0) (s .committed-under)))
+    (le-leb (r .«committed_round» .0) (r .«tip_round» .0) (s .committed-most)))
+    (le-leb (r .«committed_height» .0) (r .«tip_height» .0) (s .committed-height-most)))
     (le-leb (r .«committed_height» .0) (r .«committed_round» .0) (s .committed-height)))
-    (ap not (s .led))
+    (ap not (s .waits))

@@ -21,8 +21,8 @@ use Rattle.span.specs.Keeps.{keepsAll}
 use Rattle.chain.specs.Ordered.{Ordered}
 use Rattle.chain.proofs.Ordered.{ordered}
 use Rattle.span.proofs.Grown.{taken-grown, keeps-grown}
-use Rattle.record.specs.Valid.{Valid}
-use Rattle.record.proofs.Valid.{valid}
+use Rattle.apollo.proofs.Validity.{Valid}
+use Rattle.apollo.proofs.Validity.{valid}
 use Rattle.branch.specs.declared.Judged.{Judged}
 use Rattle.branch.specs.Frames.{framesOf, firstFrame, lastFrame}
 use Rattle.branch.specs.Judge.{refusal, accepted, judgedOn, judgedAt, judgedWhole, isWhole, judgedBranch, adopted, answered}

@@ -11,7 +11,7 @@ use borrow.Author.Tests.{eqb-true}
 use Rattle.apollo.specs.Bytes.{part, within}
 use Rattle.apollo.specs.Frame.{frames}
 use Rattle.apollo.specs.Branch.{lastOf}
-use Rattle.record.proofs.Tests.{and-first, and-second, within-true}
+use Rattle.apollo.proofs.Tests.{and-first, and-second, within-true}
 use Rattle.branch.specs.Frames.{lastFrame}
 use Rattle.branch.specs.Judge.{isWhole}
 

@@ -11,7 +11,7 @@ use Rattle.apollo.specs.declared.Fetched.{Fetched}
 use Rattle.apollo.specs.Replica.{validReplica}
 use Rattle.apollo.specs.Fetch.{fetchable, mayCopy, fetchCall}
 use Rattle.heights.specs.Fetch.{tall}
-use Rattle.record.proofs.Valid.{valid}
+use Rattle.apollo.proofs.Validity.{valid}
 use Rattle.reads.specs.Answers.{noFrames, fetched}
 
 module _ (r : Replica) (log : List ℕ) (h : ℕ) (out : List ℕ) where

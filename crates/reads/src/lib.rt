@@ -37,7 +37,7 @@ fn entry_part(log: &[u8], r: u32) -> Part
 pub fn read_part(replica: Replica, log: &[u8], height: Height) -> Part
     ensures { λ p. ⌜ p ≡ readCall replica (now (log .entry)) (height .0) .answer ⌝ }
 {
-    if !record::valid_replica(replica, log) {
+    if !ranges::valid_replica(replica, log) {
         return no_part(2);
     }
     let r = heights::lowest(log, height.0, replica.committed_round.0);
@@ -68,7 +68,7 @@ pub fn fetch(replica: Replica, log: &[u8], height: Height, out: &mut [u8]) -> Fe
     ensures { λ a. ⌜ fetched a (now (out .exit)) ≡ fetchCall replica (now (log .entry)) (height .0) (now (out .entry)) (a .count) ⌝ }
     ensures { λ a. ⌜ (a .number ≡ 0 → mayCopy replica (now (log .entry)) (height .0) (now (out .entry)) (a .count) ≡ true) ⌝ }
 {
-    if !record::valid_replica(replica, log) {
+    if !ranges::valid_replica(replica, log) {
         return no_frames(2);
     }
     if out.len() < 1024 {

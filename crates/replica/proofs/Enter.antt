@@ -15,7 +15,7 @@ use Rattle.apollo.specs.Masks.{certified}
 use Rattle.apollo.specs.Replica.{withRound, withTimer, leads}
 use Rattle.apollo.specs.Enter.{State, Effect, waiting, enterRound, settle}
 use Rattle.apollo.specs.Outcome.{Outcome, taken, nextLeader}
-use Rattle.record.proofs.Tests.{and-first}
+use Rattle.apollo.proofs.Tests.{and-first}
 use Rattle.replica.specs.Call.{state, outcome, takenAnswer, proposed}
 use Rattle.replica.specs.Ready.{Ready}
 

@@ -17,9 +17,9 @@ use Rattle.apollo.specs.Replica.{validSetup, validReplica, validMasks}
 use Rattle.apollo.specs.Enter.{State, hearing, settle}
 use Rattle.apollo.specs.Outcome.{Outcome, refused, taken, guarded}
 use Rattle.apollo.specs.Blame.{heard}
-use Rattle.record.specs.Valid.{ValidSetup, Valid}
-use Rattle.record.proofs.Tests.{and-first, and-second}
-use Rattle.record.proofs.Valid.{valid-setup, valid}
+use Rattle.apollo.proofs.Validity.{ValidSetup, Valid}
+use Rattle.apollo.proofs.Tests.{and-first, and-second}
+use Rattle.apollo.proofs.Validity.{valid-setup, valid}
 use Rattle.replica.specs.Call.{state, outcome, refusedAnswer}
 use Rattle.replica.specs.Judge.{roomNumber, openNumber, guardNumber, blameNumber}
 

@@ -67,7 +67,7 @@ fn tipped(r: Replica, log: &[u8], t: u32, h: u32) -> Replica
     let a = record::with_tip(r, t, h);
     let b = record::with_round(a, t + 1);
     let c = record::with_timer(b, r.timeout.0);
-    record::commit(c, log)
+    commit::commit(c, log)
 }
 
 // The block for R on the tip is written to the front of out.
@@ -104,7 +104,7 @@ fn enter_round(r: Replica, log: &mut [u8], entry: &[u8], out: &mut [u8]) -> Answ
     requires { ⌜ Ready r (now log) (now entry) (now out) ⌝ }
     ensures { λ a. ⌜ ((masks : List ℕ) → outcome a (now (log .exit)) masks (now (out .exit)) ≡ Outcome.taken (Enter.enterRound sha256 (now (entry .entry)) (state r (now (log .entry)) masks)) (now (out .entry))) ⌝ }
 {
-    if record::leads(r) {
+    if ranges::leads(r) {
         return propose(r, log, entry, out);
     }
     taken(record::with_timer(r, r.timeout.0), 0)
@@ -148,7 +148,7 @@ fn judge_room(entry: &[u8], out: &[u8]) -> u8
 fn judge_open(r: Replica, log: &[u8], masks: &[u16], entry: &[u8], out: &[u8]) -> u8
     ensures { λ n. ⌜ n ≡ openNumber r (now (log .entry)) (now (masks .entry)) (now (entry .entry)) (now (out .entry)) ⌝ }
 {
-    if !(record::valid_setup(r, log) & record::valid_masks(r, masks)) {
+    if !(ranges::valid_setup(r, log) & ranges::valid_masks(r, masks)) {
         return 1;
     }
     judge_room(entry, out)
@@ -158,7 +158,7 @@ fn judge_open(r: Replica, log: &[u8], masks: &[u16], entry: &[u8], out: &[u8]) -
 fn guard(r: Replica, log: &[u8], masks: &[u16], entry: &[u8], out: &[u8]) -> u8
     ensures { λ n. ⌜ n ≡ guardNumber r (now (log .entry)) (now (masks .entry)) (now (entry .entry)) (now (out .entry)) ⌝ }
 {
-    if !(record::valid_replica(r, log) & record::valid_masks(r, masks)) {
+    if !(ranges::valid_replica(r, log) & ranges::valid_masks(r, masks)) {
         return 2;
     }
     let round = r.round.0 as u64;

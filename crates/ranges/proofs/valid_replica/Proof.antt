@@ -1,8 +1,8 @@
--- `record::valid_replica` meets its contract. Assumes nothing.
+-- `ranges::valid_replica` meets its contract. Assumes nothing.
 use borrow.Author.Needs.{needs}
-use Rattle.record.proofs.Valid.{replica-test}
-use Rattle.record.proofs.valid_replica.Statement.{statement}
-use Rattle.record.proofs.valid_replica.Tie as tie
+use Rattle.ranges.proofs.Valid.{replica-test}
+use Rattle.ranges.proofs.valid_replica.Statement.{statement}
+use Rattle.ranges.proofs.valid_replica.Tie as tie
 
 valid-setup-requires : tie.Need-valid-setup-requires
 valid-setup-requires c κs = search needs
@@ -14,7 +14,8 @@ leads-requires : tie.Need-leads-requires
 leads-requires c κs = search needs
 
 returns : tie.Need-returns
-returns c = let a = c .before .before .before .before .args in cc (replica-test (a .r) (a .log .now))
+returns c =
+    replica-test _ _ (c .before .before .valid-setup .ensures) (c .before .valid-rounds .ensures) (c .leads .ensures)
 
 pub valid-replica-spec : {M : Type 1} → statement M
 valid-replica-spec =

@@ -1,9 +1,9 @@
--- `record::commit_limit` meets its contract. Assumes nothing.
+-- `commit::commit_limit` meets its contract. Assumes nothing.
 use native.Mathlib.Omega.{arith}
 use borrow.Author.Needs.{needs}
 use Rattle.apollo.specs.Enter.{commitLimit}
-use Rattle.record.proofs.commit_limit.Statement.{statement}
-use Rattle.record.proofs.commit_limit.Tie as tie
+use Rattle.commit.proofs.commit_limit.Statement.{statement}
+use Rattle.commit.proofs.commit_limit.Tie as tie
 
 cast-f : tie.Need-cast-f
 cast-f c = search needs

@@ -1,8 +1,8 @@
--- `record::commit` meets its contract. Assumes nothing.
+-- `commit::commit` meets its contract. Assumes nothing.
 use borrow.Author.Needs.{needs}
-use Rattle.apollo.specs.Enter.{commit}
-use Rattle.record.proofs.commit.Statement.{statement}
-use Rattle.record.proofs.commit.Tie as tie
+use Rattle.commit.proofs.Renewed.{renewed}
+use Rattle.commit.proofs.commit.Statement.{statement}
+use Rattle.commit.proofs.commit.Tie as tie
 
 commit-limit-requires : tie.Need-commit-limit-requires
 commit-limit-requires c κs = search needs
@@ -17,8 +17,9 @@ with-committed-requires : tie.Need-with-committed-requires
 with-committed-requires c κs = search needs
 
 returns : tie.Need-returns
-unfolding commit
-returns c = cc
+returns c =
+    renewed _ _ (c .before .before .before .commit-limit .ensures) (c .before .before .highest .ensures) (c .before .slot-height .ensures)
+    (c .with-committed .ensures)
 
 pub commit-spec : {M : Type 1} → statement M
 commit-spec =

@@ -1,9 +1,9 @@
--- `record::valid_rounds` meets its contract. Assumes nothing.
+-- `ranges::valid_rounds` meets its contract. Assumes nothing.
 use mathlib.Core.Path.{refl}
 use borrow.Author.Needs.{needs}
-use Rattle.record.specs.Rounds.{validRounds}
-use Rattle.record.proofs.valid_rounds.Statement.{statement}
-use Rattle.record.proofs.valid_rounds.Tie as tie
+use Rattle.ranges.specs.Rounds.{validRounds}
+use Rattle.ranges.proofs.valid_rounds.Statement.{statement}
+use Rattle.ranges.proofs.valid_rounds.Tie as tie
 
 cast-last : tie.Need-cast-last
 cast-last c = search needs

@@ -1,8 +1,8 @@
--- `record::leads` meets its contract. Assumes nothing.
+-- `ranges::leads` meets its contract. Assumes nothing.
 use borrow.Author.Needs.{needs}
-use Rattle.record.proofs.Valid.{leads-test}
-use Rattle.record.proofs.leads.Statement.{statement}
-use Rattle.record.proofs.leads.Tie as tie
+use Rattle.ranges.proofs.Valid.{leads-test}
+use Rattle.ranges.proofs.leads.Statement.{statement}
+use Rattle.ranges.proofs.leads.Tie as tie
 
 leader-requires : tie.Need-leader-requires
 leader-requires c κs = search needs

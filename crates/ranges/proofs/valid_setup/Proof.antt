@@ -1,8 +1,9 @@
--- `record::valid_setup` meets its contract. Assumes nothing.
+-- `ranges::valid_setup` meets its contract. Assumes nothing.
+use mathlib.Core.Path.{refl}
 use borrow.Author.Needs.{needs}
 use Rattle.apollo.specs.Replica.{validSetup}
-use Rattle.record.proofs.valid_setup.Statement.{statement}
-use Rattle.record.proofs.valid_setup.Tie as tie
+use Rattle.ranges.proofs.valid_setup.Statement.{statement}
+use Rattle.ranges.proofs.valid_setup.Tie as tie
 
 cast-id : tie.Need-cast-id
 cast-id c = search needs
@@ -22,18 +23,9 @@ mul-result c = search needs
 add-result : tie.Need-add-result
 add-result c = search needs
 
-is-within-requires : tie.Need-is-within-requires
-is-within-requires c κs = search needs
-
-is-within-requires-2 : tie.Need-is-within-requires-2
-is-within-requires-2 c κs = search needs
-
-is-within-requires-3 : tie.Need-is-within-requires-3
-is-within-requires-3 c κs = search needs
-
 returns : tie.Need-returns
 unfolding validSetup
-returns c = cc
+returns c = refl
 
 pub valid-setup-spec : {M : Type 1} → statement M
 valid-setup-spec =
@@ -45,7 +37,4 @@ valid-setup-spec =
     mul-size
     mul-result
     add-result
-    is-within-requires
-    is-within-requires-2
-    is-within-requires-3
     returns)

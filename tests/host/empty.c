@@ -1,0 +1,88 @@
+/* NULL with length 0 is an empty buffer, for each pointer of each call: an empty entry is taken and proposed, any other empty buffer gets
+ * the refusal of its length. Exits with 0 if all is so. */
+#include "apollo.h"
+
+#include <stdio.h>
+#include <stdlib.h>
+#include <string.h>
+
+#define EXPECT(what)                                    \
+  do {                                                  \
+    if (!(what)) {                                      \
+      printf("line %d: not so: %s\n", __LINE__, #what); \
+      exit(1);                                          \
+    }                                                   \
+  } while (0)
+
+enum { T = 6, LOG = APOLLO_FRAME * T };
+
+static uint8_t log_[LOG], out[APOLLO_OUT];
+static uint16_t masks[T];
+
+/* The call emitted, as its last frame, the block of that round with no entry. */
+static int proposed(apollo_answer a, uint8_t round) {
+  const uint8_t *frame = out + APOLLO_FRAME * (a.frames - 1);
+  uint8_t digest[APOLLO_DIGEST], rest[436] = {0};
+  apollo_digest(frame, 480, digest);
+  return a.number == APOLLO_TAKEN && a.frames > 0 && frame[0] == APOLLO_BLOCK && frame[2] == 0 && frame[3] == 0 && frame[7] == round &&
+         memcmp(frame + 44, rest, sizeof rest) == 0 && memcmp(frame + 480, digest, sizeof digest) == 0;
+}
+
+static apollo_answer open_card(uint8_t id) {
+  return apollo_open(id, 1, (apollo_ticks){1}, (apollo_round){T}, log_, LOG, masks, T, NULL, 0, out, sizeof out);
+}
+
+int main(void) {
+  uint8_t block[APOLLO_FRAME], blame[APOLLO_FRAME], digest[APOLLO_DIGEST];
+  apollo_ticks one = {1};
+  apollo_round last = {T};
+  EXPECT(apollo_open(0, 1, one, last, NULL, 0, masks, T, NULL, 0, out, sizeof out).number == APOLLO_BAD_SETUP);
+  EXPECT(apollo_open(0, 1, one, last, log_, LOG, NULL, 0, NULL, 0, out, sizeof out).number == APOLLO_BAD_SETUP);
+  EXPECT(apollo_open(0, 1, one, last, log_, LOG, masks, T, NULL, 0, NULL, 0).number == APOLLO_OUT_TOO_SHORT);
+  apollo_answer a = open_card(0);
+  EXPECT(proposed(a, 1));
+  memcpy(block, out, sizeof block);
+  a = apollo_tick(a.replica, log_, LOG, masks, T, NULL, 0, out, sizeof out);
+  EXPECT(a.number == APOLLO_TAKEN && a.frames == 1 && out[0] == APOLLO_BLAME);
+  memcpy(blame, out, sizeof blame);
+
+  apollo_replica r = open_card(1).replica;
+  EXPECT(apollo_branch(r, NULL, 0, masks, T, block, sizeof block, NULL, 0, out, sizeof out).number == APOLLO_BAD_REPLICA);
+  EXPECT(apollo_branch(r, log_, LOG, NULL, 0, block, sizeof block, NULL, 0, out, sizeof out).number == APOLLO_BAD_REPLICA);
+  EXPECT(apollo_branch(r, log_, LOG, masks, T, NULL, 0, NULL, 0, out, sizeof out).number == APOLLO_BAD_LENGTH);
+  EXPECT(apollo_branch(r, log_, LOG, masks, T, block, sizeof block, NULL, 0, NULL, 0).number == APOLLO_OUT_TOO_SHORT);
+  EXPECT(proposed(apollo_branch(r, log_, LOG, masks, T, block, sizeof block, NULL, 0, out, sizeof out), 2));
+
+  r = open_card(2).replica;
+  r = apollo_branch(r, log_, LOG, masks, T, block, sizeof block, NULL, 0, out, sizeof out).replica;
+  EXPECT(apollo_tick(r, NULL, 0, masks, T, NULL, 0, out, sizeof out).number == APOLLO_BAD_REPLICA);
+  EXPECT(apollo_tick(r, log_, LOG, NULL, 0, NULL, 0, out, sizeof out).number == APOLLO_BAD_REPLICA);
+  EXPECT(apollo_tick(r, log_, LOG, masks, T, NULL, 0, NULL, 0).number == APOLLO_OUT_TOO_SHORT);
+  EXPECT(apollo_blame(r, NULL, 0, masks, T, blame, sizeof blame, NULL, 0, out, sizeof out).number == APOLLO_BAD_REPLICA);
+  EXPECT(apollo_blame(r, log_, LOG, NULL, 0, blame, sizeof blame, NULL, 0, out, sizeof out).number == APOLLO_BAD_REPLICA);
+  EXPECT(apollo_blame(r, log_, LOG, masks, T, NULL, 0, NULL, 0, out, sizeof out).number == APOLLO_BAD_LENGTH);
+  EXPECT(apollo_blame(r, log_, LOG, masks, T, blame, sizeof blame, NULL, 0, NULL, 0).number == APOLLO_OUT_TOO_SHORT);
+  a = apollo_blame(r, log_, LOG, masks, T, blame, sizeof blame, NULL, 0, out, sizeof out);
+  EXPECT(a.number == APOLLO_TAKEN && a.frames == 0);
+  a = apollo_tick(a.replica, log_, LOG, masks, T, NULL, 0, out, sizeof out); /* the second blame: round 2 is passed over */
+  EXPECT(a.frames == 2 && proposed(a, 3));
+
+  r = open_card(2).replica;
+  r = apollo_branch(r, log_, LOG, masks, T, block, sizeof block, NULL, 0, out, sizeof out).replica;
+  r = apollo_tick(r, log_, LOG, masks, T, NULL, 0, out, sizeof out).replica;
+  a = apollo_blame(r, log_, LOG, masks, T, blame, sizeof blame, NULL, 0, out, sizeof out);
+  EXPECT(a.frames == 1 && proposed(a, 3) && a.replica.committed_height.value == 1);
+
+  apollo_height height = {1}, none = {0};
+  EXPECT(apollo_read(a.replica, NULL, 0, height).number == APOLLO_BAD_REPLICA);
+  apollo_part p = apollo_read(a.replica, log_, LOG, height);
+  EXPECT(p.number == APOLLO_TAKEN && p.start == 44 && p.length == 0);
+  EXPECT(apollo_fetch(a.replica, NULL, 0, none, out, sizeof out).number == APOLLO_BAD_REPLICA);
+  EXPECT(apollo_fetch(a.replica, log_, LOG, none, NULL, 0).number == APOLLO_OUT_TOO_SHORT);
+
+  static const uint8_t empty[4] = {0xe3, 0xb0, 0xc4, 0x42}; /* the digest of no bytes begins so */
+  apollo_digest(NULL, 0, digest);
+  EXPECT(memcmp(digest, empty, sizeof empty) == 0);
+  puts("NULL with length 0 is an empty buffer in every call");
+  return 0;
+}
