@@ -145,10 +145,3 @@ module _ (log : List ℕ) (h : ℕ) where
           let z : k ≡ length (upTo r) = c .count in
           let y : take k (upTo n) ≡ upTo r = ap (λ (m : ℕ). take m (upTo n)) z ∙ p .1 in
           rw tall-is (omega (arith, c .fits, p .0), rw y (c .bytes))
-
--- in a log of whole slots up to round t these are the definition's
-pub tall-whole : (log : List ℕ) (h t : ℕ) → length log ≡ 512 * t → tall log h t ≡ above h (chain log t)
-unfolding tall
-tall-whole log h t l =
-    let e : min t (length log / 512) ≡ t = omega arith in
-    rw e

@@ -1,17 +1,22 @@
 -- Slots by height: one slot tested, and the search upward for the lowest readable. Assumes nothing.
 use mathlib.Core.Path.{_≡_}
-use mathlib.Core.Bool.{true, false, cond}
+use mathlib.Core.Bool.{Bool, true, false, cond}
 use mathlib.Core.List.{List}
-use Prim.Native.Nat.{ℕ, suc, _+_, _-_, _≤_, _<_}
+use Prim.Native.Nat.{ℕ, suc, _+_, _-_, _*_, _≤_, _<_, _/_, min}
+use native.Mathlib.Nat.{sub-zero}
+use native.Mathlib.Numerals.{add-one}
 use native.Mathlib.Omega.{arith}
 use lib.Dec.{leb, ltb}
+use lib.ListN.{length, take, drop}
 use borrow.Author.Tests.{eq-eqb, ne-eqb}
 use Rattle.apollo.specs.Frame.{kind, height, entryLength}
 use Rattle.apollo.specs.Log.{slot, filled}
 use Rattle.apollo.specs.Read.{readable, lowest}
 use Rattle.log.specs.Slots.{slotPart}
 use Rattle.log.proofs.Search.{slot-is}
+use Rattle.log.proofs.Frames.{frame-part}
 use Rattle.heights.specs.Fetch.{isTall}
+use Rattle.heights.specs.Read.{isReadable, lowestWhole}
 
 module _ (log x : List ℕ) (r : ℕ) (g : 0 < r) (e : x ≡ slotPart log r) where
   module _ (k : ℕ) (d : k ≡ kind x) where
@@ -23,19 +28,26 @@ module _ (log x : List ℕ) (r : ℕ) (g : 0 < r) (e : x ≡ slotPart log r) whe
     unfolding isTall
     tall-filled h y o q = rw (slot-is log x r g e, ← d, eq-eqb k 1 o, q)
 
-  module _ (h k : ℕ) (d : k ≡ kind x) where
-    pub unfilled : (k ≡ 1 → ⊥) → false ≡ readable log h r
-    unfolding readable
-    unfilled n = rw (slot-is log x r g e, ← d, ne-eqb k 1 n)
+-- a slot tested for read
+module _ (x : List ℕ) (h k : ℕ) (d : k ≡ kind x) where
+  pub unfilled : (k ≡ 1 → ⊥) → false ≡ isReadable x h
+  unfolding isReadable
+  unfilled n = rw (← d, ne-eqb k 1 n)
 
-    module _ (y : ℕ) (f : y ≡ height x) (o : k ≡ 1) where
-      pub another : (y ≡ h → ⊥) → false ≡ readable log h r
-      unfolding readable
-      another n = rw (slot-is log x r g e, ← d, eq-eqb k 1 o, ← f, ne-eqb y h n)
+  module _ (y : ℕ) (f : y ≡ height x) (o : k ≡ 1) where
+    pub another : (y ≡ h → ⊥) → false ≡ isReadable x h
+    unfolding isReadable
+    another n = rw (← d, eq-eqb k 1 o, ← f, ne-eqb y h n)
 
-      pub judged : (l : ℕ) → y ≡ h → l ≡ entryLength x → leb l 400 ≡ readable log h r
-      unfolding readable
-      judged l p q = rw (slot-is log x r g e, ← d, eq-eqb k 1 o, ← f, eq-eqb y h p, q)
+    pub judged : (l : ℕ) → y ≡ h → l ≡ entryLength x → leb l 400 ≡ isReadable x h
+    unfolding isReadable
+    judged l p q = rw (← d, eq-eqb k 1 o, ← f, eq-eqb y h p, q)
+
+-- the slot above lo as the code lends it
+pub readable-slot : (log : List ℕ) (h lo : ℕ) (b : Bool) → b ≡ isReadable (take (512 * lo + 512 - 512 * lo) (drop (512 * lo) log)) h
+    → b ≡ readable log h (lo + 1)
+unfolding isReadable readable slot
+readable-slot log h lo b e = rw add-one (rw (frame-part log (512 * lo)) at e)
 
 -- lowest, from slot lo + 1 upwards to c
 lowest-more : (log : List ℕ) (h lo c : ℕ) → lo < c
@@ -44,6 +56,10 @@ unfolding lowest
 lowest-more log h lo c g =
     let q : c - lo ≡ suc (c - (lo + 1)) = omega arith in
     rw q
+
+pub lowest-start : (log : List ℕ) (h c n : ℕ) → n ≡ min c (length log / 512) → lowest log h 0 (n - 0) ≡ lowestWhole log h c
+unfolding lowestWhole
+lowest-start log h c n e = rw (e, sub-zero)
 
 pub lowest-here : (log : List ℕ) (h lo c : ℕ) → lo < c → true ≡ readable log h (lo + 1) → lo + 1 ≡ lowest log h lo (c - lo)
 lowest-here log h lo c g e = rw (lowest-more log h lo c g, ← e)

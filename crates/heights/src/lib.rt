@@ -6,15 +6,22 @@ ghost use mathlib.Core.Bool.{cond};
 ghost use mathlib.Core.List.{_++_, flatten};
 ghost use lib.ListN.{length, take, drop};
 ghost use Rattle.apollo.specs.Log as Log;
-ghost use Rattle.apollo.specs.Read as Read;
 ghost use Rattle.heights.specs.Fetch.{isTall, tall};
+ghost use Rattle.heights.specs.Read.{isReadable, lowestWhole};
 
-// Slot r is filled, with height h and an entry length of at most 400.
-fn is_readable(log: &[u8], h: u32, r: u32) -> bool
-    requires { ⌜ 0 < r ⌝ }
-    ensures { λ b. ⌜ b ≡ Read.readable (now (log .entry)) h r ⌝ }
+// How many whole slots up to the last round the log has.
+fn whole_slots(log: &[u8], last_round: u32) -> u32
+    ensures { λ n. ⌜ n ≡ min «last_round» (length (now (log .entry)) / 512) ⌝ }
 {
-    let x = log::slot(log, r);
+    let n = log.len() / 512;
+    let t = last_round as usize;
+    if n < t { n as u32 } else { last_round }
+}
+
+// Slot x is filled, with height h and an entry length of at most 400.
+fn is_readable(x: &[u8], h: u32) -> bool
+    ensures { λ b. ⌜ b ≡ isReadable (now (x .entry)) h ⌝ }
+{
     if frame::kind(x) != 1 {
         return false;
     }
@@ -24,14 +31,17 @@ fn is_readable(log: &[u8], h: u32, r: u32) -> bool
     frame::entry_length(x) <= 400
 }
 
-// The lowest such slot up to the committed round, 0 if none.
+// The lowest such slot up to the committed round, in whole slots, 0 if none.
 pub fn lowest(log: &[u8], h: u32, committed: u32) -> u32
-    ensures { λ r. ⌜ r ≡ Read.lowest (now (log .entry)) h 0 committed ⌝ }
+    ensures { λ r. ⌜ r ≡ lowestWhole (now (log .entry)) h committed ⌝ }
 {
+    let n = whole_slots(log, committed);
     let mut lo = 0;
-    while lo < committed {
+    while lo < n {
+        let a = 512 * (lo as usize);
+        let e = a + 512;
         let r = lo + 1;
-        if is_readable(log, h, r) {
+        if is_readable(&log[a..e], h) {
             return r;
         }
         lo = r;
@@ -62,15 +72,6 @@ fn fetch_slot(log: &[u8], h: u32, r: u32, out: &mut [u8], k: u32) -> u32
     }
     log::store(out, k + 1, log::slot(log, r));
     k + 1
-}
-
-// How many whole slots up to the last round the log has.
-fn whole_slots(log: &[u8], last_round: u32) -> u32
-    ensures { λ n. ⌜ n ≡ min «last_round» (length (now (log .entry)) / 512) ⌝ }
-{
-    let n = log.len() / 512;
-    let t = last_round as usize;
-    if n < t { n as u32 } else { last_round }
 }
 
 // The chain frames of height above h are copied to out, in rising round, as many as fit; how many.

@@ -1,39 +1,72 @@
 -- `heights::lowest` meets its contract. The loop's invariant: no slot up to `lo` is readable. Assumes nothing.
 use mathlib.Core.Path.{_≡_, sym, _∙_}
-use Prim.Native.Nat.{_≤_, _-_}
-use native.Mathlib.Nat.{sub-zero}
+use Prim.Native.Nat.{_*_, _≤_, _-_}
+use native.Mathlib.Omega.{arith}
+use lib.ListN.{length}
 use borrow.Author.Needs.{needs}
 use Rattle.apollo.specs.Read as Read
-use Rattle.heights.proofs.Search.{lowest-here, lowest-above, lowest-none}
+use Rattle.heights.specs.Read.{lowestWhole}
+use Rattle.heights.proofs.Search.{readable-slot, lowest-start, lowest-here, lowest-above, lowest-none}
 use Rattle.heights.proofs.lowest.Statement.{statement}
 use Rattle.heights.proofs.lowest.Tie as tie
 
 abbrev Inv-loop : tie.InvT-loop
-Inv-loop log h committed lo₀ lo = (lo ≤ committed) × (Read.lowest log h lo (committed - lo) ≡ Read.lowest log h 0 committed)
+Inv-loop log h committed n lo₀ lo =
+    (lo ≤ n) × (512 * n ≤ length log) × (Read.lowest log h lo (n - lo) ≡ lowestWhole log h committed)
 
 abbrev μ-loop : tie.MeasureT-loop
-μ-loop log h committed lo₀ lo = committed - lo
+μ-loop log h committed n lo₀ lo = n - lo
+
+whole-slots-requires : tie.Need-whole-slots-requires Inv-loop μ-loop
+whole-slots-requires c κs = search needs
 
 loop-holds : tie.Need-loop-holds Inv-loop μ-loop
-loop-holds c = (search needs, rw sub-zero)
+loop-holds c =
+    let e = c .whole-slots .ensures in
+    (omega arith, omega (arith, e), lowest-start _ _ _ _ e)
+
+cast-a : tie.Need-cast-a Inv-loop μ-loop
+cast-a c = search needs
+
+mul-a : tie.Need-mul-a Inv-loop μ-loop
+mul-a c = search needs
+
+add-e : tie.Need-add-e Inv-loop μ-loop
+add-e c = search needs
 
 add-r : tie.Need-add-r Inv-loop μ-loop
 add-r c = search needs
+
+sub-is-readable : tie.Need-sub-is-readable Inv-loop μ-loop
+sub-is-readable c = search needs
+
+part-is-readable-start : tie.Need-part-is-readable-start Inv-loop μ-loop
+part-is-readable-start c = search needs
+
+part-is-readable-end : tie.Need-part-is-readable-end Inv-loop μ-loop
+part-is-readable-end c = search needs
 
 is-readable-requires : tie.Need-is-readable-requires Inv-loop μ-loop
 is-readable-requires c κs = search needs
 
 returns : tie.Need-returns Inv-loop μ-loop
-returns c = lowest-here (c .before .before .before .before .before .args .log .now) (c .before .before .before .before .before .args .h) (c .before .before .before .loop .lo) (c .before .before .before .before .before .args .committed) (c .before .before .loop-test .taken) (sym (c .if1 .taken) ∙ c .before .is-readable .ensures) ∙ c .before .before .before .loop .inv .1
+returns c =
+    let t = c .before .before .before in
+    let l = t .before .loop in
+    lowest-here _ _ (l .lo) _ (t .loop-test .taken) (sym (c .if1 .taken) ∙ readable-slot _ _ (l .lo) _ (c .before .is-readable .ensures))
+    ∙ l .inv .2
 
 loop-less : tie.Need-loop-less Inv-loop μ-loop
 loop-less c = search needs
 
 loop-again : tie.Need-loop-again Inv-loop μ-loop
-loop-again c = (search needs, lowest-above (c .before .before .before .before .before .args .log .now) (c .before .before .before .before .before .args .h) (c .before .before .before .loop .lo) (c .before .before .before .before .before .args .committed) (c .before .before .loop-test .taken) (sym (c .if1 .left) ∙ c .before .is-readable .ensures) ∙ c .before .before .before .loop .inv .1)
+loop-again c =
+    let t = c .before .before .before in
+    let l = t .before .loop in
+    (search needs, l .inv .1, lowest-above _ _ (l .lo) _ (t .loop-test .taken) (sym (c .if1 .left) ∙ readable-slot _ _ (l .lo) _ (c .before .is-readable .ensures)) ∙ l .inv .2)
 
 returns-2 : tie.Need-returns-2 Inv-loop μ-loop
-returns-2 c = lowest-none (c .before .before .before .args .log .now) (c .before .before .before .args .h) (c .before .loop .lo) (c .before .before .before .args .committed) (c .loop-test .left) ∙ c .before .loop .inv .1
+returns-2 c = lowest-none _ _ (c .before .loop .lo) _ (c .loop-test .left) ∙ c .before .loop .inv .2
 
 pub lowest-spec : {M : Type 1} → statement M
 lowest-spec =
@@ -41,8 +74,15 @@ lowest-spec =
     (tie.spec
     Inv-loop
     μ-loop
+    whole-slots-requires
     loop-holds
+    cast-a
+    mul-a
+    add-e
     add-r
+    sub-is-readable
+    part-is-readable-start
+    part-is-readable-end
     is-readable-requires
     returns
     loop-less
