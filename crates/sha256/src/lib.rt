@@ -2,7 +2,7 @@
 ghost use mathlib.Core.Path.{_≡_};
 ghost use Prim.Native.Nat.{ℕ, _+_, _*_, _≤_, _<_, _/_, _%_, _^_};
 ghost use mathlib.Core.List.{List};
-ghost use lib.ListN.{length, getD};
+ghost use lib.ListN.{length, getD, set};
 ghost use Rattle.sha256.specs.Fips as Fips;
 ghost use Rattle.sha256.specs.Window.{Window, Turned};
 
@@ -210,43 +210,45 @@ fn extend(w: &mut [u32; 16], i: usize) -> u32
     x
 }
 
+// Round t, for t below 16.
+fn load_round(s: State, k: &[u32; 64], w: &mut [u32; 16], b: &[u8], t: usize) -> State
+    requires { ⌜ (now k ≡ Fips.K) × (t < 16) × (length (now b) ≡ 64) ⌝ }
+    ensures { λ r. ⌜ ((h : State) → Turned h (Fips.schedule (now (b .entry)) 64) t s (now (w .entry)) → Turned h (Fips.schedule (now (b .entry)) 64) (t + 1) r (now (w .exit))) ⌝ }
+{
+    let x = load(w, b, t);
+    round(s, k[t], x)
+}
+
+// Round t + i, for t from 16 on.
+fn extend_round(s: State, k: &[u32; 64], w: &mut [u32; 16], t: usize, i: usize) -> State
+    requires { ⌜ (now k ≡ Fips.K) × (16 ≤ t) × (t + 16 ≤ 64) × (t % 16 ≡ 0) × (i < 16) ⌝ }
+    ensures { λ r. ⌜ ((h : State) (b : List ℕ) → Turned h (Fips.schedule b 64) (t + i) s (now (w .entry)) → Turned h (Fips.schedule b 64) (t + (i + 1)) r (now (w .exit))) ⌝ }
+{
+    let x = extend(w, i);
+    round(s, k[t + i], x)
+}
+
 // Rounds 0 to 15.
 fn first_rounds(s: State, k: &[u32; 64], w: &mut [u32; 16], b: &[u8]) -> State
     requires { ⌜ (now k ≡ Fips.K) × (length (now w) ≡ 16) × (length (now b) ≡ 64) ⌝ }
     ensures { λ r. ⌜ Turned s (Fips.schedule (now (b .entry)) 64) 16 r (now (w .exit)) ⌝ }
 {
-    let x0 = load(w, b, 0);
-    let v1 = round(s, k[0], x0);
-    let x1 = load(w, b, 1);
-    let v2 = round(v1, k[1], x1);
-    let x2 = load(w, b, 2);
-    let v3 = round(v2, k[2], x2);
-    let x3 = load(w, b, 3);
-    let v4 = round(v3, k[3], x3);
-    let x4 = load(w, b, 4);
-    let v5 = round(v4, k[4], x4);
-    let x5 = load(w, b, 5);
-    let v6 = round(v5, k[5], x5);
-    let x6 = load(w, b, 6);
-    let v7 = round(v6, k[6], x6);
-    let x7 = load(w, b, 7);
-    let v8 = round(v7, k[7], x7);
-    let x8 = load(w, b, 8);
-    let v9 = round(v8, k[8], x8);
-    let x9 = load(w, b, 9);
-    let v10 = round(v9, k[9], x9);
-    let x10 = load(w, b, 10);
-    let v11 = round(v10, k[10], x10);
-    let x11 = load(w, b, 11);
-    let v12 = round(v11, k[11], x11);
-    let x12 = load(w, b, 12);
-    let v13 = round(v12, k[12], x12);
-    let x13 = load(w, b, 13);
-    let v14 = round(v13, k[13], x13);
-    let x14 = load(w, b, 14);
-    let v15 = round(v14, k[14], x14);
-    let x15 = load(w, b, 15);
-    round(v15, k[15], x15)
+    let mut v = load_round(s, k, w, b, 0);
+    v = load_round(v, k, w, b, 1);
+    v = load_round(v, k, w, b, 2);
+    v = load_round(v, k, w, b, 3);
+    v = load_round(v, k, w, b, 4);
+    v = load_round(v, k, w, b, 5);
+    v = load_round(v, k, w, b, 6);
+    v = load_round(v, k, w, b, 7);
+    v = load_round(v, k, w, b, 8);
+    v = load_round(v, k, w, b, 9);
+    v = load_round(v, k, w, b, 10);
+    v = load_round(v, k, w, b, 11);
+    v = load_round(v, k, w, b, 12);
+    v = load_round(v, k, w, b, 13);
+    v = load_round(v, k, w, b, 14);
+    load_round(v, k, w, b, 15)
 }
 
 // The sixteen rounds from t on.
@@ -254,38 +256,22 @@ fn next_rounds(s: State, k: &[u32; 64], w: &mut [u32; 16], t: usize) -> State
     requires { ⌜ (now k ≡ Fips.K) × (16 ≤ t) × (t + 16 ≤ 64) × (t % 16 ≡ 0) ⌝ }
     ensures { λ r. ⌜ ((h : State) (b : List ℕ) → Turned h (Fips.schedule b 64) t s (now (w .entry)) → Turned h (Fips.schedule b 64) (t + 16) r (now (w .exit))) ⌝ }
 {
-    let x0 = extend(w, 0);
-    let v1 = round(s, k[t], x0);
-    let x1 = extend(w, 1);
-    let v2 = round(v1, k[t + 1], x1);
-    let x2 = extend(w, 2);
-    let v3 = round(v2, k[t + 2], x2);
-    let x3 = extend(w, 3);
-    let v4 = round(v3, k[t + 3], x3);
-    let x4 = extend(w, 4);
-    let v5 = round(v4, k[t + 4], x4);
-    let x5 = extend(w, 5);
-    let v6 = round(v5, k[t + 5], x5);
-    let x6 = extend(w, 6);
-    let v7 = round(v6, k[t + 6], x6);
-    let x7 = extend(w, 7);
-    let v8 = round(v7, k[t + 7], x7);
-    let x8 = extend(w, 8);
-    let v9 = round(v8, k[t + 8], x8);
-    let x9 = extend(w, 9);
-    let v10 = round(v9, k[t + 9], x9);
-    let x10 = extend(w, 10);
-    let v11 = round(v10, k[t + 10], x10);
-    let x11 = extend(w, 11);
-    let v12 = round(v11, k[t + 11], x11);
-    let x12 = extend(w, 12);
-    let v13 = round(v12, k[t + 12], x12);
-    let x13 = extend(w, 13);
-    let v14 = round(v13, k[t + 13], x13);
-    let x14 = extend(w, 14);
-    let v15 = round(v14, k[t + 14], x14);
-    let x15 = extend(w, 15);
-    round(v15, k[t + 15], x15)
+    let mut v = extend_round(s, k, w, t, 0);
+    v = extend_round(v, k, w, t, 1);
+    v = extend_round(v, k, w, t, 2);
+    v = extend_round(v, k, w, t, 3);
+    v = extend_round(v, k, w, t, 4);
+    v = extend_round(v, k, w, t, 5);
+    v = extend_round(v, k, w, t, 6);
+    v = extend_round(v, k, w, t, 7);
+    v = extend_round(v, k, w, t, 8);
+    v = extend_round(v, k, w, t, 9);
+    v = extend_round(v, k, w, t, 10);
+    v = extend_round(v, k, w, t, 11);
+    v = extend_round(v, k, w, t, 12);
+    v = extend_round(v, k, w, t, 13);
+    v = extend_round(v, k, w, t, 14);
+    extend_round(v, k, w, t, 15)
 }
 
 fn compress(k: &[u32; 64], s: State, b: &[u8]) -> State
@@ -302,43 +288,30 @@ fn compress(k: &[u32; 64], s: State, b: &[u8]) -> State
     plus(s, v)
 }
 
+// Writes the word x into the four bytes from i on.
+fn put_word(d: &mut [u8; 32], i: usize, x: u32)
+    requires { ⌜ i + 4 ≤ 32 ⌝ }
+    ensures { λ _. ⌜ now (d .exit) ≡ set (set (set (set (now (d .entry)) i (x / 2 ^ 24 % 256)) (i + 1) (x / 2 ^ 16 % 256)) (i + 2) (x / 2 ^ 8 % 256)) (i + 3) (x % 256) ⌝ }
+{
+    d[i] = (x / 16777216 % 256) as u8;
+    d[i + 1] = (x / 65536 % 256) as u8;
+    d[i + 2] = (x / 256 % 256) as u8;
+    d[i + 3] = (x % 256) as u8;
+}
+
 fn bytes_of(s: State) -> [u8; 32]
     ensures { λ r. ⌜ r ≡ Fips.bytesOf s ⌝ }
 {
-    [
-        (s.a / 16777216 % 256) as u8,
-        (s.a / 65536 % 256) as u8,
-        (s.a / 256 % 256) as u8,
-        (s.a % 256) as u8,
-        (s.b / 16777216 % 256) as u8,
-        (s.b / 65536 % 256) as u8,
-        (s.b / 256 % 256) as u8,
-        (s.b % 256) as u8,
-        (s.c / 16777216 % 256) as u8,
-        (s.c / 65536 % 256) as u8,
-        (s.c / 256 % 256) as u8,
-        (s.c % 256) as u8,
-        (s.d / 16777216 % 256) as u8,
-        (s.d / 65536 % 256) as u8,
-        (s.d / 256 % 256) as u8,
-        (s.d % 256) as u8,
-        (s.e / 16777216 % 256) as u8,
-        (s.e / 65536 % 256) as u8,
-        (s.e / 256 % 256) as u8,
-        (s.e % 256) as u8,
-        (s.f / 16777216 % 256) as u8,
-        (s.f / 65536 % 256) as u8,
-        (s.f / 256 % 256) as u8,
-        (s.f % 256) as u8,
-        (s.g / 16777216 % 256) as u8,
-        (s.g / 65536 % 256) as u8,
-        (s.g / 256 % 256) as u8,
-        (s.g % 256) as u8,
-        (s.h / 16777216 % 256) as u8,
-        (s.h / 65536 % 256) as u8,
-        (s.h / 256 % 256) as u8,
-        (s.h % 256) as u8,
-    ]
+    let mut d = [0u8; 32];
+    put_word(&mut d, 0, s.a);
+    put_word(&mut d, 4, s.b);
+    put_word(&mut d, 8, s.c);
+    put_word(&mut d, 12, s.d);
+    put_word(&mut d, 16, s.e);
+    put_word(&mut d, 20, s.f);
+    put_word(&mut d, 24, s.g);
+    put_word(&mut d, 28, s.h);
+    d
 }
 
 // Byte i of the padded message.
