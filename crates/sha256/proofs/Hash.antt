@@ -1,34 +1,36 @@
--- Laws of the hash value over the blocks, and of the digest. Assumes nothing.
-use mathlib.Core.Path.{_≡_, refl, ap, ap₂, _∙_}
+-- Laws of the hash value over the blocks of a padded message, and of the digest. Assumes nothing.
+use mathlib.Core.Path.{_≡_, refl, sym, ap, ap₂, _∙_}
 use mathlib.Core.List.{List, [], _∷_, _++_}
-use mathlib.Core.Logic.{⊎-elim}
-use Prim.Native.Nat.{ℕ, zero, suc, _+_, _-_, _*_, _/_, _%_, _≤_, _<_}
-use native.Mathlib.Nat.{le-antisymm}
+use Prim.Native.Nat.{ℕ, zero, suc, _+_, _*_, _/_, _≤_, _<_}
 use native.Mathlib.Numerals.{add-one}
 use native.Mathlib.Omega.{arith}
-use lib.ListN.{length, getD, take, drop}
-use Rattle.sha256.specs.declared.State.{State}
-use Rattle.sha256.specs.Fips.{bytes4, zeros, padded, block, bytesOf, compress, hash, sha256}
+use lib.ListN.{length, getD}
+use lib.Seq.{take-all}
+use Rattle.compression.specs.declared.State.{State}
+use Rattle.sha256.specs.Fips.{bytes4, zeros, padded, block, H0, compress, hash, bytesOf, sha256}
 use Rattle.sha256.proofs.Padding.{length-padded, block-front}
 
-hash-more : (p : List ℕ) (k : ℕ) → hash p (k + 1) ≡ compress (hash p k) (block p k)
+-- the blocks that lie whole in the message
+hash-front : (h : State) (m : List ℕ) (k : ℕ) → 64 * k ≤ length m → hash h m k ≡ hash h (padded m) k
 unfolding hash
-hash-more p k = rw add-one refl
+hash-front h m zero l = refl
+hash-front h m (suc k) l = ap₂ compress (hash-front h m k (omega arith)) (block-front m k (omega arith))
 
-pub digest-step : (m b : List ℕ) (h r : State) (k : ℕ) → h ≡ hash (padded m) k → b ≡ block (padded m) k → r ≡ compress h b
-    → r ≡ hash (padded m) (k + 1)
-digest-step m b h r k e g q = rw hash-more (q ∙ ap₂ compress e g)
+pub digest-whole : (m : List ℕ) (r : State) → r ≡ hash H0 m (length m / 64) → r ≡ hash H0 (padded m) (length m / 64)
+digest-whole m r e = e ∙ hash-front H0 m (length m / 64) (omega arith)
 
-pub digest-whole : (m : List ℕ) (h r : State) (k : ℕ) → 64 * k + 64 ≤ length m → h ≡ hash (padded m) k
-    → r ≡ compress h (take (64 * k + 64 - 64 * k) (drop (64 * k) m)) → r ≡ hash (padded m) (k + 1)
-digest-whole m h r k l e q = digest-step m _ h r k e (block-front m k l) q
+-- one padded block more
+hash-block : (h : State) (b : List ℕ) → length b ≡ 64 → hash h b (length b / 64) ≡ compress h b
+unfolding hash
+hash-block h b l = rw l (ap (compress h) (take-all 64 b (omega arith)))
 
--- the count of blocks in another form
-pub hash-end : (p : List ℕ) (h : State) (k n : ℕ) → k ≤ n → n ≤ k → h ≡ hash p k → h ≡ hash p n
-hash-end p h k n l g e = rw (← le-antisymm l g) e
+pub digest-step : (m b : List ℕ) (h r : State) (k : ℕ) → length b ≡ 64 → h ≡ hash H0 (padded m) k → b ≡ block (padded m) k
+    → r ≡ hash h b (length b / 64) → r ≡ hash H0 (padded m) (k + 1)
+unfolding hash
+digest-step m b h r k l e g q = rw add-one (q ∙ hash-block h b l ∙ ap₂ compress e g)
 
 pub digest-end : (m r : List ℕ) (h : State) (k n : ℕ) → 64 * n ≡ length m + 9 + zeros (length m) → k ≤ n → n ≤ k
-    → h ≡ hash (padded m) k → r ≡ bytesOf h
+    → h ≡ hash H0 (padded m) k → r ≡ bytesOf h
     → r ≡ sha256 m
 unfolding sha256
 digest-end m r h k n p l g e q =

@@ -79,11 +79,9 @@ block-end p b a t h g l e =
     sym (take-all t b (omega arith)) ∙ e ∙ ap (λ (n : ℕ). take n (drop a p)) r
 
 -- a block that lies whole in the message
-pub block-front : (m : List ℕ) (k : ℕ) → 64 * k + 64 ≤ length m
-    → take (64 * k + 64 - 64 * k) (drop (64 * k) m) ≡ block (padded m) k
+pub block-front : (m : List ℕ) (k : ℕ) → 64 * k + 64 ≤ length m → block m k ≡ block (padded m) k
 unfolding padded
 block-front m k h =
-    let e : 64 * k + 64 - 64 * k ≡ 64 = omega arith in
     let l : 64 ≤ length (drop (64 * k) m) = rw length-drop (omega arith) in
     let g : 64 * k ≤ length m = omega arith in
-    rw (e, drop-append-le (64 * k) m _ g) (sym (take-append-le 64 (drop (64 * k) m) _ l))
+    rw (drop-append-le (64 * k) m _ g) (sym (take-append-le 64 (drop (64 * k) m) _ l))

@@ -1,10 +1,10 @@
--- `sha256::extend_round` meets its contract. One `turned-step`. Assumes nothing.
+-- `compression::extend_round` meets its contract. One `turned-step`. Assumes nothing.
 use native.Mathlib.Omega.{arith}
 use Prim.Native.Nat.{_+_}
 use borrow.Author.Needs.{needs}
-use Rattle.sha256.proofs.Schedule.{turned-step}
-use Rattle.sha256.proofs.extend_round.Statement.{statement}
-use Rattle.sha256.proofs.extend_round.Tie as tie
+use Rattle.compression.proofs.Schedule.{turned-step}
+use Rattle.compression.proofs.extend_round.Statement.{statement}
+use Rattle.compression.proofs.extend_round.Tie as tie
 
 extend-requires : tie.Need-extend-requires
 extend-requires c κs = search needs

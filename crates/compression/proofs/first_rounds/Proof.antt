@@ -1,8 +1,8 @@
--- `sha256::first_rounds` meets its contract. By the contract of `load_round`, sixteen times. Assumes nothing.
+-- `compression::first_rounds` meets its contract. By the contract of `load_round`, sixteen times. Assumes nothing.
 use native.Mathlib.Omega.{arith}
-use Rattle.sha256.proofs.Schedule.{turned-start}
-use Rattle.sha256.proofs.first_rounds.Statement.{statement}
-use Rattle.sha256.proofs.first_rounds.Tie as tie
+use Rattle.compression.proofs.Schedule.{turned-start}
+use Rattle.compression.proofs.first_rounds.Statement.{statement}
+use Rattle.compression.proofs.first_rounds.Tie as tie
 
 load-round-requires : tie.Need-load-round-requires
 load-round-requires c κs =

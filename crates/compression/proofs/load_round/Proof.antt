@@ -1,10 +1,10 @@
--- `sha256::load_round` meets its contract. One `turned-step`. Assumes nothing.
+-- `compression::load_round` meets its contract. One `turned-step`. Assumes nothing.
 use mathlib.Core.Path.{refl}
 use Prim.Native.Nat.{_+_}
 use borrow.Author.Needs.{needs}
-use Rattle.sha256.proofs.Schedule.{turned-step}
-use Rattle.sha256.proofs.load_round.Statement.{statement}
-use Rattle.sha256.proofs.load_round.Tie as tie
+use Rattle.compression.proofs.Schedule.{turned-step}
+use Rattle.compression.proofs.load_round.Statement.{statement}
+use Rattle.compression.proofs.load_round.Tie as tie
 
 load-requires : tie.Need-load-requires
 load-requires c κs = search needs

@@ -1,9 +1,9 @@
--- `sha256::next_rounds` meets its contract. By the contract of `extend_round`, sixteen times. Assumes nothing.
+-- `compression::next_rounds` meets its contract. By the contract of `extend_round`, sixteen times. Assumes nothing.
 use mathlib.Core.Path.{_≡_}
 use Prim.Native.Nat.{_+_}
 use native.Mathlib.Omega.{arith}
-use Rattle.sha256.proofs.next_rounds.Statement.{statement}
-use Rattle.sha256.proofs.next_rounds.Tie as tie
+use Rattle.compression.proofs.next_rounds.Statement.{statement}
+use Rattle.compression.proofs.next_rounds.Tie as tie
 
 extend-round-requires : tie.Need-extend-round-requires
 extend-round-requires c κs =

@@ -1,8 +1,8 @@
--- `sha256::extend` meets its contract. The four words that the sum reads stand at their places modulo 16. Assumes nothing.
+-- `compression::extend` meets its contract. The four words that the sum reads stand at their places modulo 16. Assumes nothing.
 use borrow.Author.Needs.{needs}
-use Rattle.sha256.proofs.Schedule.{extend-step}
-use Rattle.sha256.proofs.extend.Statement.{statement}
-use Rattle.sha256.proofs.extend.Tie as tie
+use Rattle.compression.proofs.Schedule.{extend-step}
+use Rattle.compression.proofs.extend.Statement.{statement}
+use Rattle.compression.proofs.extend.Tie as tie
 
 add-small-sigma1 : tie.Need-add-small-sigma1
 add-small-sigma1 c = search needs
