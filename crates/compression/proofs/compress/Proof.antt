@@ -35,7 +35,7 @@ loop-again c =
     (search needs, search needs, search needs, c .next-rounds .ensures _ _ (c .before .before .before .loop .inv .3))
 
 plus-requires : tie.Need-plus-requires Inv-loop μ-loop
-plus-requires c κs = search needs
+plus-requires c κs = tt
 
 returns : tie.Need-returns Inv-loop μ-loop
 returns c = compress-end _ _ (omega arith) (omega arith) (c .before .before .loop .inv .3) (c .plus .ensures)

@@ -19,7 +19,7 @@ element-copy-out-round : tie.Need-element-copy-out-round
 element-copy-out-round c = search needs
 
 round-requires : tie.Need-round-requires
-round-requires c κs = search needs
+round-requires c κs = tt
 
 returns : tie.Need-returns
 returns c h b =

@@ -1,31 +1,31 @@
 -- `sha256::bytes_of` meets its contract. Each word in its place, by computation. Assumes nothing.
-use borrow.Author.Needs.{needs}
+use native.Mathlib.Omega.{arith}
 use Rattle.sha256.proofs.bytes_of.Statement.{statement}
 use Rattle.sha256.proofs.bytes_of.Tie as tie
 
 put-word-requires : tie.Need-put-word-requires
-put-word-requires c κs = search needs
+put-word-requires c κs = omega arith
 
 put-word-requires-2 : tie.Need-put-word-requires-2
-put-word-requires-2 c κs = search needs
+put-word-requires-2 c κs = omega arith
 
 put-word-requires-3 : tie.Need-put-word-requires-3
-put-word-requires-3 c κs = search needs
+put-word-requires-3 c κs = omega arith
 
 put-word-requires-4 : tie.Need-put-word-requires-4
-put-word-requires-4 c κs = search needs
+put-word-requires-4 c κs = omega arith
 
 put-word-requires-5 : tie.Need-put-word-requires-5
-put-word-requires-5 c κs = search needs
+put-word-requires-5 c κs = omega arith
 
 put-word-requires-6 : tie.Need-put-word-requires-6
-put-word-requires-6 c κs = search needs
+put-word-requires-6 c κs = omega arith
 
 put-word-requires-7 : tie.Need-put-word-requires-7
-put-word-requires-7 c κs = search needs
+put-word-requires-7 c κs = omega arith
 
 put-word-requires-8 : tie.Need-put-word-requires-8
-put-word-requires-8 c κs = search needs
+put-word-requires-8 c κs = omega arith
 
 returns : tie.Need-returns
 returns c =
