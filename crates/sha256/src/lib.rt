@@ -1,14 +1,15 @@
 // SHA-256, as FIPS 180-4 defines it: padding and digest. The definitions are in specs/Fips.antt.
 ghost use mathlib.Core.Path.{_≡_};
 ghost use Prim.Native.Nat.{ℕ, _+_, _*_, _≤_, _<_, _/_, _%_, _^_};
-ghost use lib.ListN.{length, getD, set};
+ghost use lib.ListN.{length, getD};
 ghost use Rattle.sha256.specs.Fips as Fips;
+ghost use Rattle.sha256.specs.Words.{putWord};
 use compression::State;
 
 // Writes the word x into the four bytes from i on.
 fn put_word(d: &mut [u8; 32], i: usize, x: u32)
     requires { ⌜ i + 4 ≤ 32 ⌝ }
-    ensures { λ _. ⌜ now (d .exit) ≡ set (set (set (set (now (d .entry)) i (x / 2 ^ 24 % 256)) (i + 1) (x / 2 ^ 16 % 256)) (i + 2) (x / 2 ^ 8 % 256)) (i + 3) (x % 256) ⌝ }
+    ensures { λ _. ⌜ now (d .exit) ≡ putWord (now (d .entry)) i x ⌝ }
 {
     d[i] = (x / 16777216 % 256) as u8;
     d[i + 1] = (x / 65536 % 256) as u8;
