@@ -1,6 +1,6 @@
 -- Laws of the padded message. Assumes nothing.
 use mathlib.Core.Path.{_≡_, refl, sym, ap, _∙_}
-use mathlib.Core.List.{List, [], _∷_, _++_}
+use mathlib.Core.List.{List, _++_}
 use Prim.Native.Nat.{ℕ, zero, suc, _+_, _-_, _*_, _/_, _%_, _^_, _≤_, _<_}
 use native.Mathlib.Numerals.{add-one}
 use native.Mathlib.Omega.{arith}
@@ -55,12 +55,12 @@ byte8 n (suc (suc (suc (suc (suc (suc zero)))))) h = refl
 byte8 n (suc (suc (suc (suc (suc (suc (suc zero))))))) h = omega arith
 byte8 n (suc (suc (suc (suc (suc (suc (suc (suc j)))))))) h = absurd (omega arith)
 
-pub padded-length : (m : List ℕ) (i j : ℕ) → i ≡ length m + 1 + zeros (length m) + j → j < 8
-    → 8 * length m % 2 ^ 64 / 2 ^ (56 - 8 * j) % 256 ≡ getD (padded m) i 0
-padded-length m i j p h =
+pub padded-length : (m : List ℕ) (i j n : ℕ) → n ≡ 8 * length m % 2 ^ 64 → i ≡ length m + 1 + zeros (length m) + j → j < 8
+    → n / 2 ^ (56 - 8 * j) % 256 ≡ getD (padded m) i 0
+padded-length m i j n q p h =
     let z : List ℕ = replicate (zeros (length m)) 0 in
     let e : i ≡ length m + suc (length z + j) = omega (arith, length-replicate {A = ℕ} (zeros (length m)) 0) in
-    rw (e, behind m (length z + j)) (sym (getD-append-add z _ j 0 ∙ byte8 (8 * length m % 2 ^ 64) j h))
+    rw (q, e, behind m (length z + j)) (sym (getD-append-add z _ j 0 ∙ byte8 (8 * length m % 2 ^ 64) j h))
 
 pub padded-past : (m : List ℕ) (i : ℕ) → length m + 9 + zeros (length m) ≤ i → 0 ≡ getD (padded m) i 0
 padded-past m i h = sym (List·getD-eq-default (padded m) 0 (rw length-padded h))

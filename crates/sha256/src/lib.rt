@@ -1,6 +1,6 @@
 // SHA-256, as FIPS 180-4 defines it: padding and digest. The definitions are in specs/Fips.antt.
 ghost use mathlib.Core.Path.{_≡_};
-ghost use Prim.Native.Nat.{ℕ, _+_, _*_, _≤_, _<_, _/_, _%_, _^_};
+ghost use Prim.Native.Nat.{_+_, _*_, _≤_, _<_, _/_, _%_, _^_};
 ghost use lib.ListN.{length, getD};
 ghost use Rattle.sha256.specs.Fips as Fips;
 ghost use Rattle.sha256.specs.Words.{putWord};

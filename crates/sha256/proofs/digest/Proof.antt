@@ -22,7 +22,7 @@ blocks-requires : tie.Need-blocks-requires Inv-loop μ-loop
 blocks-requires c κs = search needs
 
 loop-holds : tie.Need-loop-holds Inv-loop μ-loop
-loop-holds c = (omega arith, digest-whole _ _ (c .before .hash .ensures))
+loop-holds c = (omega arith, digest-whole (c .before .before .before .args .s .now) _ (c .before .hash .ensures))
 
 padded-block-requires : tie.Need-padded-block-requires Inv-loop μ-loop
 padded-block-requires c κs =
