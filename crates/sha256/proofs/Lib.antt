@@ -1,4 +1,3 @@
-pub mod Schedule
 pub mod Padding
 pub mod Hash
 pub mod Examples

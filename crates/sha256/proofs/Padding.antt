@@ -1,6 +1,6 @@
 -- Laws of the padded message. Assumes nothing.
 use mathlib.Core.Path.{_≡_, refl, sym, ap, _∙_}
-use mathlib.Core.List.{List, [], _∷_, _++_}
+use mathlib.Core.List.{List, _++_}
 use Prim.Native.Nat.{ℕ, zero, suc, _+_, _-_, _*_, _/_, _%_, _^_, _≤_, _<_}
 use native.Mathlib.Numerals.{add-one}
 use native.Mathlib.Omega.{arith}
@@ -55,12 +55,12 @@ byte8 n (suc (suc (suc (suc (suc (suc zero)))))) h = refl
 byte8 n (suc (suc (suc (suc (suc (suc (suc zero))))))) h = omega arith
 byte8 n (suc (suc (suc (suc (suc (suc (suc (suc j)))))))) h = absurd (omega arith)
 
-pub padded-length : (m : List ℕ) (i j : ℕ) → i ≡ length m + 1 + zeros (length m) + j → j < 8
-    → 8 * length m % 2 ^ 64 / 2 ^ (56 - 8 * j) % 256 ≡ getD (padded m) i 0
-padded-length m i j p h =
+pub padded-length : (m : List ℕ) (i j n : ℕ) → n ≡ 8 * length m % 2 ^ 64 → i ≡ length m + 1 + zeros (length m) + j → j < 8
+    → n / 2 ^ (56 - 8 * j) % 256 ≡ getD (padded m) i 0
+padded-length m i j n q p h =
     let z : List ℕ = replicate (zeros (length m)) 0 in
     let e : i ≡ length m + suc (length z + j) = omega (arith, length-replicate {A = ℕ} (zeros (length m)) 0) in
-    rw (e, behind m (length z + j)) (sym (getD-append-add z _ j 0 ∙ byte8 (8 * length m % 2 ^ 64) j h))
+    rw (q, e, behind m (length z + j)) (sym (getD-append-add z _ j 0 ∙ byte8 (8 * length m % 2 ^ 64) j h))
 
 pub padded-past : (m : List ℕ) (i : ℕ) → length m + 9 + zeros (length m) ≤ i → 0 ≡ getD (padded m) i 0
 padded-past m i h = sym (List·getD-eq-default (padded m) 0 (rw length-padded h))
@@ -79,11 +79,9 @@ block-end p b a t h g l e =
     sym (take-all t b (omega arith)) ∙ e ∙ ap (λ (n : ℕ). take n (drop a p)) r
 
 -- a block that lies whole in the message
-pub block-front : (m : List ℕ) (k : ℕ) → 64 * k + 64 ≤ length m
-    → take (64 * k + 64 - 64 * k) (drop (64 * k) m) ≡ block (padded m) k
+pub block-front : (m : List ℕ) (k : ℕ) → 64 * k + 64 ≤ length m → block m k ≡ block (padded m) k
 unfolding padded
 block-front m k h =
-    let e : 64 * k + 64 - 64 * k ≡ 64 = omega arith in
     let l : 64 ≤ length (drop (64 * k) m) = rw length-drop (omega arith) in
     let g : 64 * k ≤ length m = omega arith in
-    rw (e, drop-append-le (64 * k) m _ g) (sym (take-append-le 64 (drop (64 * k) m) _ l))
+    rw (drop-append-le (64 * k) m _ g) (sym (take-append-le 64 (drop (64 * k) m) _ l))

@@ -1,344 +1,35 @@
-// SHA-256, as FIPS 180-4 defines it. The definitions are in specs/Fips.antt.
+// SHA-256, as FIPS 180-4 defines it: padding and digest. The definitions are in specs/Fips.antt.
 ghost use mathlib.Core.Path.{_≡_};
-ghost use Prim.Native.Nat.{ℕ, _+_, _*_, _≤_, _<_, _/_, _%_, _^_};
-ghost use mathlib.Core.List.{List};
+ghost use Prim.Native.Nat.{_+_, _*_, _≤_, _<_, _/_, _%_, _^_};
 ghost use lib.ListN.{length, getD};
 ghost use Rattle.sha256.specs.Fips as Fips;
-ghost use Rattle.sha256.specs.Window.{Window, Turned};
+ghost use Rattle.sha256.specs.Words.{putWord};
+use compression::State;
 
-// The constants of section 4.2.2.
-const K: [u32; 64] = [
-    0x428a_2f98,
-    0x7137_4491,
-    0xb5c0_fbcf,
-    0xe9b5_dba5,
-    0x3956_c25b,
-    0x59f1_11f1,
-    0x923f_82a4,
-    0xab1c_5ed5,
-    0xd807_aa98,
-    0x1283_5b01,
-    0x2431_85be,
-    0x550c_7dc3,
-    0x72be_5d74,
-    0x80de_b1fe,
-    0x9bdc_06a7,
-    0xc19b_f174,
-    0xe49b_69c1,
-    0xefbe_4786,
-    0x0fc1_9dc6,
-    0x240c_a1cc,
-    0x2de9_2c6f,
-    0x4a74_84aa,
-    0x5cb0_a9dc,
-    0x76f9_88da,
-    0x983e_5152,
-    0xa831_c66d,
-    0xb003_27c8,
-    0xbf59_7fc7,
-    0xc6e0_0bf3,
-    0xd5a7_9147,
-    0x06ca_6351,
-    0x1429_2967,
-    0x27b7_0a85,
-    0x2e1b_2138,
-    0x4d2c_6dfc,
-    0x5338_0d13,
-    0x650a_7354,
-    0x766a_0abb,
-    0x81c2_c92e,
-    0x9272_2c85,
-    0xa2bf_e8a1,
-    0xa81a_664b,
-    0xc24b_8b70,
-    0xc76c_51a3,
-    0xd192_e819,
-    0xd699_0624,
-    0xf40e_3585,
-    0x106a_a070,
-    0x19a4_c116,
-    0x1e37_6c08,
-    0x2748_774c,
-    0x34b0_bcb5,
-    0x391c_0cb3,
-    0x4ed8_aa4a,
-    0x5b9c_ca4f,
-    0x682e_6ff3,
-    0x748f_82ee,
-    0x78a5_636f,
-    0x84c8_7814,
-    0x8cc7_0208,
-    0x90be_fffa,
-    0xa450_6ceb,
-    0xbef9_a3f7,
-    0xc671_78f2,
-];
-
-// Eight words: a hash value, or the working variables.
-pub struct State {
-    a: u32,
-    b: u32,
-    c: u32,
-    d: u32,
-    e: u32,
-    f: u32,
-    g: u32,
-    h: u32,
-}
-
-fn ch(x: u32, y: u32, z: u32) -> u32
-    ensures { λ r. ⌜ r ≡ Fips.ch x y z ⌝ }
+// Writes the word x into the four bytes from i on.
+fn put_word(d: &mut [u8; 32], i: usize, x: u32)
+    requires { ⌜ i + 4 ≤ 32 ⌝ }
+    ensures { λ _. ⌜ now (d .exit) ≡ putWord (now (d .entry)) i x ⌝ }
 {
-    (x & y) ^ (!x & z)
-}
-
-fn maj(x: u32, y: u32, z: u32) -> u32
-    ensures { λ r. ⌜ r ≡ Fips.maj x y z ⌝ }
-{
-    (x & y) ^ (x & z) ^ (y & z)
-}
-
-fn big_sigma0(x: u32) -> u32
-    ensures { λ r. ⌜ r ≡ Fips.Σ0 x ⌝ }
-{
-    (x >> 2 | x << 30) ^ (x >> 13 | x << 19) ^ (x >> 22 | x << 10)
-}
-
-fn big_sigma1(x: u32) -> u32
-    ensures { λ r. ⌜ r ≡ Fips.Σ1 x ⌝ }
-{
-    (x >> 6 | x << 26) ^ (x >> 11 | x << 21) ^ (x >> 25 | x << 7)
-}
-
-fn small_sigma0(x: u32) -> u32
-    ensures { λ r. ⌜ r ≡ Fips.σ0 x ⌝ }
-{
-    (x >> 7 | x << 25) ^ (x >> 18 | x << 14) ^ (x >> 3)
-}
-
-fn small_sigma1(x: u32) -> u32
-    ensures { λ r. ⌜ r ≡ Fips.σ1 x ⌝ }
-{
-    (x >> 17 | x << 15) ^ (x >> 19 | x << 13) ^ (x >> 10)
-}
-
-fn add(x: u32, y: u32) -> u32
-    ensures { λ r. ⌜ r ≡ Fips.add32 x y ⌝ }
-{
-    std::num::wrapping_add_u32(x, y)
-}
-
-fn wide(x: u8) -> u32
-    ensures { λ r. ⌜ (r ≡ x) × (r < 256) ⌝ }
-{
-    x as u32
-}
-
-fn word_at(b: &[u8], i: usize) -> u32
-    requires { ⌜ i + 4 ≤ length (now b) ⌝ }
-    ensures { λ r. ⌜ r ≡ Fips.wordAt (now (b .entry)) i ⌝ }
-{
-    wide(b[i]) * 16777216 + wide(b[i + 1]) * 65536 + wide(b[i + 2]) * 256 + wide(b[i + 3])
-}
-
-fn t1(s: State, k: u32, w: u32) -> u32
-    ensures { λ r. ⌜ r ≡ Fips.t1 s k w ⌝ }
-{
-    add(add(add(add(s.h, big_sigma1(s.e)), ch(s.e, s.f, s.g)), k), w)
-}
-
-fn t2(s: State) -> u32
-    ensures { λ r. ⌜ r ≡ Fips.t2 s ⌝ }
-{
-    add(big_sigma0(s.a), maj(s.a, s.b, s.c))
-}
-
-fn round(s: State, k: u32, w: u32) -> State
-    ensures { λ r. ⌜ r ≡ Fips.round s k w ⌝ }
-{
-    let x = t1(s, k, w);
-    State {
-        a: add(x, t2(s)),
-        b: s.a,
-        c: s.b,
-        d: s.c,
-        e: add(s.d, x),
-        f: s.e,
-        g: s.f,
-        h: s.g,
-    }
-}
-
-fn plus(s: State, v: State) -> State
-    ensures { λ r. ⌜ r ≡ Fips.plus s v ⌝ }
-{
-    State {
-        a: add(s.a, v.a),
-        b: add(s.b, v.b),
-        c: add(s.c, v.c),
-        d: add(s.d, v.d),
-        e: add(s.e, v.e),
-        f: add(s.f, v.f),
-        g: add(s.g, v.g),
-        h: add(s.h, v.h),
-    }
-}
-
-// Word t of the schedule, for t below 16: it is read from the block.
-fn load(w: &mut [u32; 16], b: &[u8], t: usize) -> u32
-    requires { ⌜ (t < 16) × (length (now b) ≡ 64) ⌝ }
-    ensures { λ r. ⌜ (Window (Fips.schedule (now (b .entry)) 64) (now (w .entry)) t → (r ≡ getD (Fips.schedule (now (b .entry)) 64) t 0) × Window (Fips.schedule (now (b .entry)) 64) (now (w .exit)) (t + 1)) ⌝ }
-{
-    let x = word_at(b, 4 * t);
-    w[t] = x;
-    x
-}
-
-// A word t of the schedule from 16 on, with i = t % 16: it takes the place of word t - 16.
-fn extend(w: &mut [u32; 16], i: usize) -> u32
-    requires { ⌜ i < 16 ⌝ }
-    ensures { λ r. ⌜ ((b : List ℕ) (t : ℕ) → 16 ≤ t → t < 64 → t % 16 ≡ i → Window (Fips.schedule b 64) (now (w .entry)) t → (r ≡ getD (Fips.schedule b 64) t 0) × Window (Fips.schedule b 64) (now (w .exit)) (t + 1)) ⌝ }
-{
-    let x = add(
-        add(
-            add(small_sigma1(w[(i + 14) % 16]), w[(i + 9) % 16]),
-            small_sigma0(w[(i + 1) % 16]),
-        ),
-        w[i],
-    );
-    w[i] = x;
-    x
-}
-
-// Rounds 0 to 15.
-fn first_rounds(s: State, k: &[u32; 64], w: &mut [u32; 16], b: &[u8]) -> State
-    requires { ⌜ (now k ≡ Fips.K) × (length (now w) ≡ 16) × (length (now b) ≡ 64) ⌝ }
-    ensures { λ r. ⌜ Turned s (Fips.schedule (now (b .entry)) 64) 16 r (now (w .exit)) ⌝ }
-{
-    let x0 = load(w, b, 0);
-    let v1 = round(s, k[0], x0);
-    let x1 = load(w, b, 1);
-    let v2 = round(v1, k[1], x1);
-    let x2 = load(w, b, 2);
-    let v3 = round(v2, k[2], x2);
-    let x3 = load(w, b, 3);
-    let v4 = round(v3, k[3], x3);
-    let x4 = load(w, b, 4);
-    let v5 = round(v4, k[4], x4);
-    let x5 = load(w, b, 5);
-    let v6 = round(v5, k[5], x5);
-    let x6 = load(w, b, 6);
-    let v7 = round(v6, k[6], x6);
-    let x7 = load(w, b, 7);
-    let v8 = round(v7, k[7], x7);
-    let x8 = load(w, b, 8);
-    let v9 = round(v8, k[8], x8);
-    let x9 = load(w, b, 9);
-    let v10 = round(v9, k[9], x9);
-    let x10 = load(w, b, 10);
-    let v11 = round(v10, k[10], x10);
-    let x11 = load(w, b, 11);
-    let v12 = round(v11, k[11], x11);
-    let x12 = load(w, b, 12);
-    let v13 = round(v12, k[12], x12);
-    let x13 = load(w, b, 13);
-    let v14 = round(v13, k[13], x13);
-    let x14 = load(w, b, 14);
-    let v15 = round(v14, k[14], x14);
-    let x15 = load(w, b, 15);
-    round(v15, k[15], x15)
-}
-
-// The sixteen rounds from t on.
-fn next_rounds(s: State, k: &[u32; 64], w: &mut [u32; 16], t: usize) -> State
-    requires { ⌜ (now k ≡ Fips.K) × (16 ≤ t) × (t + 16 ≤ 64) × (t % 16 ≡ 0) ⌝ }
-    ensures { λ r. ⌜ ((h : State) (b : List ℕ) → Turned h (Fips.schedule b 64) t s (now (w .entry)) → Turned h (Fips.schedule b 64) (t + 16) r (now (w .exit))) ⌝ }
-{
-    let x0 = extend(w, 0);
-    let v1 = round(s, k[t], x0);
-    let x1 = extend(w, 1);
-    let v2 = round(v1, k[t + 1], x1);
-    let x2 = extend(w, 2);
-    let v3 = round(v2, k[t + 2], x2);
-    let x3 = extend(w, 3);
-    let v4 = round(v3, k[t + 3], x3);
-    let x4 = extend(w, 4);
-    let v5 = round(v4, k[t + 4], x4);
-    let x5 = extend(w, 5);
-    let v6 = round(v5, k[t + 5], x5);
-    let x6 = extend(w, 6);
-    let v7 = round(v6, k[t + 6], x6);
-    let x7 = extend(w, 7);
-    let v8 = round(v7, k[t + 7], x7);
-    let x8 = extend(w, 8);
-    let v9 = round(v8, k[t + 8], x8);
-    let x9 = extend(w, 9);
-    let v10 = round(v9, k[t + 9], x9);
-    let x10 = extend(w, 10);
-    let v11 = round(v10, k[t + 10], x10);
-    let x11 = extend(w, 11);
-    let v12 = round(v11, k[t + 11], x11);
-    let x12 = extend(w, 12);
-    let v13 = round(v12, k[t + 12], x12);
-    let x13 = extend(w, 13);
-    let v14 = round(v13, k[t + 13], x13);
-    let x14 = extend(w, 14);
-    let v15 = round(v14, k[t + 14], x14);
-    let x15 = extend(w, 15);
-    round(v15, k[t + 15], x15)
-}
-
-fn compress(k: &[u32; 64], s: State, b: &[u8]) -> State
-    requires { ⌜ (now k ≡ Fips.K) × (length (now b) ≡ 64) ⌝ }
-    ensures { λ r. ⌜ r ≡ Fips.compress s (now (b .entry)) ⌝ }
-{
-    let mut w = [0u32; 16];
-    let mut v = first_rounds(s, k, &mut w, b);
-    let mut t = 16;
-    while t < 64 {
-        v = next_rounds(v, k, &mut w, t);
-        t += 16;
-    }
-    plus(s, v)
+    d[i] = (x / 16777216 % 256) as u8;
+    d[i + 1] = (x / 65536 % 256) as u8;
+    d[i + 2] = (x / 256 % 256) as u8;
+    d[i + 3] = (x % 256) as u8;
 }
 
 fn bytes_of(s: State) -> [u8; 32]
     ensures { λ r. ⌜ r ≡ Fips.bytesOf s ⌝ }
 {
-    [
-        (s.a / 16777216 % 256) as u8,
-        (s.a / 65536 % 256) as u8,
-        (s.a / 256 % 256) as u8,
-        (s.a % 256) as u8,
-        (s.b / 16777216 % 256) as u8,
-        (s.b / 65536 % 256) as u8,
-        (s.b / 256 % 256) as u8,
-        (s.b % 256) as u8,
-        (s.c / 16777216 % 256) as u8,
-        (s.c / 65536 % 256) as u8,
-        (s.c / 256 % 256) as u8,
-        (s.c % 256) as u8,
-        (s.d / 16777216 % 256) as u8,
-        (s.d / 65536 % 256) as u8,
-        (s.d / 256 % 256) as u8,
-        (s.d % 256) as u8,
-        (s.e / 16777216 % 256) as u8,
-        (s.e / 65536 % 256) as u8,
-        (s.e / 256 % 256) as u8,
-        (s.e % 256) as u8,
-        (s.f / 16777216 % 256) as u8,
-        (s.f / 65536 % 256) as u8,
-        (s.f / 256 % 256) as u8,
-        (s.f % 256) as u8,
-        (s.g / 16777216 % 256) as u8,
-        (s.g / 65536 % 256) as u8,
-        (s.g / 256 % 256) as u8,
-        (s.g % 256) as u8,
-        (s.h / 16777216 % 256) as u8,
-        (s.h / 65536 % 256) as u8,
-        (s.h / 256 % 256) as u8,
-        (s.h % 256) as u8,
-    ]
+    let mut d = [0u8; 32];
+    put_word(&mut d, 0, s.a);
+    put_word(&mut d, 4, s.b);
+    put_word(&mut d, 8, s.c);
+    put_word(&mut d, 12, s.d);
+    put_word(&mut d, 16, s.e);
+    put_word(&mut d, 20, s.f);
+    put_word(&mut d, 24, s.g);
+    put_word(&mut d, 28, s.h);
+    d
 }
 
 // Byte i of the padded message.
@@ -386,13 +77,11 @@ fn blocks(n: usize) -> usize
     (n + 9 + (119 - n % 64) % 64) / 64
 }
 
-// The hash value after the blocks that lie whole in the message.
-fn whole_blocks(k: &[u32; 64], s: &[u8]) -> State
-    requires { ⌜ now k ≡ Fips.K ⌝ }
-    ensures { λ r. ⌜ r ≡ Fips.hash (Fips.padded (now (s .entry))) (length (now (s .entry)) / 64) ⌝ }
+// The SHA-256 digest of a message of any length.
+pub fn digest(s: &[u8]) -> [u8; 32]
+    ensures { λ r. ⌜ r ≡ Fips.sha256 (now (s .entry)) ⌝ }
 {
-    let whole = s.len() / 64;
-    let mut h = State {
+    let start = State {
         a: 0x6a09_e667,
         b: 0xbb67_ae85,
         c: 0x3c6e_f372,
@@ -402,28 +91,13 @@ fn whole_blocks(k: &[u32; 64], s: &[u8]) -> State
         g: 0x1f83_d9ab,
         h: 0x5be0_cd19,
     };
-    let mut i = 0;
-    while i < whole {
-        let a = 64 * i;
-        let e = a + 64;
-        h = compress(k, h, &s[a..e]);
-        i += 1;
-    }
-    h
-}
-
-// The SHA-256 digest of a message of any length.
-pub fn digest(s: &[u8]) -> [u8; 32]
-    ensures { λ r. ⌜ r ≡ Fips.sha256 (now (s .entry)) ⌝ }
-{
-    let k = K;
-    let mut h = whole_blocks(&k, s);
+    let mut h = compression::hash(start, s);
     let n = s.len();
     let total = blocks(n);
     let mut i = n / 64;
     while i < total {
         let b = padded_block(s, i);
-        h = compress(&k, h, &b);
+        h = compression::hash(h, &b);
         i += 1;
     }
     bytes_of(h)

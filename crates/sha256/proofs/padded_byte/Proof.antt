@@ -1,9 +1,6 @@
 -- `sha256::padded_byte` meets its contract. One law for each part of the padded message. Assumes nothing.
-use mathlib.Core.Path.{_≡_}
-use Prim.Native.Nat.{_*_, _%_, _^_}
 use native.Mathlib.Omega.{arith}
 use borrow.Author.Needs.{needs}
-use lib.ListN.{length}
 use Rattle.sha256.proofs.Padding.{padded-front, padded-mark, padded-zero, padded-length, padded-past}
 use Rattle.sha256.proofs.padded_byte.Statement.{statement}
 use Rattle.sha256.proofs.padded_byte.Tie as tie
@@ -47,8 +44,7 @@ cast-result c = search needs
 returns-4 : tie.Need-returns-4
 returns-4 c =
     let m = c .before .before .before .before .args .s .now in
-    let e : length m % 2305843009213693952 * 8 ≡ 8 * length m % 2 ^ 64 = omega arith in
-    rw e (padded-length m (c .before .before .before .before .args .i) _ (omega arith) (omega arith))
+    padded-length m (c .before .before .before .before .args .i) _ _ (omega arith) (omega arith) (omega arith)
 
 returns-5 : tie.Need-returns-5
 returns-5 c = padded-past _ _ (omega arith)

@@ -1,8 +1,8 @@
--- `sha256::load` meets its contract. The word that is loaded takes its place among the sixteen at hand. Assumes nothing.
+-- `compression::load` meets its contract. The word that is loaded takes its place among the sixteen at hand. Assumes nothing.
 use borrow.Author.Needs.{needs}
-use Rattle.sha256.proofs.Schedule.{load-step}
-use Rattle.sha256.proofs.load.Statement.{statement}
-use Rattle.sha256.proofs.load.Tie as tie
+use Rattle.compression.proofs.Schedule.{load-step}
+use Rattle.compression.proofs.load.Statement.{statement}
+use Rattle.compression.proofs.load.Tie as tie
 
 mul-word-at : tie.Need-mul-word-at
 mul-word-at c = search needs

@@ -1,19 +1,19 @@
--- `sha256::whole_blocks` meets its contract. The loop's invariant: the hash value is that after i blocks. Assumes nothing.
+-- `compression::hash` meets its contract. The loop's invariant: the hash value is that after i blocks. The table K is the definition's, by computation. Assumes nothing.
 use mathlib.Core.Path.{_≡_, refl}
 use Prim.Native.Nat.{_-_, _≤_}
 use native.Mathlib.Omega.{arith}
 use borrow.Author.Needs.{needs}
 use lib.ListN.{length-take, length-drop}
-use Rattle.sha256.specs.Fips.{hash, padded}
-use Rattle.sha256.proofs.Hash.{digest-whole, hash-end}
-use Rattle.sha256.proofs.whole_blocks.Statement.{statement}
-use Rattle.sha256.proofs.whole_blocks.Tie as tie
+use Rattle.compression.specs.Fips.{K, hash}
+use Rattle.compression.proofs.Blocks.{hash-step, hash-end}
+use Rattle.compression.proofs.hash.Statement.{statement}
+use Rattle.compression.proofs.hash.Tie as tie
 
 abbrev Inv-loop : tie.InvT-loop
-Inv-loop k s whole h₀ i₀ h i = (i ≤ whole) × (h ≡ hash (padded s) i)
+Inv-loop p k n v₀ i₀ v i = (i ≤ n) × (v ≡ hash v₀ p i)
 
 abbrev μ-loop : tie.MeasureT-loop
-μ-loop k s whole h₀ i₀ h i = whole - i
+μ-loop p k n v₀ i₀ v i = n - i
 
 loop-holds : tie.Need-loop-holds Inv-loop μ-loop
 unfolding hash
@@ -35,7 +35,8 @@ part-compress-end : tie.Need-part-compress-end Inv-loop μ-loop
 part-compress-end c = search needs
 
 compress-requires : tie.Need-compress-requires Inv-loop μ-loop
-compress-requires c κs = (search needs, simp (length-take, length-drop) (omega arith))
+unfolding K
+compress-requires c κs = (refl, simp (length-take, length-drop) (omega arith))
 
 add-i : tie.Need-add-i Inv-loop μ-loop
 add-i c = search needs
@@ -45,13 +46,13 @@ loop-less c = search needs
 
 loop-again : tie.Need-loop-again Inv-loop μ-loop
 loop-again c =
-    (search needs, digest-whole (c .before .before .before .before .before .args .s .now) _ _ (c .before .before .before .loop .i) (omega arith) (search needs) (c .compress .ensures))
+    (search needs, hash-step _ _ _ _ (c .before .before .before .before .loop .i) (search needs) (c .compress .ensures))
 
 returns : tie.Need-returns Inv-loop μ-loop
-returns c = hash-end _ _ (c .before .loop .i) _ (omega arith) (omega arith) (search needs)
+returns c = hash-end _ _ _ (c .before .loop .i) _ (omega arith) (omega arith) (search needs)
 
-pub whole-blocks-spec : {M : Type 1} → statement M
-whole-blocks-spec =
+pub hash-spec : {M : Type 1} → statement M
+hash-spec =
     tie.close
     (tie.spec
     Inv-loop

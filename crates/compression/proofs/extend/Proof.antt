@@ -1,8 +1,8 @@
--- `sha256::extend` meets its contract. The four words that the sum reads stand at their places modulo 16. Assumes nothing.
+-- `compression::extend` meets its contract. The four words that the sum reads stand at their places modulo 16. Assumes nothing.
 use borrow.Author.Needs.{needs}
-use Rattle.sha256.proofs.Schedule.{extend-step}
-use Rattle.sha256.proofs.extend.Statement.{statement}
-use Rattle.sha256.proofs.extend.Tie as tie
+use Rattle.compression.proofs.Schedule.{extend-step}
+use Rattle.compression.proofs.extend.Statement.{statement}
+use Rattle.compression.proofs.extend.Tie as tie
 
 add-small-sigma1 : tie.Need-add-small-sigma1
 add-small-sigma1 c = search needs
@@ -14,7 +14,7 @@ element-copy-out-small-sigma1 : tie.Need-element-copy-out-small-sigma1
 element-copy-out-small-sigma1 c = search needs
 
 small-sigma1-requires : tie.Need-small-sigma1-requires
-small-sigma1-requires c κs = search needs
+small-sigma1-requires c κs = tt
 
 add-add : tie.Need-add-add
 add-add c = search needs
@@ -26,7 +26,7 @@ element-copy-out-add : tie.Need-element-copy-out-add
 element-copy-out-add c = search needs
 
 add-requires : tie.Need-add-requires
-add-requires c κs = search needs
+add-requires c κs = tt
 
 add-small-sigma0 : tie.Need-add-small-sigma0
 add-small-sigma0 c = search needs
@@ -38,10 +38,10 @@ element-copy-out-small-sigma0 : tie.Need-element-copy-out-small-sigma0
 element-copy-out-small-sigma0 c = search needs
 
 small-sigma0-requires : tie.Need-small-sigma0-requires
-small-sigma0-requires c κs = search needs
+small-sigma0-requires c κs = tt
 
 add-requires-2 : tie.Need-add-requires-2
-add-requires-2 c κs = search needs
+add-requires-2 c κs = tt
 
 mul-add-2 : tie.Need-mul-add-2
 mul-add-2 c = search needs
@@ -50,7 +50,7 @@ element-copy-out-add-2 : tie.Need-element-copy-out-add-2
 element-copy-out-add-2 c = search needs
 
 add-requires-3 : tie.Need-add-requires-3
-add-requires-3 c κs = search needs
+add-requires-3 c κs = tt
 
 mul-w : tie.Need-mul-w
 mul-w c = search needs
@@ -59,7 +59,10 @@ element-write-w : tie.Need-element-write-w
 element-write-w c = search needs
 
 returns : tie.Need-returns
-returns c = extend-step _ _ _ (cc)
+returns c =
+    let c2 = c .before .before in
+    let c5 = c2 .before .before .before in
+    extend-step _ _ _ (rw (c .add3 .ensures, c2 .add2 .ensures, c2 .before .small-sigma0 .ensures, c5 .add .ensures, c5 .before .before .small-sigma1 .ensures))
 
 pub extend-spec : {M : Type 1} → statement M
 extend-spec =

@@ -1,13 +1,13 @@
--- `sha256::compress` meets its contract. The loop's invariant: after t rounds, t a multiple of 16, the working variables and the sixteen words are those of round t. Assumes nothing.
+-- `compression::compress` meets its contract. The loop's invariant: after t rounds, t a multiple of 16, the working variables and the sixteen words are those of round t. Assumes nothing.
 use mathlib.Core.Path.{_≡_}
 use Prim.Native.Nat.{_-_, _%_, _≤_}
 use native.Mathlib.Omega.{arith}
 use borrow.Author.Needs.{needs}
-use Rattle.sha256.specs.Fips.{schedule}
-use Rattle.sha256.specs.Window.{Turned}
-use Rattle.sha256.proofs.Schedule.{compress-end}
-use Rattle.sha256.proofs.compress.Statement.{statement}
-use Rattle.sha256.proofs.compress.Tie as tie
+use Rattle.compression.specs.Fips.{schedule}
+use Rattle.compression.specs.Window.{Turned}
+use Rattle.compression.proofs.Schedule.{compress-end}
+use Rattle.compression.proofs.compress.Statement.{statement}
+use Rattle.compression.proofs.compress.Tie as tie
 
 abbrev Inv-loop : tie.InvT-loop
 Inv-loop k s b w₀ v₀ t₀ w v t = (16 ≤ t) × (t ≤ 64) × (t % 16 ≡ 0) × Turned s (schedule b 64) t v w
@@ -35,7 +35,7 @@ loop-again c =
     (search needs, search needs, search needs, c .next-rounds .ensures _ _ (c .before .before .before .loop .inv .3))
 
 plus-requires : tie.Need-plus-requires Inv-loop μ-loop
-plus-requires c κs = search needs
+plus-requires c κs = tt
 
 returns : tie.Need-returns Inv-loop μ-loop
 returns c = compress-end _ _ (omega arith) (omega arith) (c .before .before .loop .inv .3) (c .plus .ensures)

@@ -3,8 +3,8 @@ use mathlib.Core.Path.{_≡_}
 use mathlib.Core.List.{List}
 use Prim.Native.Nat.{ℕ, _+_, _%_, _≤_, _<_}
 use lib.ListN.{length, getD}
-use Rattle.sha256.specs.declared.State.{State}
-use Rattle.sha256.specs.Fips.{rounds}
+use Rattle.compression.specs.declared.State.{State}
+use Rattle.compression.specs.Fips.{rounds}
 
 -- w holds the sixteen words (fewer at the start) of the schedule W before word t, word u at u % 16
 pub record Window (W w : List ℕ) (t : ℕ) : Type 0 where

@@ -1,7 +1,6 @@
 -- Laws of the schedule of a block, of the sixteen words of it that are at hand, and of the rounds. Assumes nothing.
 use mathlib.Core.Path.{_≡_, refl, sym, ap, _∙_}
-use mathlib.Core.Bool.{cond}
-use mathlib.Core.List.{List, [], _∷_, _++_}
+use mathlib.Core.List.{List, []}
 use mathlib.Core.Logic.{⊎-elim}
 use Prim.Native.Nat.{ℕ, zero, suc, _+_, _-_, _*_, _%_, _≤_, _<_}
 use native.Mathlib.Nat.{not-suc-le-zero, le-of-suc-le-suc, eq-or-lt-of-le}
@@ -10,9 +9,9 @@ use native.Mathlib.Omega.{arith}
 use borrow.Author.Tests.{lt-ltb, le-ltb}
 use lib.ListN.{length, getD, set, length-append, length-set, List·getD-append}
 use lib.Seq.{getD-at, getD-set-same, getD-set-other}
-use Rattle.sha256.specs.declared.State.{State}
-use Rattle.sha256.specs.Fips.{K, wordAt, add32, σ0, σ1, scheduleWord, schedule, round, rounds, plus, compress}
-use Rattle.sha256.specs.Window.{Window, Turned}
+use Rattle.compression.specs.declared.State.{State}
+use Rattle.compression.specs.Fips.{K, wordAt, add32, σ0, σ1, scheduleWord, schedule, round, rounds, plus, compress}
+use Rattle.compression.specs.Window.{Window, Turned}
 
 length-schedule : (b : List ℕ) (n : ℕ) → length (schedule b n) ≡ n
 unfolding schedule
