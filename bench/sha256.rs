@@ -60,7 +60,7 @@ fn compress(state: &mut [u32; 8], block: &[u8]) {
     }
 }
 
-fn digest(m: &[u8]) -> [u8; 32] {
+pub fn digest(m: &[u8]) -> [u8; 32] {
     let mut s = [
         0x6a09e667, 0xbb67ae85, 0x3c6ef372, 0xa54ff53a, 0x510e527f, 0x9b05688c, 0x1f83d9ab,
         0x5be0cd19,

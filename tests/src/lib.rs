@@ -15,6 +15,10 @@ pub mod lists;
 pub mod model;
 pub mod rng;
 pub mod runner;
+#[cfg(not(feature = "unrolled"))]
+pub mod sha256;
+#[cfg(feature = "unrolled")]
+#[path = "../../bench/sha256.rs"]
 pub mod sha256;
 pub mod show;
 pub mod wild;

@@ -1,0 +1,183 @@
+//! What is timed: calls that are taken. Each leaves a state on which the same call, with the record as it was, does the same
+//! work again, but for the mask of a blame, which is set back before each call.
+
+use beside::frame::{self, GENESIS, SIZE};
+use beside::model::{leader, Record};
+
+/// f of every case: five cards.
+const F: u8 = 2;
+const TIMEOUT: u32 = 100;
+/// The bytes of an entry.
+const ENTRY: u32 = 100;
+
+#[derive(Clone, Copy)]
+pub enum Call {
+    Open,
+    Branch,
+    /// The mask of the round waited for, before the call.
+    Blame {
+        mask: u16,
+    },
+    Tick,
+    Read {
+        height: u32,
+    },
+    Fetch {
+        height: u32,
+    },
+}
+
+/// The buffers that a call is lent and may write.
+#[derive(Clone, PartialEq, Eq)]
+pub struct Lent {
+    pub log: Vec<u8>,
+    pub masks: Vec<u16>,
+    pub out: Vec<u8>,
+}
+
+#[derive(Clone)]
+pub struct Case {
+    pub name: &'static str,
+    pub call: Call,
+    pub record: Record,
+    pub lent: Lent,
+    /// What is handed in; where nothing is, frames for the digests beside the call.
+    pub frames: Vec<u8>,
+    pub entry: Vec<u8>,
+    /// How many digests the call makes.
+    pub digests: usize,
+    /// How many slots stand below the first that the call zeroes; none for a call that zeroes no slot.
+    pub zeroed: Option<usize>,
+    /// How many frames the call emits or copies to the out buffer.
+    pub frames_out: usize,
+}
+
+fn entry(seed: u32) -> Vec<u8> {
+    (0..ENTRY)
+        .map(|i| (i * 167 + seed * 31 + 13) as u8)
+        .collect()
+}
+
+/// A chain with a block in each round up to `last`.
+fn chain(last: u32) -> Vec<u8> {
+    let mut parent = GENESIS;
+    let block = |round| {
+        let block = frame::block(leader(round, F), round, round, &parent, &entry(round));
+        parent = *frame::name(&block);
+        block
+    };
+    (1..=last).flat_map(block).collect()
+}
+
+/// The record of a card that holds a block in each round up to `tip` and leads neither of the next two rounds.
+fn record(term: u32, tip: u32) -> Record {
+    let leads = |card| (tip + 1..=tip + 2).any(|round| leader(round, F) == card);
+    let committed = tip.saturating_sub(u32::from(F));
+    Record {
+        own: (0..).find(|&card| !leads(card)).expect("five cards"),
+        f: F,
+        wait: TIMEOUT,
+        term,
+        round: tip + 1,
+        left: TIMEOUT,
+        tip_round: tip,
+        tip_height: tip,
+        committed_round: committed,
+        committed_height: committed,
+    }
+}
+
+fn case(name: &'static str, call: Call, term: u32, tip: u32) -> Case {
+    let mut log = chain(tip);
+    log.resize(term as usize * SIZE, 0);
+    Case {
+        name,
+        call,
+        record: record(term, tip),
+        lent: Lent {
+            log,
+            masks: vec![0; term as usize],
+            out: vec![0; 2 * SIZE],
+        },
+        frames: chain(1),
+        entry: entry(0),
+        digests: 0,
+        zeroed: None,
+        frames_out: 0,
+    }
+}
+
+fn open(term: u32) -> Case {
+    let mut case = case("open", Call::Open, term, 0);
+    case.lent.log.fill(0xa5);
+    case.lent.masks.fill(0xa5a5);
+    case.zeroed = Some(0);
+    case
+}
+
+fn tick_that_blames(term: u32) -> Case {
+    let mut case = case("tick that blames", Call::Tick, term, term / 2);
+    case.record.left = 1;
+    case.digests = 1;
+    case.frames_out = 1;
+    case
+}
+
+fn blame_that_sets_a_bit(term: u32) -> Case {
+    let call = Call::Blame { mask: 0 };
+    let mut case = case("blame that sets a bit", call, term, term / 2);
+    case.frames = frame::blame(case.record.own ^ 1, case.record.round).to_vec();
+    case.digests = 1;
+    case
+}
+
+/// The last blame that the round lacks; the card leads the next round, and proposes.
+fn blame_that_certifies(term: u32) -> Case {
+    let (round, proposer) = (term / 2 + 1, leader(term / 2 + 2, F));
+    let signer = |i: u8| (proposer + 1 + i) % (2 * F + 1);
+    let mask = (1..=F).map(|i| 1 << signer(i)).sum();
+    let mut case = case(
+        "blame that certifies, and a block",
+        Call::Blame { mask },
+        term,
+        term / 2,
+    );
+    case.record.own = proposer;
+    case.frames = frame::blame(signer(0), round).to_vec();
+    case.digests = 2;
+    case.frames_out = 1;
+    case
+}
+
+/// The frames of rounds tip + 1 up to last, on the tip.
+fn branch(name: &'static str, term: u32, tip: u32, last: u32) -> Case {
+    let mut case = case(name, Call::Branch, term, tip);
+    case.frames = chain(last)[tip as usize * SIZE..].to_vec();
+    case.digests = (last - tip) as usize;
+    case.zeroed = Some(tip as usize);
+    case
+}
+
+fn fetch(term: u32) -> Case {
+    let mut case = case("fetch of T", Call::Fetch { height: 0 }, term, term);
+    case.lent.out = vec![0; term as usize * SIZE];
+    case.frames_out = term as usize;
+    case
+}
+
+/// The cases for one T.
+pub fn cases(term: u32) -> Vec<Case> {
+    let height = term - u32::from(F);
+    vec![
+        open(term),
+        case("tick", Call::Tick, term, term / 2),
+        tick_that_blames(term),
+        blame_that_sets_a_bit(term),
+        blame_that_certifies(term),
+        branch("branch of 1 on round 0", term, 0, 1),
+        branch("branch of 1 on round T / 2", term, term / 2, term / 2 + 1),
+        branch("branch of T on round 0", term, 0, term),
+        case("read, newest committed", Call::Read { height }, term, term),
+        fetch(term),
+    ]
+}

@@ -1,0 +1,203 @@
+//! The calls of the library beside the Rust implementation of `tests`: medians of passes in which both sides, their digests,
+//! memset and memcpy run in turn, on the same buffers. Before a case is timed, either side makes its call three times over on a
+//! copy of the state, and every result and byte must be alike. Then terms without faults, counted.
+
+mod case;
+mod fault_free;
+mod side;
+
+use case::{cases, Case};
+use side::Outcome;
+use std::io::{stderr, IsTerminal};
+
+const TERMS: [u32; 2] = [64, 4096];
+const PASSES: usize = 101;
+/// About how long one batch of calls takes, in seconds.
+const BATCH: f64 = 0.0003;
+
+/// The calls of a case are taken, and agree on both sides; or the program ends. What they give.
+fn compare(case: &Case) -> Outcome {
+    side::compare_digests(case);
+    let (mut left, mut right) = (case.clone(), case.clone());
+    let mut calls = |times| {
+        let ours = side::ours(&mut left, times).1;
+        let rust = side::rust(&mut right, times).1;
+        assert_eq!(ours, rust, "{}: ours, Rust's", case.name);
+        assert!(left.lent == right.lent, "{}: buffers differ", case.name);
+        ours
+    };
+    let first = calls(0);
+    assert_eq!(first, calls(1), "{}: repeated", case.name);
+    let (number, frames) = match first {
+        Outcome::Answer(a) => (a.number, usize::from(a.frames)),
+        Outcome::Part(p) => (p.number, 0),
+        Outcome::Fetched(f) => (f.number, f.count),
+    };
+    assert_eq!((number, frames), (0, case.frames_out), "{}", case.name);
+    first
+}
+
+/// Seconds, each from many passes.
+#[derive(Default)]
+struct Times {
+    ours: Vec<f64>,
+    rust: Vec<f64>,
+    our_digests: Vec<f64>,
+    rust_digests: Vec<f64>,
+    /// Single calls, each less its digests made right after it.
+    our_rest: Vec<f64>,
+    rust_rest: Vec<f64>,
+    memset: Vec<f64>,
+    memcpy: Vec<f64>,
+}
+
+fn pass(case: &mut Case, batch: usize, expected: Outcome, times: &mut Times) {
+    let call = |side: fn(&mut Case, usize) -> (f64, Outcome), case: &mut Case, batch| {
+        let (seconds, outcome) = side(case, batch);
+        assert_eq!(outcome, expected, "{}: in a timed batch", case.name);
+        seconds
+    };
+    times.ours.push(call(side::ours, case, batch));
+    times.rust.push(call(side::rust, case, batch));
+    if case.digests > 0 {
+        times.our_digests.push(side::our_digests(case, batch));
+        times.rust_digests.push(side::rust_digests(case, batch));
+    }
+    if case.zeroed.is_none() {
+        return;
+    }
+    for _ in 0..batch {
+        let ours = call(side::ours, case, 1) - side::our_digests(case, 1);
+        let rust = call(side::rust, case, 1) - side::rust_digests(case, 1);
+        times.our_rest.push(ours);
+        times.rust_rest.push(rust);
+    }
+    times.memcpy.push(side::memcpy(case, batch));
+    times.memset.push(side::memset(case, batch));
+}
+
+fn measure(case: &mut Case) -> Times {
+    let expected = compare(case);
+    let once = side::ours(case, 1).0;
+    let batch = ((BATCH / once) as usize).clamp(1, 100_000);
+    let mut times = Times::default();
+    for _ in 0..PASSES {
+        pass(case, batch, expected, &mut times);
+    }
+    times
+}
+
+/// The median; none where nothing was measured.
+fn median(of: &[f64]) -> Option<f64> {
+    let mut of = of.to_vec();
+    of.sort_by(f64::total_cmp);
+    of.get(of.len() / 2).copied()
+}
+
+fn time(seconds: Option<f64>) -> String {
+    let Some(ns) = seconds.map(|s| s * 1e9) else {
+        return String::new();
+    };
+    match ns.abs() {
+        size if size < 100.0 => format!("{ns:.1} ns"),
+        size if size < 1e3 => format!("{ns:.0} ns"),
+        size if size < 1e6 => format!("{:.2} us", ns / 1e3),
+        _ => format!("{:.2} ms", ns / 1e6),
+    }
+}
+
+fn ratio(above: Option<f64>, below: Option<f64>) -> String {
+    match (above, below) {
+        (Some(above), Some(below)) => format!("{:.2}", above / below),
+        _ => String::new(),
+    }
+}
+
+fn row(case: &Case, times: &Times) -> Vec<String> {
+    let (ours, rust) = (median(&times.ours), median(&times.rust));
+    let (our_digests, rust_digests) = (median(&times.our_digests), median(&times.rust_digests));
+    let (our_rest, rust_rest) = (median(&times.our_rest), median(&times.rust_rest));
+    let (memset, memcpy) = (median(&times.memset), median(&times.memcpy));
+    let both = memset.zip(memcpy).map(|(a, b)| a + b);
+    vec![
+        case.name.into(),
+        case.record.term.to_string(),
+        time(ours),
+        ratio(rust, ours),
+        time(our_digests),
+        ratio(rust_digests, our_digests),
+        time(our_rest),
+        ratio(rust_rest, our_rest),
+        time(memset),
+        ratio(our_rest, memset),
+        ratio(our_rest, both),
+    ]
+}
+
+/// A table with its columns in line.
+fn print(rows: &[Vec<String>]) {
+    let width = |column: usize| rows.iter().map(|row| row[column].len()).max();
+    for (number, row) in rows.iter().enumerate() {
+        let cells = row.iter().enumerate().map(|(column, cell)| {
+            let width = width(column).unwrap_or(0);
+            match column {
+                0 => format!(" {cell:width$} |"),
+                _ => format!(" {cell:>width$} |"),
+            }
+        });
+        println!("|{}", cells.collect::<String>());
+        if number == 0 {
+            println!("|{}", "---|".repeat(row.len()));
+        }
+    }
+}
+
+fn head(cells: &str) -> Vec<String> {
+    cells.split(", ").map(String::from).collect()
+}
+
+fn calls() -> Vec<Vec<String>> {
+    let mut rows = vec![head(
+        "call, T, ours, beside Rust, its digests, beside Rust, the rest, beside Rust, memset, rest / memset, rest / memset and memcpy",
+    )];
+    for mut case in TERMS.into_iter().flat_map(cases) {
+        if stderr().is_terminal() {
+            eprint!("\r{:50}\r{}, T = {} ", "", case.name, case.record.term);
+        }
+        let times = measure(&mut case);
+        rows.push(row(&case, &times));
+    }
+    if stderr().is_terminal() {
+        eprint!("\r{:50}\r", "");
+    }
+    rows
+}
+
+fn fault_free() -> Vec<Vec<String>> {
+    let mut rows = vec![head("n, T, committed, rounds, emitted, sent, relayed")];
+    for (term, f) in TERMS
+        .into_iter()
+        .flat_map(|term| (1..=7).map(move |f| (term, f)))
+    {
+        let counts = fault_free::run(f, term);
+        let each = |count: usize| format!("{:.3}", count as f64 / f64::from(counts.committed));
+        rows.push(vec![
+            (2 * f + 1).to_string(),
+            term.to_string(),
+            counts.committed.to_string(),
+            each(term as usize),
+            each(counts.emitted),
+            each(counts.sent),
+            each(counts.relayed),
+        ]);
+    }
+    rows
+}
+
+fn main() {
+    eprintln!("calls, {PASSES} passes");
+    println!("Beside Rust: its time over ours, above 1 ours is faster. The rest: a call less its digests.");
+    print(&calls());
+    println!("\nA term without faults. For each committed block: rounds, frames emitted, copies of them sent, and copies relayed.");
+    print(&fault_free());
+}
