@@ -68,14 +68,7 @@ fn judge_frame(r: Replica, masks: &[u16], x: &[u8]) -> u8
 }
 
 // Blame: 2 to 5, then those of the frame.
-pub fn judge_blame(
-    r: Replica,
-    log: &[u8],
-    masks: &[u16],
-    x: &[u8],
-    entry: usize,
-    out: usize,
-) -> u8
+pub fn judge_blame(r: Replica, log: &[u8], masks: &[u16], x: &[u8], entry: usize, out: usize) -> u8
     ensures { λ n. ⌜ n ≡ blameNumber r (now (log .entry)) (now (masks .entry)) (now (x .entry)) entry out ⌝ }
 {
     let number = guard(r, log, masks, entry, out);

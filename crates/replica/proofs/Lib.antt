@@ -1,5 +1,2 @@
-mod Judge
-mod Own
 mod Enter
 mod Calls
-mod Adoption

@@ -1,10 +1,9 @@
 -- A call's values put together: what is lent to it, what it answers, and what stands in the lent buffers.
-use mathlib.Core.List.{List, [], _∷_}
+use mathlib.Core.List.{List}
 use Prim.Native.Nat.{ℕ}
-use Rattle.sha256.specs.Fips.{sha256}
 use Rattle.apollo.specs.declared.Replica.{Replica}
 use Rattle.apollo.specs.declared.Answer.{Answer}
-use Rattle.apollo.specs.Enter.{State, Effect, ownBlock, proposing}
+use Rattle.apollo.specs.Enter.{State}
 use Rattle.apollo.specs.Outcome.{Outcome, nextLeader}
 
 abbrev pub state : Replica → (log masks : List ℕ) → State
@@ -19,7 +18,3 @@ takenAnswer r frames = record { number = 0; frames = frames; leader = nextLeader
 
 abbrev pub refusedAnswer : Replica → (number place : ℕ) → Answer
 refusedAnswer r number place = record { number = number; frames = 0; leader = 255; place = place; replica = r }
-
--- the own block for R is emitted
-abbrev pub proposed : (entry : List ℕ) → State → Effect
-proposed entry s = record { state = proposing sha256 entry s; emitted = ownBlock sha256 entry s ∷ [] }

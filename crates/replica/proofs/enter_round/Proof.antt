@@ -3,7 +3,7 @@ use mathlib.Core.Path.{sym, _∙_, ap}
 use native.Mathlib.Omega.{arith}
 use borrow.Author.Needs.{needs}
 use Rattle.apollo.specs.declared.Replica.{Replica}
-use Rattle.replica.proofs.Enter.{leads-last, entered-own, entered-other}
+use Rattle.replica.proofs.Enter.{entered-own, entered-other, tipped-few}
 use Rattle.replica.proofs.enter_round.Statement.{statement}
 use Rattle.replica.proofs.enter_round.Tie as tie
 
@@ -11,11 +11,13 @@ leads-requires : tie.Need-leads-requires
 leads-requires c κs = search needs
 
 propose-requires : tie.Need-propose-requires
-propose-requires c κs =
-    let i = c .before .before in
-    let l = i .before in
-    let s = l .before .before .before .before in
-    (s .pre, leads-last (s .args .r) (sym (l .leads .ensures) ∙ i .if1 .taken))
+propose-requires c κs = search needs
+
+taken-requires : tie.Need-taken-requires
+taken-requires c κs =
+    let p = c .before .before .before .before in
+    let s = p .before .before .before .before .before .before .before .before in
+    tipped-few (s .args .r) _ _ _ _ (p .propose .ensures .2) (s .pre .f-most)
 
 same-length : tie.Need-same-length
 same-length c = search needs
@@ -25,17 +27,18 @@ same-length-2 c = search needs
 
 returns : tie.Need-returns
 returns c =
-    let r = c .before .before .before .before in
-    let i = r .before .before .before in
+    let p = c .before .before .before .before .before in
+    let i = p .before .before .before in
     let l = i .before in
-    let a = l .before .before .before .before .args in
-    λ masks. entered-own (a .r) (a .log .now) masks (a .entry .now) (a .out .now) _ (sym (l .leads .ensures) ∙ i .if1 .taken) (r .propose .ensures masks)
+    let s = l .before .before .before .before in
+    let a = s .args in
+    λ masks. entered-own (a .r) (a .log .now) (a .entry .now) (a .out .now) masks _ _ _ _ (s .pre) (sym (l .leads .ensures) ∙ i .if1 .taken) (p .propose .ensures) (c .taken .ensures)
 
 with-timer-requires : tie.Need-with-timer-requires
 with-timer-requires c κs = search needs
 
-taken-requires : tie.Need-taken-requires
-taken-requires c κs =
+taken-requires-2 : tie.Need-taken-requires-2
+taken-requires-2 c κs =
     let s = c .before .before .before .before .before .before in
     omega (arith, ap (λ (x : Replica). x .f) (c .with-timer .ensures), s .pre .f-most)
 
@@ -44,8 +47,9 @@ returns-2 c =
     let w = c .before in
     let i = w .before in
     let l = i .before in
-    let a = l .before .before .before .before .args in
-    λ masks. entered-other (a .r) (a .log .now) masks (a .entry .now) (a .out .now) _ _ (sym (l .leads .ensures) ∙ i .if1 .left) (w .with-timer .ensures) (c .taken .ensures)
+    let s = l .before .before .before .before in
+    let a = s .args in
+    λ masks. entered-other (a .r) (a .log .now) (a .entry .now) (a .out .now) masks _ _ (sym (l .leads .ensures) ∙ i .if1 .left) (w .with-timer .ensures) (c .taken2 .ensures)
 
 pub enter-round-spec : {M : Type 1} → statement M
 enter-round-spec =
@@ -53,9 +57,10 @@ enter-round-spec =
     (tie.spec
     leads-requires
     propose-requires
+    taken-requires
     same-length
     same-length-2
     returns
     with-timer-requires
-    taken-requires
+    taken-requires-2
     returns-2)
