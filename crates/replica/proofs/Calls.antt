@@ -1,8 +1,8 @@
--- The calls behind their refusals, and the blame that a tick emits. Assumes nothing.
+-- The calls behind their refusals. Assumes nothing.
 use mathlib.Core.Path.{_≡_, refl, sym, ap, ap₂, _∙_}
 use mathlib.Core.Bool.{Bool, true, false, cond}
 use mathlib.Core.List.{List, [], _∷_, _++_, flatten, append-assoc, append-nil}
-use Prim.Native.Nat.{ℕ, suc, _+_, _-_, _*_, _≤_, _<_}
+use Prim.Native.Nat.{ℕ, suc, _+_, _-_, _*_, _≤_}
 use native.Mathlib.Numerals.{add-one}
 use native.Mathlib.Omega.{arith}
 use lib.Dec.{eqb}
@@ -18,7 +18,7 @@ use Rattle.apollo.specs.Setup.{setupOf}
 use Rattle.apollo.specs.Frame.{round, signer, height, makeBlame}
 use Rattle.apollo.specs.Replica.{withTimer, fresh, zeroReplica}
 use Rattle.apollo.specs.Enter.{State, Effect, commit, tipped, waiting, hearing, holding, enterRound, settle}
-use Rattle.apollo.specs.Outcome.{Outcome, refused, taken}
+use Rattle.apollo.specs.Outcome.{Outcome, nextLeader, refused, taken}
 use Rattle.apollo.specs.Open.{openWith}
 use Rattle.apollo.specs.Branch.{branchWith}
 use Rattle.apollo.specs.Blame.{blameWith}
@@ -39,7 +39,9 @@ use Rattle.refusals.proofs.Answer.{by-number, open-by, guarded-by, blame-by, br
 use Rattle.tip.specs.Tip.{tippedAt}
 use Rattle.tip.specs.Ready.{Ready}
 use Rattle.tip.proofs.Fits.{tipped-fits}
-use Rattle.replica.specs.Call.{state, outcome, takenAnswer, refusedAnswer}
+use Rattle.rounds.specs.Rounds.{told, enteredAt, heardAt}
+use Rattle.rounds.proofs.Fits.{told-none, entered-fits, heard-fits, heard-few}
+use Rattle.replica.specs.Call.{state, outcome, refusedAnswer}
 
 -- an answer with one more frame
 abbrev pub more : Answer → Answer
@@ -66,13 +68,8 @@ taken-more B out log masks y e a h =
     (before B out (e .emitted))
   where
     takenFrames : ℕ → Answer
-    takenFrames k = takenAnswer (e .state .replica) k
-
--- with no ticks left the timer stays
-pub none-left : (r : Replica) → r .timer .0 ≡ 0 → withTimer r (r .timer .0 - 1) ≡ r
-none-left r h =
-    let e : r .timer .0 - 1 ≡ r .timer .0 = omega arith in
-    ap (withTimer r) e
+    takenFrames k =
+        record { number = 0; frames = k; leader = nextLeader (e .state .replica); place = 0; replica = e .state .replica }
 
 -- a call's answer by the number that refuses it, for any number n that is m
 module _ (s : State) (out : List ℕ) (m : ℕ) (o : Outcome) (n : ℕ) (e : n ≡ m) where
@@ -108,16 +105,7 @@ module _ (id f timeout last : ℕ) (log masks entry out : List ℕ) (r : Replica
     log-is : log′ ≡ zeros (512 * last)
     log-is = el ∙ ap zeros (passed-open .valid .size ∙ ap (λ (k : ℕ). 512 * k) last-is)
 
-    pub open-taken : (masks′ : List ℕ) (o : Outcome) → masks′ ≡ zeros (length masks)
-        → o ≡ taken (enterRound sha256 entry (state r log′ masks′)) out
-        → o ≡ openWith sha256 id f timeout last log masks entry out
-    open-taken masks′ o em h =
-        let m : masks′ ≡ zeros last = em ∙ ap zeros (passed-open .masks-size ∙ last-is) in
-        rw (m, log-is, er) at h
-        ∙ taken-by (state zeroReplica log masks) out _ _ n number-is z
-        ∙ sym (open-by id f timeout last log masks entry out)
-
-    pub open-ready : Ready r log′ entry out
+    open-ready : Ready r log′ entry out
     unfolding fresh
     open-ready =
         let g : Opened r log masks (length entry) (length out) = passed-open in
@@ -135,9 +123,18 @@ module _ (id f timeout last : ℕ) (log masks entry out : List ℕ) (r : Replica
           entry-most = g .entry-most;
         }
 
+    pub open-taken : (masks′ : List ℕ) (o : Outcome) → masks′ ≡ zeros (length masks)
+        → o ≡ enteredAt entry out (state r log′ masks′)
+        → o ≡ openWith sha256 id f timeout last log masks entry out
+    open-taken masks′ o em h =
+        let m : masks′ ≡ zeros last = em ∙ ap zeros (passed-open .masks-size ∙ last-is) in
+        rw (m, log-is, er) at (h ∙ entered-fits entry out r log′ open-ready masks′)
+        ∙ taken-by (state zeroReplica log masks) out _ _ n number-is z
+        ∙ sym (open-by id f timeout last log masks entry out)
+
 module _ (r : Replica) (log masks entry out : List ℕ) where
-  passed-ready : Passed r log (length entry) (length out) → Ready r log entry out
-  passed-ready p =
+  passed-ready : Passed r log (length entry) (length out) → (t : ℕ) (y : List ℕ) → 512 ≤ length y → Ready (withTimer r t) log entry y
+  passed-ready p t y h =
       let v = p .valid in
       record {
         f-most = v .setup .f-most;
@@ -146,7 +143,7 @@ module _ (r : Replica) (log masks entry out : List ℕ) where
         round-most = v .round-most;
         tip-below = v .tip-below;
         tip-height = v .tip-height;
-        out-least = omega arith;
+        out-least = h;
         entry-most = p .entry-most;
       }
 
@@ -171,7 +168,7 @@ module _ (r : Replica) (log masks entry out : List ℕ) where
           ∙ tipped-fits r log′ (round (lastFrame x)) (height (lastFrame x))
           (omega (arith, w .1 .round-high, w .0 .valid .setup .last-most))
 
-      pub adopt-ready : length log′ ≡ length log → Ready q log′ entry out
+      adopt-ready : length log′ ≡ length log → Ready q log′ entry out
       unfolding tipped commit
       adopt-ready l =
           let w = branch-facts in
@@ -188,14 +185,14 @@ module _ (r : Replica) (log masks entry out : List ℕ) where
             entry-most = w .0 .entry-most;
           })
 
-      pub branch-taken : (o : Outcome) → o ≡ taken (enterRound sha256 entry (state q log′ masks)) out
+      pub branch-taken : length log′ ≡ length log → (o : Outcome) → o ≡ enteredAt entry out (state q log′ masks)
           → o ≡ branchWith sha256 (state r log masks) x entry out
       unfolding answered adopted holding
-      branch-taken o e =
+      branch-taken l o e =
           let h : state q log′ masks ≡ holding (state r log masks) (Slots.taken log (j .attach) (framesOf x)) (round (lastFrame x)) (height (lastFrame x)) =
           rw (tip-is, p .0) in
           rw (branch-by (state r log masks) entry out x, ← ej, eq-eqb (j .number) 0 z)
-          (e ∙ ap (λ (s : State). taken (enterRound sha256 entry s) out) h)
+          (e ∙ entered-fits entry out q log′ (adopt-ready l) masks ∙ ap (λ (s : State). taken (enterRound sha256 entry s) out) h)
 
   -- blame
   module _ (x : List ℕ) (n : ℕ) (en : n ≡ blameNumber r log masks x (length entry) (length out)) where
@@ -203,26 +200,27 @@ module _ (r : Replica) (log masks entry out : List ℕ) where
         → outcome a log masks out ≡ blameWith sha256 (state r log masks) x entry out
     blame-refused a h ea = refused-by (state r log masks) out _ _ n en a h ea ∙ sym (blame-by (state r log masks) entry out x)
 
-    pub blame-ready : n ≡ 0 → (i : ℕ) → i ≡ signer x → Ready r log entry out × (r .round .0 ≤ r .«last_round» .0) × (i < 16)
-    blame-ready z i ei =
-        let p = blame-passed r log masks (length entry) (length out) x (sym en ∙ z) in
-        (passed-ready (p .0), p .0 .round-last, rw ei (p .1))
-
     pub blame-taken : (k i : ℕ) (o : Outcome) → n ≡ 0 → k ≡ round x → i ≡ signer x
-        → o ≡ taken (settle sha256 entry (hearing (state r log masks) k i) k) out
-        → o ≡ blameWith sha256 (state r log masks) x entry out
+        → o ≡ heardAt entry out (state r log masks) k i → o ≡ blameWith sha256 (state r log masks) x entry out
     blame-taken k i o z ek ei e =
-        rw (ek, ei) at e ∙ taken-by (state r log masks) out _ _ n en z ∙ sym (blame-by (state r log masks) entry out x)
+        let p = blame-passed r log masks (length entry) (length out) x (sym en ∙ z) in
+        rw (ek, ei) at e
+        ∙ heard-fits entry out r log (passed-ready (p .0) (r .timer .0) out (omega (arith, p .0 .out-least))) (p .0 .round-last) masks (round x) (signer x) (p .1)
+        ∙ taken-by (state r log masks) out _ _ n en z
+        ∙ sym (blame-by (state r log masks) entry out x)
 
   -- tick
-  counted : (r .timer .0 ≡ 1 → ⊥) → (b : Bool) → eqb (r .timer .0) 0 ≡ b
-      → outcome (takenAnswer (withTimer r (r .timer .0 - 1)) 0) log masks out
+  counted : r .f ≤ 7 → (r .timer .0 ≡ 1 → ⊥) → (b : Bool) → eqb (r .timer .0) 0 ≡ b
+      → outcome (told (withTimer r (r .timer .0 - 1)) 0) log masks out
       ≡ taken (cond b (record { state = state r log masks; emitted = [] })
       (cond (eqb (r .timer .0) 1) (blaming sha256 entry (state r log masks))
       (record { state = waiting (state r log masks) (r .round .0) (r .timer .0 - 1); emitted = [] }))) out
-  unfolding taken waiting flatten
-  counted k true e = rw (none-left r (eqb-true (r .timer .0) 0 e))
-  counted k false e = rw (ne-eqb (r .timer .0) 1 k)
+  unfolding waiting
+  counted l k true e =
+      let z : r .timer .0 ≡ 0 = eqb-true (r .timer .0) 0 e in
+      let d : r .timer .0 - 1 ≡ r .timer .0 = omega arith in
+      rw d (told-none entry out (state r log masks) l)
+  counted l k false e = rw (ne-eqb (r .timer .0) 1 k) (told-none entry out (state (withTimer r (r .timer .0 - 1)) log masks) l)
 
   module _ (n : ℕ) (en : n ≡ guardNumber r log masks (length entry) (length out)) where
     pub tick-refused : (a : Answer) → (n ≡ 0 → ⊥) → a ≡ refusedAnswer r n 0
@@ -230,72 +228,55 @@ module _ (r : Replica) (log masks entry out : List ℕ) where
     unfolding tickWith
     tick-refused a h ea = refused-by (state r log masks) out _ _ n en a h ea ∙ sym (guarded-by (state r log masks) entry out _)
 
-    tick-passed : n ≡ 0 → Passed r log (length entry) (length out)
-    tick-passed z = passed r log masks (length entry) (length out) (sym en ∙ z)
+    module _ (z : n ≡ 0) where
+      tick-passed : Passed r log (length entry) (length out)
+      tick-passed = passed r log masks (length entry) (length out) (sym en ∙ z)
 
-    tick-effect : n ≡ 0 → (o : Outcome) → o ≡ taken (ticked sha256 entry (state r log masks)) out
-        → o ≡ tickWith sha256 (state r log masks) entry out
-    unfolding tickWith
-    tick-effect z o e = e ∙ taken-by (state r log masks) out _ _ n en z ∙ sym (guarded-by (state r log masks) entry out _)
+      tick-effect : (o : Outcome) → o ≡ taken (ticked sha256 entry (state r log masks)) out
+          → o ≡ tickWith sha256 (state r log masks) entry out
+      unfolding tickWith
+      tick-effect o e = e ∙ taken-by (state r log masks) out _ _ n en z ∙ sym (guarded-by (state r log masks) entry out _)
 
-    pub tick-few : n ≡ 0 → r .f ≤ 7
-    tick-few z = tick-passed z .valid .setup .f-most
+      pub tick-down : (a : Answer) → (r .timer .0 ≡ 1 → ⊥) → a ≡ told (withTimer r (r .timer .0 - 1)) 0
+          → outcome a log masks out ≡ tickWith sha256 (state r log masks) entry out
+      unfolding ticked
+      tick-down a k ea =
+          tick-effect (outcome a log masks out)
+          (ap (λ (x : Answer). outcome x log masks out) ea ∙ counted (tick-passed .valid .setup .f-most) k (eqb (r .timer .0) 0) refl)
 
-    pub tick-ready : n ≡ 0 → Ready r log entry out × (r .round .0 ≤ r .«last_round» .0) × (r .id < 16) × (1024 ≤ length out)
-    tick-ready z =
-        let p = tick-passed z in
-        let v = p .valid .setup in
-        (passed-ready p, p .round-last, omega arith, p .out-least)
+      pub tick-room : 1024 ≤ length out
+      tick-room = tick-passed .out-least
 
-    pub tick-out : n ≡ 0 → (o : Outcome) → r .timer .0 ≡ 1 → o ≡ taken (blaming sha256 entry (state r log masks)) out
-        → o ≡ tickWith sha256 (state r log masks) entry out
-    unfolding ticked
-    tick-out z o h e = tick-effect z o (rw (ne-eqb (r .timer .0) 0 (omega arith), eq-eqb (r .timer .0) 1 h) e)
+      -- ticks left reach 0: what is heard on the out buffer after the blame
+      pub tick-out : (out′ y log′ masks′ : List ℕ) (q : Replica) (a : Answer) → r .timer .0 ≡ 1
+          → out′ ≡ putBlame out (r .id) (r .round .0) → q ≡ withTimer r 0
+          → outcome a log′ masks′ y
+          ≡ heardAt entry (take (length out′ - 512) (drop 512 out′)) (state q log masks) (r .round .0) (r .id)
+          → outcome (more a) log′ masks′ (putMid 512 (length out′ - 512) out′ y)
+          ≡ tickWith sha256 (state r log masks) entry out
+      unfolding ticked blaming waiting
+      tick-out out′ y log′ masks′ q a t eo eq h =
+          let v = tick-passed .valid .setup in
+          let R : ℕ = r .round .0 in
+          let B : List ℕ = makeBlame sha256 (r .id) R in
+          let s : State = waiting (state r log masks) R 0 in
+          let w : List ℕ = drop 512 out in
+          let o : out′ ≡ B ++ w = eo ∙ put-blame-fits out (r .id) R (omega (arith, tick-room)) in
+          let f : take 512 out′ ≡ B = ap (take 512) o ∙ take-at B w 512 (length-blame (r .id) R) in
+          let l : length (drop 512 out′) ≤ length out′ - 512 = rw length-drop (omega arith) in
+          let d : take (length out′ - 512) (drop 512 out′) ≡ w =
+          take-all (length out′ - 512) (drop 512 out′) l ∙ ap (drop 512) o ∙ drop-at B w 512 (length-blame (r .id) R) in
+          let p : putMid 512 (length out′ - 512) out′ y ≡ B ++ y = rw (f, drop-of-length-le (drop 512 out′) l, append-nil) in
+          let e : outcome a log′ masks′ y ≡ taken (settle sha256 entry (hearing s R (r .id)) R) w =
+          h ∙ ap₂ (λ (x : Replica) (u : List ℕ). heardAt entry u (state x log masks) R (r .id)) eq d
+          ∙ heard-fits entry w (withTimer r 0) log (passed-ready tick-passed 0 w (rw length-drop (omega (arith, tick-room)))) (tick-passed .round-last) masks R (r .id) (omega arith) in
+          tick-effect (outcome (more a) log′ masks′ (putMid 512 (length out′ - 512) out′ y))
+          (rw (ne-eqb (r .timer .0) 0 (omega arith), eq-eqb (r .timer .0) 1 t)
+          (ap (outcome (more a) log′ masks′) p ∙ taken-more B out log′ masks′ y (settle sha256 entry (hearing s R (r .id)) R) a e))
 
-    pub tick-down : n ≡ 0 → (a : Answer) → (r .timer .0 ≡ 1 → ⊥) → a ≡ takenAnswer (withTimer r (r .timer .0 - 1)) 0
-        → outcome a log masks out ≡ tickWith sha256 (state r log masks) entry out
-    unfolding ticked
-    tick-down z a k ea = tick-effect z (outcome a log masks out) (ap (λ (x : Answer). outcome x log masks out) ea ∙ counted k (eqb (r .timer .0) 0) refl)
-
-  -- ticks left reach 0
-  pub expired : (out′ y log′ masks′ : List ℕ) (q : Replica) (a : Answer) → 512 ≤ length out
-      → out′ ≡ putBlame out (r .id) (r .round .0) → q ≡ withTimer r 0
-      → outcome a log′ masks′ y
-      ≡ taken (settle sha256 entry (hearing (state q log masks) (r .round .0) (r .id)) (r .round .0)) (take (length out′ - 512) (drop 512 out′))
-      → outcome (more a) log′ masks′ (putMid 512 (length out′ - 512) out′ y)
-      ≡ taken (blaming sha256 entry (state r log masks)) out
-  unfolding blaming waiting
-  expired out′ y log′ masks′ q a l eo eq h =
-      let R : ℕ = r .round .0 in
-      let B : List ℕ = makeBlame sha256 (r .id) R in
-      let s : State = hearing (waiting (state r log masks) R 0) R (r .id) in
-      let o : out′ ≡ B ++ drop 512 out = eo ∙ put-blame-fits out (r .id) R l in
-      let t : take 512 out′ ≡ B = ap (take 512) o ∙ take-at B (drop 512 out) 512 (length-blame (r .id) R) in
-      let n : length (drop 512 out′) ≤ length out′ - 512 = rw length-drop (omega arith) in
-      let d : take (length out′ - 512) (drop 512 out′) ≡ drop 512 out =
-      take-all (length out′ - 512) (drop 512 out′) n ∙ ap (drop 512) o ∙ drop-at B (drop 512 out) 512 (length-blame (r .id) R) in
-      let p : putMid 512 (length out′ - 512) out′ y ≡ B ++ y =
-      rw (t, drop-of-length-le (drop 512 out′) n, append-nil) in
-      ap (outcome (more a) log′ masks′) p
-      ∙ taken-more B out log′ masks′ y (settle sha256 entry s R) a
-      (h ∙ ap₂ (λ (z : Replica) (w : List ℕ). taken (settle sha256 entry (hearing (state z log masks) R (r .id)) R) w) eq d)
-
-  pub expire-ready : (q : Replica) (y : List ℕ) → Ready r log entry out × (r .round .0 ≤ r .«last_round» .0) × (r .id < 16) × (1024 ≤ length out)
-      → q ≡ withTimer r 0 → 512 ≤ length y
-      → Ready q log entry y × (q .round .0 ≤ q .«last_round» .0) × (r .id < 16)
-  expire-ready q y p eq h =
-      let g = p .0 in
-      rw eq (
-        record {
-          f-most = g .f-most;
-          last-most = g .last-most;
-          size = g .size;
-          round-most = g .round-most;
-          tip-below = g .tip-below;
-          tip-height = g .tip-height;
-          out-least = h;
-          entry-most = g .entry-most;
-        },
-        p .1,
-        p .2,
-      )
+-- a blame that is heard emits at most one frame
+pub frames-few : (entry out log masks y : List ℕ) (s : State) (k i : ℕ) (a : Answer)
+    → outcome a log masks y ≡ heardAt entry out s k i → a .frames ≤ 1
+frames-few entry out log masks y s k i a e =
+    let n : a .frames ≡ heardAt entry out s k i .answer .frames = ap (λ (o : Outcome). o .answer .frames) e in
+    omega (arith, heard-few entry out s k i)

@@ -1,2 +1,1 @@
-mod Enter
 mod Calls

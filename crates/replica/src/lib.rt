@@ -5,22 +5,10 @@ use apollo::Replica;
 use apollo::Round;
 use apollo::Ticks;
 ghost use mathlib.Core.Path.{_≡_};
-ghost use mathlib.Core.Bool.{_&&_};
-ghost use mathlib.Core.List.{List};
-ghost use Prim.Native.Nat.{ℕ, _-_, _≤_, _<_};
-ghost use lib.Dec.{eqb};
 ghost use lib.ListN.{length};
-ghost use Rattle.sha256.specs.Fips.{sha256};
 ghost use Rattle.apollo.specs.Bytes.{zeros};
-ghost use Rattle.apollo.specs.Setup.{setupOf};
-ghost use Rattle.apollo.specs.Masks as Masks;
-ghost use Rattle.apollo.specs.Replica.{withTimer};
-ghost use Rattle.apollo.specs.Enter as Enter;
-ghost use Rattle.apollo.specs.Outcome as Outcome;
-ghost use Rattle.apollo.specs.Tick as Tick;
 ghost use Rattle.apollo.specs.Calls.{openCall, branchCall, blameCall, tickCall};
-ghost use Rattle.tip.specs.Ready.{Ready};
-ghost use Rattle.replica.specs.Call.{state, outcome, takenAnswer, refusedAnswer};
+ghost use Rattle.replica.specs.Call.{state, outcome, refusedAnswer};
 
 // A refusal.
 fn refused(r: Replica, number: u8, place: u32) -> Answer
@@ -33,99 +21,6 @@ fn refused(r: Replica, number: u8, place: u32) -> Answer
         place,
         replica: r,
     }
-}
-
-// The leader of R, 255 when R = T + 1.
-fn next_leader(r: Replica) -> u8
-    requires { ⌜ r .f ≤ 7 ⌝ }
-    ensures { λ l. ⌜ l ≡ Outcome.nextLeader r ⌝ }
-{
-    let round = r.round.0;
-    if r.last_round.0 < round {
-        return 255;
-    }
-    frame::leader(r.f, round) as u8
-}
-
-// Taken, with some frames emitted.
-fn taken(r: Replica, frames: u8) -> Answer
-    requires { ⌜ r .f ≤ 7 ⌝ }
-    ensures { λ a. ⌜ a ≡ takenAnswer r frames ⌝ }
-{
-    let leader = next_leader(r);
-    Answer {
-        number: 0,
-        frames,
-        leader,
-        place: 0,
-        replica: r,
-    }
-}
-
-// R is entered: proposed where this replica leads it, else waited for.
-fn enter_round(r: Replica, log: &mut [u8], entry: &[u8], out: &mut [u8]) -> Answer
-    requires { ⌜ Ready r (now log) (now entry) (now out) ⌝ }
-    ensures { λ a. ⌜ ((masks : List ℕ) → outcome a (now (log .exit)) masks (now (out .exit)) ≡ Outcome.taken (Enter.enterRound sha256 (now (entry .entry)) (state r (now (log .entry)) masks)) (now (out .entry))) ⌝ }
-{
-    if record::leads(r) {
-        return taken(tip::propose(r, log, entry, out), 1);
-    }
-    taken(record::with_timer(r, r.timeout.0), 0)
-}
-
-// The blames for a round certify R.
-fn certifies(r: Replica, masks: &[u16], round: u32) -> bool
-    ensures { λ b. ⌜ b ≡ eqb round (r .round .0) && Masks.certified (setupOf r) (now (masks .entry)) round ⌝ }
-{
-    if round != r.round.0 {
-        return false;
-    }
-    log::certified(r.f, masks, round)
-}
-
-// A replica's blame for a round is heard: if that is R and now certified, R grows by 1 and is entered.
-fn hear(
-    r: Replica,
-    log: &mut [u8],
-    masks: &mut [u16],
-    round: u32,
-    signer: u8,
-    entry: &[u8],
-    out: &mut [u8],
-) -> Answer
-    requires { ⌜ Ready r (now log) (now entry) (now out) × (r .round .0 ≤ r .«last_round» .0) × (signer < 16) ⌝ }
-    ensures { λ a. ⌜ outcome a (now (log .exit)) (now (masks .exit)) (now (out .exit)) ≡ Outcome.taken (Enter.settle sha256 (now (entry .entry)) (Enter.hearing (state r (now (log .entry)) (now (masks .entry))) round signer) round) (now (out .entry)) ⌝ }
-{
-    log::add_blame(masks, round, signer);
-    if !certifies(r, masks, round) {
-        return taken(r, 0);
-    }
-    enter_round(record::with_round(r, round + 1), log, entry, out)
-}
-
-// Ticks left reach 0: the blame for R is emitted, and the own bit set.
-fn expire(r: Replica, log: &mut [u8], masks: &mut [u16], entry: &[u8], out: &mut [u8]) -> Answer
-    requires { ⌜ Ready r (now log) (now entry) (now out) × (r .round .0 ≤ r .«last_round» .0) × (r .id < 16) × (1024 ≤ length (now out)) ⌝ }
-    ensures { λ a. ⌜ outcome a (now (log .exit)) (now (masks .exit)) (now (out .exit)) ≡ Outcome.taken (Tick.blaming sha256 (now (entry .entry)) (state r (now (log .entry)) (now (masks .entry)))) (now (out .entry)) ⌝ }
-{
-    let round = r.round.0;
-    frame::put_blame(out, r.id, round);
-    let q = record::with_timer(r, 0);
-    let mut a = hear(q, log, masks, round, r.id, entry, &mut out[512..]);
-    a.frames = a.frames + 1;
-    a
-}
-
-// Ticks left lowered by 1; nothing where they are 0.
-fn count_down(r: Replica) -> Answer
-    requires { ⌜ r .f ≤ 7 ⌝ }
-    ensures { λ a. ⌜ a ≡ takenAnswer (withTimer r (r .timer .0 - 1)) 0 ⌝ }
-{
-    let timer = r.timer.0;
-    if timer == 0 {
-        return taken(r, 0);
-    }
-    taken(record::with_timer(r, timer - 1), 0)
 }
 
 // All masks are zeroed.
@@ -159,7 +54,7 @@ pub fn open(
     }
     frame::clear(log);
     clear_masks(masks);
-    enter_round(r, log, entry, out)
+    rounds::enter_round(r, log, entry, out)
 }
 
 // Hands in a branch.
@@ -178,7 +73,7 @@ pub fn branch(
         return refused(replica, judged.number, judged.place);
     }
     let q = tip::adopt(replica, log, judged.attach, frames);
-    enter_round(q, log, entry, out)
+    rounds::enter_round(q, log, entry, out)
 }
 
 // Hands in a blame.
@@ -197,7 +92,7 @@ pub fn blame(
         return refused(replica, number, 0);
     }
     let round = frame::round(frame);
-    hear(replica, log, masks, round, frame::signer(frame), entry, out)
+    rounds::hear(replica, log, masks, round, frame::signer(frame), entry, out)
 }
 
 // Lowers ticks left by 1; where they reach 0 the blame for R is emitted.
@@ -214,8 +109,13 @@ pub fn tick(
     if number != 0 {
         return refused(replica, number, 0);
     }
-    if replica.timer.0 == 1 {
-        return expire(replica, log, masks, entry, out);
+    if replica.timer.0 != 1 {
+        return rounds::count_down(replica);
     }
-    count_down(replica)
+    let round = replica.round.0;
+    frame::put_blame(out, replica.id, round);
+    let q = record::with_timer(replica, 0);
+    let mut a = rounds::hear(q, log, masks, round, replica.id, entry, &mut out[512..]);
+    a.frames = a.frames + 1;
+    a
 }

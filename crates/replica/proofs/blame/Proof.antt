@@ -1,6 +1,6 @@
 -- `replica::blame` meets its contract. Assumes nothing.
 use borrow.Author.Needs.{needs}
-use Rattle.replica.proofs.Calls.{blame-refused, blame-ready, blame-taken}
+use Rattle.replica.proofs.Calls.{blame-refused, blame-taken}
 use Rattle.replica.proofs.blame.Statement.{statement}
 use Rattle.replica.proofs.blame.Tie as tie
 
@@ -31,13 +31,7 @@ signer-requires : tie.Need-signer-requires
 signer-requires c κs = search needs
 
 hear-requires : tie.Need-hear-requires
-hear-requires c κs =
-    let g = c .before in
-    let i = g .before .before .before .before in
-    let j = i .before in
-    let s = j .before .before .before .before .before .before .before .before in
-    let a = s .args in
-    blame-ready (a .replica) (a .log .now) (a .masks .now) (a .entry .now) (a .out .now) (a .frame .now) _ (j .judge-blame .ensures) (i .if1 .left) _ (g .signer .ensures)
+hear-requires c κs = search needs
 
 same-length-3 : tie.Need-same-length-3
 same-length-3 c = search needs

@@ -1,6 +1,6 @@
 -- `replica::branch` meets its contract. Assumes nothing.
 use borrow.Author.Needs.{needs}
-use Rattle.replica.proofs.Calls.{branch-refused, branch-taken, adopt-ready}
+use Rattle.replica.proofs.Calls.{branch-refused, branch-taken}
 use Rattle.replica.proofs.branch.Statement.{statement}
 use Rattle.replica.proofs.branch.Tie as tie
 
@@ -25,13 +25,7 @@ adopt-requires : tie.Need-adopt-requires
 adopt-requires c κs = search needs
 
 enter-round-requires : tie.Need-enter-round-requires
-enter-round-requires c κs =
-    let d = c .before .before .before .before in
-    let i = d .before .before in
-    let j = i .before .before in
-    let s = j .before .before .before .before .before .before .before in
-    let a = s .args in
-    adopt-ready (a .replica) (a .log .now) (a .masks .now) (a .entry .now) (a .out .now) (a .frames .now) _ (j .judge-branch .ensures) (i .if1 .left) _ _ (d .adopt .ensures) (d .adopt .kept .1 .0)
+enter-round-requires c κs = search needs
 
 same-length-2 : tie.Need-same-length-2
 same-length-2 c = search needs
@@ -47,7 +41,7 @@ returns-2 c =
     let j = i .before .before in
     let s = j .before .before .before .before .before .before .before in
     let a = s .args in
-    branch-taken (a .replica) (a .log .now) (a .masks .now) (a .entry .now) (a .out .now) (a .frames .now) _ (j .judge-branch .ensures) (i .if1 .left) _ _ (d .adopt .ensures) _ (e .enter-round .ensures _)
+    branch-taken (a .replica) (a .log .now) (a .masks .now) (a .entry .now) (a .out .now) (a .frames .now) _ (j .judge-branch .ensures) (i .if1 .left) _ _ (d .adopt .ensures) (d .adopt .kept .1 .0) _ (e .enter-round .ensures _)
 
 pub branch-spec : {M : Type 1} → statement M
 branch-spec =

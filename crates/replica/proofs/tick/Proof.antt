@@ -1,6 +1,11 @@
 -- `replica::tick` meets its contract. Assumes nothing.
+use mathlib.Core.Path.{_∙_}
+use Prim.Native.Nat.{_-_}
+use native.Mathlib.Omega.{arith}
+use lib.ListN.{length}
 use borrow.Author.Needs.{needs}
-use Rattle.replica.proofs.Calls.{tick-refused, tick-ready, tick-few, tick-out, tick-down}
+use borrow.Rule.Slice.PartMut.{same-len-mid}
+use Rattle.replica.proofs.Calls.{tick-refused, tick-down, tick-room, tick-out, frames-few}
 use Rattle.replica.proofs.tick.Statement.{statement}
 use Rattle.replica.proofs.tick.Tie as tie
 
@@ -24,13 +29,8 @@ returns c =
     let a = s .args in
     tick-refused (a .replica) (a .log .now) (a .masks .now) (a .entry .now) (a .out .now) _ (g .guard .ensures) _ (i .if1 .taken) (c .refused .ensures)
 
-expire-requires : tie.Need-expire-requires
-expire-requires c κs =
-    let i = c .before .before .before .before .before in
-    let g = i .before in
-    let s = g .before .before .before .before .before .before .before in
-    let a = s .args in
-    tick-ready (a .replica) (a .log .now) (a .masks .now) (a .entry .now) (a .out .now) _ (g .guard .ensures) (i .if1 .left)
+count-down-requires : tie.Need-count-down-requires
+count-down-requires c κs = search needs
 
 same-length-3 : tie.Need-same-length-3
 same-length-3 c = search needs
@@ -38,26 +38,52 @@ same-length-3 c = search needs
 same-length-4 : tie.Need-same-length-4
 same-length-4 c = search needs
 
-same-length-5 : tie.Need-same-length-5
-same-length-5 c = search needs
-
 returns-2 : tie.Need-returns-2
 returns-2 c =
-    let e = c .before .before .before .before .before .before in
-    let k = e .before .before .before .before in
+    let k = c .before in
     let i = k .before .before in
     let g = i .before in
     let s = g .before .before .before .before .before .before .before in
     let a = s .args in
-    tick-out (a .replica) (a .log .now) (a .masks .now) (a .entry .now) (a .out .now) _ (g .guard .ensures) (i .if1 .left) _ (k .if2 .taken) (e .expire .ensures)
+    tick-down (a .replica) (a .log .now) (a .masks .now) (a .entry .now) (a .out .now) _ (g .guard .ensures) (i .if1 .left) _ (k .if2 .taken) (c .count-down .ensures)
 
-count-down-requires : tie.Need-count-down-requires
-count-down-requires c κs =
-    let i = c .before .before in
+put-blame-requires : tie.Need-put-blame-requires
+put-blame-requires c κs = search needs
+
+with-timer-requires : tie.Need-with-timer-requires
+with-timer-requires c κs = search needs
+
+sub-hear : tie.Need-sub-hear
+sub-hear c =
+    let u = c .before .before .before .before .before in
+    let i = u .before .before .before .before in
     let g = i .before in
     let s = g .before .before .before .before .before .before .before in
     let a = s .args in
-    tick-few (a .replica) (a .log .now) (a .masks .now) (a .entry .now) (a .out .now) _ (g .guard .ensures) (i .if1 .left)
+    omega (arith, u .put-blame .kept .0, tick-room (a .replica) (a .log .now) (a .masks .now) (a .entry .now) (a .out .now) _ (g .guard .ensures) (i .if1 .left))
+
+part-hear-start : tie.Need-part-hear-start
+part-hear-start c =
+    let u = c .before .before .before .before .before in
+    let i = u .before .before .before .before in
+    let g = i .before in
+    let s = g .before .before .before .before .before .before .before in
+    let a = s .args in
+    omega (arith, u .put-blame .kept .0, tick-room (a .replica) (a .log .now) (a .masks .now) (a .entry .now) (a .out .now) _ (g .guard .ensures) (i .if1 .left))
+
+part-hear-end : tie.Need-part-hear-end
+part-hear-end c = search needs
+
+hear-requires : tie.Need-hear-requires
+hear-requires c κs = search needs
+
+add-a : tie.Need-add-a
+add-a c =
+    let e = c .before .before .before .before .before .before .before in
+    omega (arith, frames-few _ _ _ _ _ _ _ _ _ (e .hear .ensures))
+
+same-length-5 : tie.Need-same-length-5
+same-length-5 c = search needs
 
 same-length-6 : tie.Need-same-length-6
 same-length-6 c = search needs
@@ -67,12 +93,15 @@ same-length-7 c = search needs
 
 returns-3 : tie.Need-returns-3
 returns-3 c =
-    let k = c .before in
+    let e = c .before .before .before .before .before .before .before in
+    let w = e .before .before .before .before in
+    let u = w .before .before .before in
+    let k = u .before .before in
     let i = k .before .before in
     let g = i .before in
     let s = g .before .before .before .before .before .before .before in
     let a = s .args in
-    tick-down (a .replica) (a .log .now) (a .masks .now) (a .entry .now) (a .out .now) _ (g .guard .ensures) (i .if1 .left) _ (k .if2 .left) (c .count-down .ensures)
+    tick-out (a .replica) (a .log .now) (a .masks .now) (a .entry .now) (a .out .now) _ (g .guard .ensures) (i .if1 .left) _ _ _ _ _ _ (k .if2 .left) (u .put-blame .ensures) (w .with-timer .ensures) (e .hear .ensures)
 
 pub tick-spec : {M : Type 1} → statement M
 tick-spec =
@@ -83,12 +112,18 @@ tick-spec =
     same-length
     same-length-2
     returns
-    expire-requires
+    count-down-requires
     same-length-3
     same-length-4
-    same-length-5
     returns-2
-    count-down-requires
+    put-blame-requires
+    with-timer-requires
+    sub-hear
+    part-hear-start
+    part-hear-end
+    hear-requires
+    add-a
+    same-length-5
     same-length-6
     same-length-7
     returns-3)

@@ -1,11 +1,8 @@
--- `replica::enter_round` meets its contract. Assumes nothing.
-use mathlib.Core.Path.{sym, _∙_, ap}
-use native.Mathlib.Omega.{arith}
+-- `rounds::enter_round` meets its contract. Assumes nothing.
 use borrow.Author.Needs.{needs}
-use Rattle.apollo.specs.declared.Replica.{Replica}
-use Rattle.replica.proofs.Enter.{entered-own, entered-other, tipped-few}
-use Rattle.replica.proofs.enter_round.Statement.{statement}
-use Rattle.replica.proofs.enter_round.Tie as tie
+use Rattle.rounds.proofs.Steps.{entered-own, entered-other}
+use Rattle.rounds.proofs.enter_round.Statement.{statement}
+use Rattle.rounds.proofs.enter_round.Tie as tie
 
 leads-requires : tie.Need-leads-requires
 leads-requires c κs = search needs
@@ -14,10 +11,7 @@ propose-requires : tie.Need-propose-requires
 propose-requires c κs = search needs
 
 taken-requires : tie.Need-taken-requires
-taken-requires c κs =
-    let p = c .before .before .before .before in
-    let s = p .before .before .before .before .before .before .before .before in
-    tipped-few (s .args .r) _ _ _ _ (p .propose .ensures .2) (s .pre .f-most)
+taken-requires c κs = search needs
 
 same-length : tie.Need-same-length
 same-length c = search needs
@@ -32,15 +26,13 @@ returns c =
     let l = i .before in
     let s = l .before .before .before .before in
     let a = s .args in
-    λ masks. entered-own (a .r) (a .log .now) (a .entry .now) (a .out .now) masks _ _ _ _ (s .pre) (sym (l .leads .ensures) ∙ i .if1 .taken) (p .propose .ensures) (c .taken .ensures)
+    λ masks. entered-own (a .r) (a .log .now) (a .entry .now) (a .out .now) masks _ _ _ _ _ (l .leads .ensures) (i .if1 .taken) (p .propose .ensures) (c .taken .ensures)
 
 with-timer-requires : tie.Need-with-timer-requires
 with-timer-requires c κs = search needs
 
 taken-requires-2 : tie.Need-taken-requires-2
-taken-requires-2 c κs =
-    let s = c .before .before .before .before .before .before in
-    omega (arith, ap (λ (x : Replica). x .f) (c .with-timer .ensures), s .pre .f-most)
+taken-requires-2 c κs = search needs
 
 returns-2 : tie.Need-returns-2
 returns-2 c =
@@ -49,7 +41,7 @@ returns-2 c =
     let l = i .before in
     let s = l .before .before .before .before in
     let a = s .args in
-    λ masks. entered-other (a .r) (a .log .now) (a .entry .now) (a .out .now) masks _ _ (sym (l .leads .ensures) ∙ i .if1 .left) (w .with-timer .ensures) (c .taken2 .ensures)
+    λ masks. entered-other (a .r) (a .log .now) (a .entry .now) (a .out .now) masks _ _ _ (l .leads .ensures) (i .if1 .left) (w .with-timer .ensures) (c .taken2 .ensures)
 
 pub enter-round-spec : {M : Type 1} → statement M
 enter-round-spec =
