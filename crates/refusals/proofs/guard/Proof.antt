@@ -5,10 +5,10 @@ use Rattle.refusals.proofs.guard.Statement.{statement}
 use Rattle.refusals.proofs.guard.Tie as tie
 
 valid-replica-requires : tie.Need-valid-replica-requires
-valid-replica-requires c κs = search needs
+valid-replica-requires c κs = tt
 
 valid-masks-requires : tie.Need-valid-masks-requires
-valid-masks-requires c κs = search needs
+valid-masks-requires c κs = tt
 
 returns : tie.Need-returns
 returns c =
@@ -35,7 +35,7 @@ returns-2 c =
     guard-over (a .r) (a .log .now) (a .masks .now) (a .entry) (a .out) _ _ (d .valid-replica .ensures) (l .valid-masks .ensures) (i .if1 .left) (c .if2 .taken)
 
 judge-room-requires : tie.Need-judge-room-requires
-judge-room-requires c κs = search needs
+judge-room-requires c κs = tt
 
 returns-3 : tie.Need-returns-3
 returns-3 c =

@@ -5,7 +5,7 @@ use Rattle.refusals.proofs.judge_blame.Statement.{statement}
 use Rattle.refusals.proofs.judge_blame.Tie as tie
 
 guard-requires : tie.Need-guard-requires
-guard-requires c κs = search needs
+guard-requires c κs = tt
 
 returns : tie.Need-returns
 returns c =
@@ -14,7 +14,7 @@ returns c =
     blame-guarded (a .r) (a .log .now) (a .masks .now) (a .entry) (a .out) _ (g .guard .ensures) (a .x .now) (c .if1 .taken)
 
 judge-frame-requires : tie.Need-judge-frame-requires
-judge-frame-requires c κs = search needs
+judge-frame-requires c κs = tt
 
 returns-2 : tie.Need-returns-2
 returns-2 c =

@@ -12,7 +12,7 @@ returns c =
     frame-cut (a .r) (a .masks .now) (a .x .now) (c .if1 .taken)
 
 checked-requires : tie.Need-checked-requires
-checked-requires c κs = search needs
+checked-requires c κs = tt
 
 returns-2 : tie.Need-returns-2
 returns-2 c =
@@ -22,7 +22,7 @@ returns-2 c =
     frame-digest (a .r) (a .masks .now) (a .x .now) (i .if1 .left) (sym (h .checked .ensures) ∙ not-true _ (c .if2 .taken))
 
 blame-form-requires : tie.Need-blame-form-requires
-blame-form-requires c κs = search needs
+blame-form-requires c κs = tt
 
 returns-3 : tie.Need-returns-3
 returns-3 c =
@@ -34,7 +34,7 @@ returns-3 c =
     frame-form (a .r) (a .masks .now) (a .x .now) (f .if1 .left) (sym (h .checked .ensures) ∙ not-false _ (i .if2 .left)) (sym (b .blame-form .ensures) ∙ not-true _ (c .if3 .taken))
 
 round-requires : tie.Need-round-requires
-round-requires c κs = search needs
+round-requires c κs = tt
 
 returns-4 : tie.Need-returns-4
 returns-4 c =
@@ -48,10 +48,10 @@ returns-4 c =
     frame-early (a .r) (a .masks .now) (a .x .now) (d .if1 .left) (sym (h .checked .ensures) ∙ not-false _ (f .if2 .left)) (sym (b .blame-form .ensures) ∙ not-false _ (i .if3 .left)) (rw (r .round .ensures) at (c .if4 .taken))
 
 signer-requires : tie.Need-signer-requires
-signer-requires c κs = search needs
+signer-requires c κs = tt
 
 has-blame-requires : tie.Need-has-blame-requires
-has-blame-requires c κs = search needs
+has-blame-requires c κs = tt
 
 returns-5 : tie.Need-returns-5
 returns-5 c =

@@ -5,10 +5,10 @@ use Rattle.refusals.proofs.judge_open.Statement.{statement}
 use Rattle.refusals.proofs.judge_open.Tie as tie
 
 valid-setup-requires : tie.Need-valid-setup-requires
-valid-setup-requires c κs = search needs
+valid-setup-requires c κs = tt
 
 valid-masks-requires : tie.Need-valid-masks-requires
-valid-masks-requires c κs = search needs
+valid-masks-requires c κs = tt
 
 returns : tie.Need-returns
 returns c =
@@ -18,7 +18,7 @@ returns c =
     open-setup (a .r) (a .log .now) (a .masks .now) (a .entry) (a .out) _ _ (i .valid-setup .ensures) (l .valid-masks .ensures) (c .if1 .taken)
 
 judge-room-requires : tie.Need-judge-room-requires
-judge-room-requires c κs = search needs
+judge-room-requires c κs = tt
 
 returns-2 : tie.Need-returns-2
 returns-2 c =

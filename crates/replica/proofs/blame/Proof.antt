@@ -1,20 +1,21 @@
 -- `replica::blame` meets its contract. Assumes nothing.
+use mathlib.Core.Path.{refl}
 use borrow.Author.Needs.{needs}
 use Rattle.replica.proofs.Calls.{blame-refused, blame-taken}
 use Rattle.replica.proofs.blame.Statement.{statement}
 use Rattle.replica.proofs.blame.Tie as tie
 
 judge-blame-requires : tie.Need-judge-blame-requires
-judge-blame-requires c κs = search needs
+judge-blame-requires c κs = tt
 
 refused-requires : tie.Need-refused-requires
-refused-requires c κs = search needs
+refused-requires c κs = tt
 
 same-length : tie.Need-same-length
-same-length c = search needs
+same-length c = refl
 
 same-length-2 : tie.Need-same-length-2
-same-length-2 c = search needs
+same-length-2 c = refl
 
 returns : tie.Need-returns
 returns c =
@@ -25,22 +26,28 @@ returns c =
     blame-refused (a .replica) (a .log .now) (a .masks .now) (a .entry .now) (a .out .now) (a .frame .now) _ (j .judge-blame .ensures) _ (i .if1 .taken) (c .refused .ensures)
 
 round-requires : tie.Need-round-requires
-round-requires c κs = search needs
+round-requires c κs = tt
 
 signer-requires : tie.Need-signer-requires
-signer-requires c κs = search needs
+signer-requires c κs = tt
 
 hear-requires : tie.Need-hear-requires
-hear-requires c κs = search needs
+hear-requires c κs = tt
 
 same-length-3 : tie.Need-same-length-3
-same-length-3 c = search needs
+same-length-3 c =
+    let e = c .before .before .before .before .before .before in
+    e .hear .kept .1 .0
 
 same-length-4 : tie.Need-same-length-4
-same-length-4 c = search needs
+same-length-4 c =
+    let e = c .before .before .before .before .before .before in
+    e .hear .kept .1 .1 .0
 
 same-length-5 : tie.Need-same-length-5
-same-length-5 c = search needs
+same-length-5 c =
+    let e = c .before .before .before .before .before .before in
+    e .hear .kept .1 .1 .1 .1 .1 .1 .0
 
 returns-2 : tie.Need-returns-2
 returns-2 c =

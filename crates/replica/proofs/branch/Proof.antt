@@ -1,17 +1,18 @@
 -- `replica::branch` meets its contract. Assumes nothing.
+use mathlib.Core.Path.{refl, _∙_}
 use borrow.Author.Needs.{needs}
 use Rattle.replica.proofs.Calls.{branch-refused, branch-taken}
 use Rattle.replica.proofs.branch.Statement.{statement}
 use Rattle.replica.proofs.branch.Tie as tie
 
 judge-branch-requires : tie.Need-judge-branch-requires
-judge-branch-requires c κs = search needs
+judge-branch-requires c κs = tt
 
 refused-requires : tie.Need-refused-requires
-refused-requires c κs = search needs
+refused-requires c κs = tt
 
 same-length : tie.Need-same-length
-same-length c = search needs
+same-length c = refl
 
 returns : tie.Need-returns
 returns c =
@@ -22,16 +23,21 @@ returns c =
     branch-refused (a .replica) (a .log .now) (a .masks .now) (a .entry .now) (a .out .now) (a .frames .now) _ (j .judge-branch .ensures) _ (i .if1 .taken) (c .refused .ensures)
 
 adopt-requires : tie.Need-adopt-requires
-adopt-requires c κs = search needs
+adopt-requires c κs = tt
 
 enter-round-requires : tie.Need-enter-round-requires
-enter-round-requires c κs = search needs
+enter-round-requires c κs = tt
 
 same-length-2 : tie.Need-same-length-2
-same-length-2 c = search needs
+same-length-2 c =
+    let e = c .before .before .before .before in
+    let d = e .before .before .before .before .before in
+    e .enter-round .kept .1 .0 ∙ d .adopt .kept .1 .0
 
 same-length-3 : tie.Need-same-length-3
-same-length-3 c = search needs
+same-length-3 c =
+    let e = c .before .before .before .before in
+    e .enter-round .kept .1 .1 .1 .0
 
 returns-2 : tie.Need-returns-2
 returns-2 c =

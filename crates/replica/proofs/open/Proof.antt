@@ -1,26 +1,27 @@
 -- `replica::open` meets its contract. Assumes nothing.
+use mathlib.Core.Path.{refl, _∙_}
 use borrow.Author.Needs.{needs}
 use Rattle.replica.proofs.Calls.{open-refused, open-taken}
 use Rattle.replica.proofs.open.Statement.{statement}
 use Rattle.replica.proofs.open.Tie as tie
 
 fresh-requires : tie.Need-fresh-requires
-fresh-requires c κs = search needs
+fresh-requires c κs = tt
 
 judge-open-requires : tie.Need-judge-open-requires
-judge-open-requires c κs = search needs
+judge-open-requires c κs = tt
 
 zero-replica-requires : tie.Need-zero-replica-requires
-zero-replica-requires c κs = search needs
+zero-replica-requires c κs = tt
 
 refused-requires : tie.Need-refused-requires
-refused-requires c κs = search needs
+refused-requires c κs = tt
 
 same-length : tie.Need-same-length
-same-length c = search needs
+same-length c = refl
 
 same-length-2 : tie.Need-same-length-2
-same-length-2 c = search needs
+same-length-2 c = refl
 
 returns : tie.Need-returns
 returns c =
@@ -33,22 +34,29 @@ returns c =
     open-refused (a .id) (a .f) (a .timeout .0) (a .last-round .0) (a .log .now) (a .masks .now) (a .entry .now) (a .out .now) _ (f .fresh .ensures) _ (j .judge-open .ensures) _ _ (i .if1 .taken) (z .zero-replica .ensures) (c .refused .ensures)
 
 clear-requires : tie.Need-clear-requires
-clear-requires c κs = search needs
+clear-requires c κs = tt
 
 clear-masks-requires : tie.Need-clear-masks-requires
-clear-masks-requires c κs = search needs
+clear-masks-requires c κs = tt
 
 enter-round-requires : tie.Need-enter-round-requires
-enter-round-requires c κs = search needs
+enter-round-requires c κs = tt
 
 same-length-3 : tie.Need-same-length-3
-same-length-3 c = search needs
+same-length-3 c =
+    let e = c .before .before .before .before in
+    let l = e .before .before .before .before .before .before .before .before .before in
+    e .enter-round .kept .1 .0 ∙ l .clear .kept .0
 
 same-length-4 : tie.Need-same-length-4
-same-length-4 c = search needs
+same-length-4 c =
+    let m = c .before .before .before .before .before .before .before .before .before in
+    m .clear-masks .kept .0
 
 same-length-5 : tie.Need-same-length-5
-same-length-5 c = search needs
+same-length-5 c =
+    let e = c .before .before .before .before in
+    e .enter-round .kept .1 .1 .1 .0
 
 returns-2 : tie.Need-returns-2
 returns-2 c =

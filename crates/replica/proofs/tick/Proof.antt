@@ -1,5 +1,5 @@
 -- `replica::tick` meets its contract. Assumes nothing.
-use mathlib.Core.Path.{_∙_}
+use mathlib.Core.Path.{refl, _∙_}
 use Prim.Native.Nat.{_-_}
 use native.Mathlib.Omega.{arith}
 use lib.ListN.{length}
@@ -10,16 +10,16 @@ use Rattle.replica.proofs.tick.Statement.{statement}
 use Rattle.replica.proofs.tick.Tie as tie
 
 guard-requires : tie.Need-guard-requires
-guard-requires c κs = search needs
+guard-requires c κs = tt
 
 refused-requires : tie.Need-refused-requires
-refused-requires c κs = search needs
+refused-requires c κs = tt
 
 same-length : tie.Need-same-length
-same-length c = search needs
+same-length c = refl
 
 same-length-2 : tie.Need-same-length-2
-same-length-2 c = search needs
+same-length-2 c = refl
 
 returns : tie.Need-returns
 returns c =
@@ -30,13 +30,13 @@ returns c =
     tick-refused (a .replica) (a .log .now) (a .masks .now) (a .entry .now) (a .out .now) _ (g .guard .ensures) _ (i .if1 .taken) (c .refused .ensures)
 
 count-down-requires : tie.Need-count-down-requires
-count-down-requires c κs = search needs
+count-down-requires c κs = tt
 
 same-length-3 : tie.Need-same-length-3
-same-length-3 c = search needs
+same-length-3 c = refl
 
 same-length-4 : tie.Need-same-length-4
-same-length-4 c = search needs
+same-length-4 c = refl
 
 returns-2 : tie.Need-returns-2
 returns-2 c =
@@ -48,10 +48,10 @@ returns-2 c =
     tick-down (a .replica) (a .log .now) (a .masks .now) (a .entry .now) (a .out .now) _ (g .guard .ensures) (i .if1 .left) _ (k .if2 .taken) (c .count-down .ensures)
 
 put-blame-requires : tie.Need-put-blame-requires
-put-blame-requires c κs = search needs
+put-blame-requires c κs = tt
 
 with-timer-requires : tie.Need-with-timer-requires
-with-timer-requires c κs = search needs
+with-timer-requires c κs = tt
 
 sub-hear : tie.Need-sub-hear
 sub-hear c =
@@ -75,7 +75,7 @@ part-hear-end : tie.Need-part-hear-end
 part-hear-end c = search needs
 
 hear-requires : tie.Need-hear-requires
-hear-requires c κs = search needs
+hear-requires c κs = tt
 
 add-a : tie.Need-add-a
 add-a c =
@@ -83,13 +83,20 @@ add-a c =
     omega (arith, frames-few _ _ _ _ _ _ _ _ _ (e .hear .ensures))
 
 same-length-5 : tie.Need-same-length-5
-same-length-5 c = search needs
+same-length-5 c =
+    let e = c .before .before .before .before .before .before .before in
+    e .hear .kept .1 .0
 
 same-length-6 : tie.Need-same-length-6
-same-length-6 c = search needs
+same-length-6 c =
+    let e = c .before .before .before .before .before .before .before in
+    e .hear .kept .1 .1 .0
 
 same-length-7 : tie.Need-same-length-7
-same-length-7 c = search needs
+same-length-7 c =
+    let e = c .before .before .before .before .before .before .before in
+    let u = e .before .before .before .before .before .before .before in
+    same-len-mid 512 (length (u .put-blame .last .0) - 512) (u .put-blame .last .0) (e .hear .last .1 .1 .1 .1 .1 .1 .0) (e .hear .kept .1 .1 .1 .1 .1 .1 .0) ∙ u .put-blame .kept .0
 
 returns-3 : tie.Need-returns-3
 returns-3 c =

@@ -11,7 +11,7 @@ returns c =
     certifies-other (a .r) (a .masks .now) (a .round) (c .if1 .taken)
 
 certified-requires : tie.Need-certified-requires
-certified-requires c κs = search needs
+certified-requires c κs = tt
 
 returns-2 : tie.Need-returns-2
 returns-2 c =

@@ -5,7 +5,7 @@ use Rattle.rounds.proofs.count_down.Statement.{statement}
 use Rattle.rounds.proofs.count_down.Tie as tie
 
 taken-requires : tie.Need-taken-requires
-taken-requires c κs = search needs
+taken-requires c κs = tt
 
 returns : tie.Need-returns
 returns c =
@@ -17,10 +17,10 @@ sub-with-timer : tie.Need-sub-with-timer
 sub-with-timer c = search needs
 
 with-timer-requires : tie.Need-with-timer-requires
-with-timer-requires c κs = search needs
+with-timer-requires c κs = tt
 
 taken-requires-2 : tie.Need-taken-requires-2
-taken-requires-2 c κs = search needs
+taken-requires-2 c κs = tt
 
 returns-2 : tie.Need-returns-2
 returns-2 c =

@@ -1,21 +1,22 @@
 -- `rounds::hear` meets its contract. Assumes nothing.
-use borrow.Author.Needs.{needs}
 use borrow.Author.Tests.{not-true, not-false}
 use Rattle.rounds.proofs.Steps.{heard-still, heard-next}
 use Rattle.rounds.proofs.hear.Statement.{statement}
 use Rattle.rounds.proofs.hear.Tie as tie
 
 add-blame-requires : tie.Need-add-blame-requires
-add-blame-requires c κs = search needs
+add-blame-requires c κs = tt
 
 certifies-requires : tie.Need-certifies-requires
-certifies-requires c κs = search needs
+certifies-requires c κs = tt
 
 taken-requires : tie.Need-taken-requires
-taken-requires c κs = search needs
+taken-requires c κs = tt
 
 same-length : tie.Need-same-length
-same-length c = search needs
+same-length c =
+    let m = c .before .before .before .before .before .before in
+    m .add-blame .kept .0
 
 returns : tie.Need-returns
 returns c =
@@ -27,22 +28,28 @@ returns c =
     heard-still (a .r) (a .log .now) (a .masks .now) _ (a .entry .now) (a .out .now) (a .round) (a .signer) (m .add-blame .ensures) _ (e .certifies .ensures) _ (not-true _ (i .if1 .taken)) (c .taken .ensures)
 
 wrapping-add-u32-requires : tie.Need-wrapping-add-u32-requires
-wrapping-add-u32-requires c κs = search needs
+wrapping-add-u32-requires c κs = tt
 
 with-round-requires : tie.Need-with-round-requires
-with-round-requires c κs = search needs
+with-round-requires c κs = tt
 
 enter-round-requires : tie.Need-enter-round-requires
-enter-round-requires c κs = search needs
+enter-round-requires c κs = tt
 
 same-length-2 : tie.Need-same-length-2
-same-length-2 c = search needs
+same-length-2 c =
+    let e = c .before .before .before .before in
+    e .enter-round .kept .1 .0
 
 same-length-3 : tie.Need-same-length-3
-same-length-3 c = search needs
+same-length-3 c =
+    let m = c .before .before .before .before .before .before .before .before .before .before .before .before .before .before in
+    m .add-blame .kept .0
 
 same-length-4 : tie.Need-same-length-4
-same-length-4 c = search needs
+same-length-4 c =
+    let e = c .before .before .before .before in
+    e .enter-round .kept .1 .1 .1 .0
 
 returns-2 : tie.Need-returns-2
 returns-2 c =

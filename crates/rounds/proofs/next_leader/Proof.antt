@@ -10,7 +10,7 @@ returns c =
     no-leader (s .args .r) (c .if1 .taken)
 
 leader-requires : tie.Need-leader-requires
-leader-requires c κs = search needs
+leader-requires c κs = tt
 
 cast-result : tie.Need-cast-result
 cast-result c = search needs

@@ -5,7 +5,7 @@ use Rattle.rounds.proofs.taken.Statement.{statement}
 use Rattle.rounds.proofs.taken.Tie as tie
 
 next-leader-requires : tie.Need-next-leader-requires
-next-leader-requires c κs = search needs
+next-leader-requires c κs = tt
 
 returns : tie.Need-returns
 returns c =

@@ -1,26 +1,27 @@
 -- `tip::adopt` meets its contract. Assumes nothing.
-use borrow.Author.Needs.{needs}
 use Rattle.tip.proofs.Steps.{adopt-tip}
 use Rattle.tip.proofs.adopt.Statement.{statement}
 use Rattle.tip.proofs.adopt.Tie as tie
 
 take-branch-requires : tie.Need-take-branch-requires
-take-branch-requires c κs = search needs
+take-branch-requires c κs = tt
 
 last-frame-requires : tie.Need-last-frame-requires
-last-frame-requires c κs = search needs
+last-frame-requires c κs = tt
 
 round-requires : tie.Need-round-requires
-round-requires c κs = search needs
+round-requires c κs = tt
 
 height-requires : tie.Need-height-requires
-height-requires c κs = search needs
+height-requires c κs = tt
 
 tipped-requires : tie.Need-tipped-requires
-tipped-requires c κs = search needs
+tipped-requires c κs = tt
 
 same-length : tie.Need-same-length
-same-length c = search needs
+same-length c =
+    let k = c .before .before .before .before .before .before .before in
+    k .take-branch .kept .0
 
 returns : tie.Need-returns
 returns c =

@@ -1,29 +1,32 @@
 -- `tip::propose` meets its contract. Assumes nothing.
-use borrow.Author.Needs.{needs}
 use Rattle.tip.proofs.Steps.{proposal}
 use Rattle.tip.proofs.propose.Statement.{statement}
 use Rattle.tip.proofs.propose.Tie as tie
 
 wrapping-add-u32-requires : tie.Need-wrapping-add-u32-requires
-wrapping-add-u32-requires c κs = search needs
+wrapping-add-u32-requires c κs = tt
 
 put-own-block-requires : tie.Need-put-own-block-requires
-put-own-block-requires c κs = search needs
+put-own-block-requires c κs = tt
 
 part-requires : tie.Need-part-requires
-part-requires c κs = search needs
+part-requires c κs = tt
 
 store-requires : tie.Need-store-requires
-store-requires c κs = search needs
+store-requires c κs = tt
 
 tipped-requires : tie.Need-tipped-requires
-tipped-requires c κs = search needs
+tipped-requires c κs = tt
 
 same-length : tie.Need-same-length
-same-length c = search needs
+same-length c =
+    let s = c .before .before .before .before in
+    s .store .kept .0
 
 same-length-2 : tie.Need-same-length-2
-same-length-2 c = search needs
+same-length-2 c =
+    let u = c .before .before .before .before .before .before .before .before .before .before in
+    u .put-own-block .kept .1 .1 .1 .1 .0
 
 returns : tie.Need-returns
 returns c =

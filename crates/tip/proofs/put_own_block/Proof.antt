@@ -1,17 +1,19 @@
 -- `tip::put_own_block` meets its contract. Assumes nothing.
-use borrow.Author.Needs.{needs}
+use mathlib.Core.Path.{refl}
 use Rattle.tip.proofs.Steps.{on-genesis, on-slot}
 use Rattle.tip.proofs.put_own_block.Statement.{statement}
 use Rattle.tip.proofs.put_own_block.Tie as tie
 
 slice-aggregate-put-block : tie.Need-slice-aggregate-put-block
-slice-aggregate-put-block c = search needs
+slice-aggregate-put-block c = refl
 
 put-block-requires : tie.Need-put-block-requires
-put-block-requires c κs = search needs
+put-block-requires c κs = tt
 
 same-length : tie.Need-same-length
-same-length c = search needs
+same-length c =
+    let u = c .before .before in
+    u .put-block .kept .0
 
 returns : tie.Need-returns
 returns c =
@@ -21,16 +23,18 @@ returns c =
     on-genesis (a .r) (a .log .now) (a .height) (a .entry .now) (a .out .now) _ (i .if1 .taken) (u .put-block .ensures)
 
 slot-requires : tie.Need-slot-requires
-slot-requires c κs = search needs
+slot-requires c κs = tt
 
 part-requires : tie.Need-part-requires
-part-requires c κs = search needs
+part-requires c κs = tt
 
 put-block-requires-2 : tie.Need-put-block-requires-2
-put-block-requires-2 c κs = search needs
+put-block-requires-2 c κs = tt
 
 same-length-2 : tie.Need-same-length-2
-same-length-2 c = search needs
+same-length-2 c =
+    let u = c .before .before in
+    u .put-block2 .kept .0
 
 returns-2 : tie.Need-returns-2
 returns-2 c =

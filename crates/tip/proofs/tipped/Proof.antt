@@ -5,19 +5,19 @@ use Rattle.tip.proofs.tipped.Statement.{statement}
 use Rattle.tip.proofs.tipped.Tie as tie
 
 with-tip-requires : tie.Need-with-tip-requires
-with-tip-requires c κs = search needs
+with-tip-requires c κs = tt
 
 wrapping-add-u32-requires : tie.Need-wrapping-add-u32-requires
-wrapping-add-u32-requires c κs = search needs
+wrapping-add-u32-requires c κs = tt
 
 with-round-requires : tie.Need-with-round-requires
-with-round-requires c κs = search needs
+with-round-requires c κs = tt
 
 with-timer-requires : tie.Need-with-timer-requires
-with-timer-requires c κs = search needs
+with-timer-requires c κs = tt
 
 commit-requires : tie.Need-commit-requires
-commit-requires c κs = search needs
+commit-requires c κs = tt
 
 returns : tie.Need-returns
 returns c =
