@@ -17,7 +17,7 @@ use Rattle.apollo.specs.Open.{openWith}
 use Rattle.apollo.specs.Branch.{branchWith}
 use Rattle.apollo.specs.Blame.{heard, blameWith}
 use Rattle.branch.specs.declared.Judged.{Judged}
-use Rattle.branch.specs.Judge.{refusal, judgedBranch, adopted, answered}
+use Rattle.branch.specs.Judge.{refusal, judgedBranch, answered}
 use Rattle.branch.proofs.Answer.{branch-answer}
 use Rattle.refusals.specs.Number.{roomNumber, openNumber, guardNumber, frameNumber, blameNumber}
 use Rattle.refusals.specs.Branch.{guardedBranch}

@@ -1,19 +1,19 @@
 -- In range, entering a round and hearing a blame are the definition's. Assumes nothing.
-use mathlib.Core.Path.{_≡_, refl, ap, ap₂, _∙_}
+use mathlib.Core.Path.{_≡_, refl, ap₂}
 use mathlib.Core.Bool.{Bool, true, false, _&&_, cond}
 use mathlib.Core.List.{List, [], _∷_, flatten, append-nil}
 use Prim.Native.Nat.{ℕ, _+_, _-_, _*_, _%_, _^_, _≤_, _<_}
 use native.Mathlib.Nat.{mod-lt}
 use native.Mathlib.Omega.{arith}
 use lib.Dec.{eqb, leb}
-use lib.ListN.{length, take, drop}
+use lib.ListN.{take}
 use borrow.Author.Tests.{eqb-true, lt-ltb, leb-true}
 use Rattle.sha256.specs.Fips.{sha256}
 use Rattle.apollo.specs.declared.Replica.{Replica}
-use Rattle.apollo.specs.Setup.{setupOf, replicas, leader}
+use Rattle.apollo.specs.Setup.{setupOf, leader}
 use Rattle.apollo.specs.Masks.{addBlame, certified}
 use Rattle.apollo.specs.Replica.{withRound, withTimer, leads}
-use Rattle.apollo.specs.Enter.{State, Effect, commit, tipped, waiting, hearing, holding, ownBlock, proposing, enterRound, settle}
+use Rattle.apollo.specs.Enter.{State, Effect, commit, waiting, hearing, ownBlock, proposing, enterRound, settle}
 use Rattle.apollo.specs.Outcome.{Outcome, taken, nextLeader}
 use Rattle.log.specs.Masks.{addBlame16}
 use Rattle.log.specs.Slots.{storeAt}

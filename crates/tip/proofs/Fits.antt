@@ -1,7 +1,7 @@
 -- In range a new tip is the definition's. Assumes nothing.
 use mathlib.Core.Path.{_≡_, refl, ap, _∙_}
 use mathlib.Core.List.{List, _++_}
-use Prim.Native.Nat.{ℕ, zero, suc, _+_, _*_, _≤_, _<_}
+use Prim.Native.Nat.{ℕ, zero, suc, _+_, _*_, _≤_}
 use native.Mathlib.Omega.{arith}
 use lib.ListN.{length, take, drop, length-take, length-drop}
 use lib.Seq.{take-at}
@@ -10,8 +10,7 @@ use Rattle.apollo.specs.declared.Replica.{Replica}
 use Rattle.apollo.specs.Bytes.{zeros}
 use Rattle.apollo.specs.Frame.{digest}
 use Rattle.apollo.specs.Log.{genesis, slot, store}
-use Rattle.apollo.specs.Replica.{withRound, withTimer, withTip}
-use Rattle.apollo.specs.Enter.{State, commit, tipped, holding, ownBlock, proposing}
+use Rattle.apollo.specs.Enter.{State, tipped, holding, ownBlock, proposing}
 use Rattle.frame.proofs.Make.{length-block, put-block-fits}
 use Rattle.log.specs.Slots.{storeAt}
 use Rattle.log.proofs.Slots.{store-fits}

@@ -1,5 +1,4 @@
 -- `refusals::judge_blame` meets its contract. Assumes nothing.
-use borrow.Author.Needs.{needs}
 use Rattle.refusals.proofs.Number.{blame-guarded, blame-judged}
 use Rattle.refusals.proofs.judge_blame.Statement.{statement}
 use Rattle.refusals.proofs.judge_blame.Tie as tie

@@ -1,5 +1,4 @@
 -- `refusals::judge_branch` meets its contract. Assumes nothing.
-use borrow.Author.Needs.{needs}
 use Rattle.refusals.proofs.Number.{branch-guarded, branch-judged}
 use Rattle.refusals.proofs.judge_branch.Statement.{statement}
 use Rattle.refusals.proofs.judge_branch.Tie as tie

@@ -1,7 +1,6 @@
 -- `refusals::judge_frame` meets its contract. Assumes nothing.
 use mathlib.Core.Path.{sym, _∙_}
 use borrow.Author.Tests.{not-true, not-false}
-use borrow.Author.Needs.{needs}
 use Rattle.refusals.proofs.Number.{frame-cut, frame-digest, frame-form, frame-early, frame-stale, frame-new}
 use Rattle.refusals.proofs.judge_frame.Statement.{statement}
 use Rattle.refusals.proofs.judge_frame.Tie as tie

@@ -1,5 +1,4 @@
 -- `refusals::judge_open` meets its contract. Assumes nothing.
-use borrow.Author.Needs.{needs}
 use Rattle.refusals.proofs.Number.{open-setup, open-room}
 use Rattle.refusals.proofs.judge_open.Statement.{statement}
 use Rattle.refusals.proofs.judge_open.Tie as tie

@@ -1,6 +1,5 @@
 -- `replica::blame` meets its contract. Assumes nothing.
 use mathlib.Core.Path.{refl}
-use borrow.Author.Needs.{needs}
 use Rattle.replica.proofs.Calls.{blame-refused, blame-taken}
 use Rattle.replica.proofs.blame.Statement.{statement}
 use Rattle.replica.proofs.blame.Tie as tie

@@ -1,6 +1,5 @@
 -- `replica::branch` meets its contract. Assumes nothing.
 use mathlib.Core.Path.{refl, _∙_}
-use borrow.Author.Needs.{needs}
 use Rattle.replica.proofs.Calls.{branch-refused, branch-taken}
 use Rattle.replica.proofs.branch.Statement.{statement}
 use Rattle.replica.proofs.branch.Tie as tie

@@ -1,6 +1,5 @@
 -- `replica::open` meets its contract. Assumes nothing.
 use mathlib.Core.Path.{refl, _∙_}
-use borrow.Author.Needs.{needs}
 use Rattle.replica.proofs.Calls.{open-refused, open-taken}
 use Rattle.replica.proofs.open.Statement.{statement}
 use Rattle.replica.proofs.open.Tie as tie

@@ -1,5 +1,4 @@
 -- `rounds::certifies` meets its contract. Assumes nothing.
-use borrow.Author.Needs.{needs}
 use Rattle.rounds.proofs.Steps.{certifies-other, certifies-own}
 use Rattle.rounds.proofs.certifies.Statement.{statement}
 use Rattle.rounds.proofs.certifies.Tie as tie

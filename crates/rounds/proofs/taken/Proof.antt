@@ -1,5 +1,4 @@
 -- `rounds::taken` meets its contract. Assumes nothing.
-use borrow.Author.Needs.{needs}
 use Rattle.rounds.proofs.Steps.{taken-told}
 use Rattle.rounds.proofs.taken.Statement.{statement}
 use Rattle.rounds.proofs.taken.Tie as tie

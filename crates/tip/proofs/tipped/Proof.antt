@@ -1,5 +1,4 @@
 -- `tip::tipped` meets its contract. Assumes nothing.
-use borrow.Author.Needs.{needs}
 use Rattle.tip.proofs.Steps.{tipped-steps}
 use Rattle.tip.proofs.tipped.Statement.{statement}
 use Rattle.tip.proofs.tipped.Tie as tie
