@@ -2,4 +2,4 @@ pub mod Frames
 pub mod Place
 pub mod Judge
 pub mod Answer
-pub mod Accepted
+pub mod Last

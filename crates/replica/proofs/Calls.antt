@@ -1,35 +1,47 @@
--- Open, blame and tick behind their refusals, and the blame that a tick emits. Assumes nothing.
-use mathlib.Core.Path.{_≡_, sym, ap, ap₂, _∙_}
-use mathlib.Core.Bool.{_&&_, not}
-use mathlib.Core.List.{List, _∷_, _++_, flatten, append-assoc, append-nil}
-use Prim.Native.Nat.{ℕ, suc, _+_, _-_, _*_, _≤_, _<_}
+-- The calls behind their refusals. Assumes nothing.
+use mathlib.Core.Path.{_≡_, refl, sym, ap, ap₂, _∙_}
+use mathlib.Core.Bool.{Bool, true, false, cond}
+use mathlib.Core.List.{List, [], _∷_, _++_, flatten, append-assoc, append-nil}
+use Prim.Native.Nat.{ℕ, suc, _+_, _-_, _*_, _≤_}
 use native.Mathlib.Numerals.{add-one}
 use native.Mathlib.Omega.{arith}
-use lib.Dec.{ltb}
+use lib.Dec.{eqb}
 use lib.ListN.{length, take, drop, length-drop, drop-of-length-le}
 use lib.Seq.{take-at, drop-at, take-all, drop-drop}
 use borrow.Rule.Slice.PartMut.{putMid}
-use borrow.Author.Tests.{eq-eqb, ne-eqb, lt-ltb}
+use borrow.Author.Tests.{eq-eqb, ne-eqb, eqb-true}
 use Rattle.sha256.specs.Fips.{sha256}
 use Rattle.apollo.specs.declared.Replica.{Replica}
 use Rattle.apollo.specs.declared.Answer.{Answer}
 use Rattle.apollo.specs.Bytes.{zeros}
 use Rattle.apollo.specs.Setup.{setupOf}
-use Rattle.apollo.specs.Frame.{round, signer, makeBlame}
-use Rattle.apollo.specs.Replica.{withTimer, fresh, zeroReplica, validSetup, validMasks}
-use Rattle.apollo.specs.Enter.{State, Effect, waiting, hearing, enterRound, settle}
-use Rattle.apollo.specs.Outcome.{Outcome, refused, taken}
+use Rattle.apollo.specs.Frame.{round, signer, height, makeBlame}
+use Rattle.apollo.specs.Replica.{withTimer, fresh, zeroReplica}
+use Rattle.apollo.specs.Enter.{State, Effect, commit, tipped, waiting, hearing, holding, enterRound, settle}
+use Rattle.apollo.specs.Outcome.{Outcome, nextLeader, refused, taken}
 use Rattle.apollo.specs.Open.{openWith}
-use Rattle.apollo.specs.Tick.{blaming, ticked}
+use Rattle.apollo.specs.Branch.{branchWith}
+use Rattle.apollo.specs.Blame.{blameWith}
+use Rattle.apollo.specs.Tick.{blaming, ticked, tickWith}
 use Rattle.writing.specs.Put.{putBlame}
 use Rattle.apollo.proofs.Slots.{length-zeros}
-use Rattle.forms.proofs.Facts.{blame-fields}
+use Rattle.forms.proofs.Facts.{BlockFields}
 use Rattle.writing.proofs.Make.{length-blame, put-blame-fits}
-use Rattle.masks.specs.Masks.{addBlame16}
-use Rattle.replica.specs.Call.{state, outcome, takenAnswer, refusedAnswer}
-use Rattle.replica.specs.Judge.{roomNumber, openNumber, blameNumber}
-use Rattle.replica.specs.Ready.{Ready}
-use Rattle.replica.proofs.Judge.{by-number, by-refused, by-taken, open-chain, blame-formed, Opened, Passed}
+use Rattle.log.specs.Slots as Slots
+use Rattle.branch.specs.declared.Judged.{Judged}
+use Rattle.branch.specs.Frames.{framesOf, lastFrame}
+use Rattle.branch.specs.Judge.{adopted, answered}
+use Rattle.branch.proofs.Last.{last-block}
+use Rattle.refusals.specs.Number.{openNumber, guardNumber, blameNumber}
+use Rattle.refusals.specs.Branch.{guardedBranch}
+use Rattle.refusals.proofs.Passed.{Opened, Passed, opened, passed, blame-passed, branch-passed}
+use Rattle.refusals.proofs.Answer.{by-number, open-by, guarded-by, blame-by, branch-by}
+use Rattle.tip.specs.Tip.{tippedAt}
+use Rattle.tip.specs.Ready.{Ready}
+use Rattle.tip.proofs.Fits.{tipped-fits}
+use Rattle.rounds.specs.Rounds.{told, enteredAt, heardAt}
+use Rattle.rounds.proofs.Fits.{told-none, entered-fits, heard-fits, heard-few}
+use Rattle.replica.specs.Call.{state, outcome, refusedAnswer}
 
 -- an answer with one more frame
 abbrev pub more : Answer → Answer
@@ -56,138 +68,47 @@ taken-more B out log masks y e a h =
     (before B out (e .emitted))
   where
     takenFrames : ℕ → Answer
-    takenFrames k = takenAnswer (e .state .replica) k
+    takenFrames k =
+        record { number = 0; frames = k; leader = nextLeader (e .state .replica); place = 0; replica = e .state .replica }
 
-module _ (r : Replica) (log masks entry out : List ℕ) where
-  -- ticks left reach 0
-  pub expired : (masks₁ out₁ y log₂ : List ℕ) (q : Replica) (a : Answer) → 512 ≤ length out → r .id < 16
-      → out₁ ≡ putBlame out (r .id) (r .round .0) → masks₁ ≡ addBlame16 masks (r .round .0) (r .id) → q ≡ withTimer r 0
-      → outcome a log₂ masks₁ y
-      ≡ taken (settle sha256 entry (state q log masks₁) (r .round .0)) (take (length out₁ - 512) (drop 512 out₁))
-      → outcome (more a) log₂ masks₁ (putMid 512 (length out₁ - 512) out₁ y)
-      ≡ taken (blaming sha256 entry (state r log masks)) out
-  unfolding blaming hearing waiting
-  expired masks₁ out₁ y log₂ q a l i eo em eq h =
-      let R : ℕ = r .round .0 in
-      let B : List ℕ = makeBlame sha256 (r .id) R in
-      let s : State = hearing (waiting (state r log masks) R 0) R (r .id) in
-      let o : out₁ ≡ B ++ drop 512 out = eo ∙ put-blame-fits out (r .id) R l in
-      let t : take 512 out₁ ≡ B = ap (take 512) o ∙ take-at B (drop 512 out) 512 (length-blame (r .id) R) in
-      let n : length (drop 512 out₁) ≤ length out₁ - 512 = rw length-drop (omega arith) in
-      let d : take (length out₁ - 512) (drop 512 out₁) ≡ drop 512 out =
-      take-all (length out₁ - 512) (drop 512 out₁) n ∙ ap (drop 512) o ∙ drop-at B (drop 512 out) 512 (length-blame (r .id) R) in
-      let es : state q log masks₁ ≡ s = rw (eq, em, lt-ltb (r .id) 16 i) in
-      let p : putMid 512 (length out₁ - 512) out₁ y ≡ B ++ y =
-      rw (t, drop-of-length-le (drop 512 out₁) n, append-nil) in
-      ap (outcome (more a) log₂ masks₁) p
-      ∙ taken-more B out log₂ masks₁ y (settle sha256 entry s R) a
-      (h ∙ ap₂ (λ (z : State) (w : List ℕ). taken (settle sha256 entry z R) w) es d)
+-- a call's answer by the number that refuses it, for any number n that is m
+module _ (s : State) (out : List ℕ) (m : ℕ) (o : Outcome) (n : ℕ) (e : n ≡ m) where
+  refused-by : (a : Answer) → (n ≡ 0 → ⊥) → a ≡ refusedAnswer (s .replica) n 0
+      → outcome a (s .log) (s .masks) out ≡ by-number m o (λ k. refused s out k 0)
+  unfolding refused
+  refused-by a h ea = rw (← e, ne-eqb n 0 h, ea)
 
-  pub expire-ready : (q : Replica) (y : List ℕ) → Ready r log entry out → q ≡ withTimer r 0 → 512 ≤ length y
-      → Ready q log entry y
-  expire-ready q y g eq h =
-      rw eq
-      (record {
-        f-most = g .f-most;
-        last-most = g .last-most;
-        size = g .size;
-        round-most = g .round-most;
-        tip-below = g .tip-below;
-        tip-height = g .tip-height;
-        out-least = h;
-        entry-most = g .entry-most;
-      })
-
-  -- the ticks of a call that passes
-  pub ticked-none : (a : Answer) → r .timer .0 ≡ 0 → a ≡ takenAnswer r 0
-      → outcome a log masks out ≡ taken (ticked sha256 entry (state r log masks)) out
-  unfolding ticked taken flatten
-  ticked-none a h ea = rw (eq-eqb (r .timer .0) 0 h, ea)
-
-  pub ticked-out : (o : Outcome) → r .timer .0 ≡ 1 → o ≡ taken (blaming sha256 entry (state r log masks)) out
-      → o ≡ taken (ticked sha256 entry (state r log masks)) out
-  unfolding ticked
-  ticked-out o h e = rw (ne-eqb (r .timer .0) 0 (omega arith), eq-eqb (r .timer .0) 1 h) e
-
-  pub ticked-down : (q : Replica) (a : Answer) → (r .timer .0 ≡ 0 → ⊥) → (r .timer .0 ≡ 1 → ⊥)
-      → q ≡ withTimer r (r .timer .0 - 1) → a ≡ takenAnswer q 0
-      → outcome a log masks out ≡ taken (ticked sha256 entry (state r log masks)) out
-  unfolding ticked taken waiting flatten
-  ticked-down q a h k eq ea = rw (ne-eqb (r .timer .0) 0 h, ne-eqb (r .timer .0) 1 k, ea, eq)
-
-  -- a blame that is taken
-  pub heard-effect : (x masks₁ : List ℕ) (k i : ℕ) (o : Outcome) → signer x < 16 → k ≡ round x → i ≡ signer x
-      → masks₁ ≡ addBlame16 masks k i → o ≡ taken (settle sha256 entry (state r log masks₁) k) out
-      → o ≡ taken (settle sha256 entry (hearing (state r log masks) (round x) (signer x)) (round x)) out
-  unfolding hearing
-  heard-effect x masks₁ k i o l ek ei em e = rw (em, ek, ei, lt-ltb (signer x) 16 l) at e
-
-  -- what a call that passes hands on
-  pub passed-ready : Passed r log masks entry out → Ready r log entry out
-  passed-ready p =
-      let v = p .valid in
-      record {
-        f-most = v .setup .f-most;
-        last-most = v .setup .last-most;
-        size = v .setup .size;
-        round-most = v .round-most;
-        tip-below = v .tip-below;
-        tip-height = v .tip-height;
-        out-least = omega arith;
-        entry-most = p .entry-most;
-      }
-
-  -- a blame's signer has a bit in the mask
-  pub signer-few : (x : List ℕ) → Passed r log masks entry out → blameNumber r masks x ≡ 0 → signer x < 16
-  signer-few x p e =
-      let b = blame-fields (setupOf r) x (blame-formed r masks x e) in
-      omega (arith, b .by-replica, p .valid .setup .f-most)
+  taken-by : n ≡ 0 → o ≡ by-number m o (λ k. refused s out k 0)
+  taken-by z = rw (← e, eq-eqb n 0 z)
 
 -- open
-module _ (id f timeout last : ℕ) (log masks entry out : List ℕ) (r : Replica) (er : r ≡ fresh id f timeout last) where
-  abbrev old : State
-  old = record { replica = zeroReplica; log = log; masks = masks }
+module _ (id f timeout last : ℕ) (log masks entry out : List ℕ) (r : Replica) (er : r ≡ fresh id f timeout last) (n : ℕ)
+    (en : n ≡ openNumber r log masks (length entry) (length out)) where
+  number-is : n ≡ openNumber (fresh id f timeout last) log masks (length entry) (length out)
+  number-is = rw er at en
 
-  abbrev new : State
-  new = record { replica = fresh id f timeout last; log = zeros (512 * last); masks = zeros last }
-
-  open-by : openWith sha256 id f timeout last log masks entry out
-      ≡ by-number (openNumber r log masks entry out) (taken (enterRound sha256 entry new) out) (λ n. refused old out n 0)
-  unfolding openWith openNumber roomNumber
-  open-by =
-      rw er
-      (open-chain (not (validSetup (fresh id f timeout last) log && validMasks (fresh id f timeout last) masks))
-      (ltb (length out) 1024) (ltb 400 (length entry)) (taken (enterRound sha256 entry new) out) (λ n. refused old out n 0))
-
-  pub open-refused : (n : ℕ) (z : Replica) (a : Answer) → n ≡ openNumber r log masks entry out → (n ≡ 0 → ⊥)
-      → z ≡ zeroReplica → a ≡ refusedAnswer z n 0 → outcome a log masks out ≡ openWith sha256 id f timeout last log masks entry out
-  unfolding refused
-  open-refused n z a e h ez ea =
-      ap (λ (x : Answer). outcome x log masks out) (ea ∙ ap (λ (x : Replica). refusedAnswer x n 0) ez)
-      ∙ by-refused n (openNumber r log masks entry out) (taken (enterRound sha256 entry new) out) (λ k. refused old out k 0) e h
-      ∙ sym open-by
+  pub open-refused : (z : Replica) (a : Answer) → (n ≡ 0 → ⊥) → z ≡ zeroReplica → a ≡ refusedAnswer z n 0
+      → outcome a log masks out ≡ openWith sha256 id f timeout last log masks entry out
+  open-refused z a h ez ea =
+      refused-by (state zeroReplica log masks) out _ _ n number-is a h (ea ∙ ap (λ (x : Replica). refusedAnswer x n 0) ez)
+      ∙ sym (open-by id f timeout last log masks entry out)
 
   -- the log and the masks that open leaves
-  module _ (g : Opened r log masks entry out) (log₁ : List ℕ) (el : log₁ ≡ zeros (length log)) where
+  module _ (z : n ≡ 0) (log′ : List ℕ) (el : log′ ≡ zeros (length log)) where
+    passed-open : Opened r log masks (length entry) (length out)
+    passed-open = opened r log masks (length entry) (length out) (sym en ∙ z)
+
     last-is : r .«last_round» .0 ≡ last
     unfolding fresh
     last-is = ap (λ (x : Replica). x .«last_round» .0) er
 
-    log-is : log₁ ≡ zeros (512 * last)
-    log-is = el ∙ ap zeros (g .valid .size ∙ ap (λ (k : ℕ). 512 * k) last-is)
+    log-is : log′ ≡ zeros (512 * last)
+    log-is = el ∙ ap zeros (passed-open .valid .size ∙ ap (λ (k : ℕ). 512 * k) last-is)
 
-    pub open-taken : (n : ℕ) (masks₁ : List ℕ) (o : Outcome) → n ≡ openNumber r log masks entry out → n ≡ 0
-        → masks₁ ≡ zeros (length masks) → o ≡ taken (enterRound sha256 entry (state r log₁ masks₁)) out
-        → o ≡ openWith sha256 id f timeout last log masks entry out
-    open-taken n masks₁ o e z em h =
-        let m : masks₁ ≡ zeros last = em ∙ ap zeros (g .masks-size ∙ last-is) in
-        rw (m, log-is, er) at h
-        ∙ by-taken n (openNumber r log masks entry out) (taken (enterRound sha256 entry new) out) (λ k. refused old out k 0) e z
-        ∙ sym open-by
-
-    pub open-ready : Ready r log₁ entry out
+    open-ready : Ready r log′ entry out
     unfolding fresh
     open-ready =
+        let g : Opened r log masks (length entry) (length out) = passed-open in
         let a : r .round .0 ≡ 1 = ap (λ (x : Replica). x .round .0) er in
         let b : r .«tip_round» .0 ≡ 0 = ap (λ (x : Replica). x .«tip_round» .0) er in
         let c : r .«tip_height» .0 ≡ 0 = ap (λ (x : Replica). x .«tip_height» .0) er in
@@ -201,3 +122,161 @@ module _ (id f timeout last : ℕ) (log masks entry out : List ℕ) (r : Replica
           out-least = omega arith;
           entry-most = g .entry-most;
         }
+
+    pub open-taken : (masks′ : List ℕ) (o : Outcome) → masks′ ≡ zeros (length masks)
+        → o ≡ enteredAt entry out (state r log′ masks′)
+        → o ≡ openWith sha256 id f timeout last log masks entry out
+    open-taken masks′ o em h =
+        let m : masks′ ≡ zeros last = em ∙ ap zeros (passed-open .masks-size ∙ last-is) in
+        rw (m, log-is, er) at (h ∙ entered-fits entry out r log′ open-ready masks′)
+        ∙ taken-by (state zeroReplica log masks) out _ _ n number-is z
+        ∙ sym (open-by id f timeout last log masks entry out)
+
+module _ (r : Replica) (log masks entry out : List ℕ) where
+  passed-ready : Passed r log (length entry) (length out) → (t : ℕ) (y : List ℕ) → 512 ≤ length y → Ready (withTimer r t) log entry y
+  passed-ready p t y h =
+      let v = p .valid in
+      record {
+        f-most = v .setup .f-most;
+        last-most = v .setup .last-most;
+        size = v .setup .size;
+        round-most = v .round-most;
+        tip-below = v .tip-below;
+        tip-height = v .tip-height;
+        out-least = h;
+        entry-most = p .entry-most;
+      }
+
+  -- branch
+  module _ (x : List ℕ) (j : Judged) (ej : j ≡ guardedBranch r log masks x (length entry) (length out)) where
+    pub branch-refused : (a : Answer) → (j .number ≡ 0 → ⊥) → a ≡ refusedAnswer r (j .number) (j .place)
+        → outcome a log masks out ≡ branchWith sha256 (state r log masks) x entry out
+    unfolding answered refused
+    branch-refused a h ea = rw (branch-by (state r log masks) entry out x, ← ej, ne-eqb (j .number) 0 h, ea)
+
+    module _ (z : j .number ≡ 0) (log′ : List ℕ) (q : Replica)
+        (p : (log′ ≡ Slots.taken log (j .attach) (framesOf x)) × (q ≡ tippedAt r log′ (round (lastFrame x)) (height (lastFrame x)))) where
+      branch-facts : Passed r log (length entry) (length out) × BlockFields (setupOf r) (lastFrame x)
+      branch-facts =
+          let w = branch-passed r log masks (length entry) (length out) x (ap (λ (i : Judged). i .number) (sym ej) ∙ z) in
+          (w .0, last-block r log masks x (w .1))
+
+      tip-is : q ≡ tipped r log′ (round (lastFrame x)) (height (lastFrame x))
+      tip-is =
+          let w = branch-facts in
+          p .1
+          ∙ tipped-fits r log′ (round (lastFrame x)) (height (lastFrame x))
+          (omega (arith, w .1 .round-high, w .0 .valid .setup .last-most))
+
+      adopt-ready : length log′ ≡ length log → Ready q log′ entry out
+      unfolding tipped commit
+      adopt-ready l =
+          let w = branch-facts in
+          let v = w .0 .valid .setup in
+          rw tip-is
+          (record {
+            f-most = v .f-most;
+            last-most = v .last-most;
+            size = l ∙ v .size;
+            round-most = omega (arith, w .1 .round-high);
+            tip-below = omega arith;
+            tip-height = w .1 .height-high;
+            out-least = omega (arith, w .0 .out-least);
+            entry-most = w .0 .entry-most;
+          })
+
+      pub branch-taken : length log′ ≡ length log → (o : Outcome) → o ≡ enteredAt entry out (state q log′ masks)
+          → o ≡ branchWith sha256 (state r log masks) x entry out
+      unfolding answered adopted holding
+      branch-taken l o e =
+          let h : state q log′ masks ≡ holding (state r log masks) (Slots.taken log (j .attach) (framesOf x)) (round (lastFrame x)) (height (lastFrame x)) =
+          rw (tip-is, p .0) in
+          rw (branch-by (state r log masks) entry out x, ← ej, eq-eqb (j .number) 0 z)
+          (e ∙ entered-fits entry out q log′ (adopt-ready l) masks ∙ ap (λ (s : State). taken (enterRound sha256 entry s) out) h)
+
+  -- blame
+  module _ (x : List ℕ) (n : ℕ) (en : n ≡ blameNumber r log masks x (length entry) (length out)) where
+    pub blame-refused : (a : Answer) → (n ≡ 0 → ⊥) → a ≡ refusedAnswer r n 0
+        → outcome a log masks out ≡ blameWith sha256 (state r log masks) x entry out
+    blame-refused a h ea = refused-by (state r log masks) out _ _ n en a h ea ∙ sym (blame-by (state r log masks) entry out x)
+
+    pub blame-taken : (k i : ℕ) (o : Outcome) → n ≡ 0 → k ≡ round x → i ≡ signer x
+        → o ≡ heardAt entry out (state r log masks) k i → o ≡ blameWith sha256 (state r log masks) x entry out
+    blame-taken k i o z ek ei e =
+        let p = blame-passed r log masks (length entry) (length out) x (sym en ∙ z) in
+        rw (ek, ei) at e
+        ∙ heard-fits entry out r log (passed-ready (p .0) (r .timer .0) out (omega (arith, p .0 .out-least))) (p .0 .round-last) masks (round x) (signer x) (p .1)
+        ∙ taken-by (state r log masks) out _ _ n en z
+        ∙ sym (blame-by (state r log masks) entry out x)
+
+  -- tick
+  counted : r .f ≤ 7 → (r .timer .0 ≡ 1 → ⊥) → (b : Bool) → eqb (r .timer .0) 0 ≡ b
+      → outcome (told (withTimer r (r .timer .0 - 1)) 0) log masks out
+      ≡ taken (cond b (record { state = state r log masks; emitted = [] })
+      (cond (eqb (r .timer .0) 1) (blaming sha256 entry (state r log masks))
+      (record { state = waiting (state r log masks) (r .round .0) (r .timer .0 - 1); emitted = [] }))) out
+  unfolding waiting
+  counted l k true e =
+      let z : r .timer .0 ≡ 0 = eqb-true (r .timer .0) 0 e in
+      let d : r .timer .0 - 1 ≡ r .timer .0 = omega arith in
+      rw d (told-none entry out (state r log masks) l)
+  counted l k false e = rw (ne-eqb (r .timer .0) 1 k) (told-none entry out (state (withTimer r (r .timer .0 - 1)) log masks) l)
+
+  module _ (n : ℕ) (en : n ≡ guardNumber r log masks (length entry) (length out)) where
+    pub tick-refused : (a : Answer) → (n ≡ 0 → ⊥) → a ≡ refusedAnswer r n 0
+        → outcome a log masks out ≡ tickWith sha256 (state r log masks) entry out
+    unfolding tickWith
+    tick-refused a h ea = refused-by (state r log masks) out _ _ n en a h ea ∙ sym (guarded-by (state r log masks) entry out _)
+
+    module _ (z : n ≡ 0) where
+      tick-passed : Passed r log (length entry) (length out)
+      tick-passed = passed r log masks (length entry) (length out) (sym en ∙ z)
+
+      tick-effect : (o : Outcome) → o ≡ taken (ticked sha256 entry (state r log masks)) out
+          → o ≡ tickWith sha256 (state r log masks) entry out
+      unfolding tickWith
+      tick-effect o e = e ∙ taken-by (state r log masks) out _ _ n en z ∙ sym (guarded-by (state r log masks) entry out _)
+
+      pub tick-down : (a : Answer) → (r .timer .0 ≡ 1 → ⊥) → a ≡ told (withTimer r (r .timer .0 - 1)) 0
+          → outcome a log masks out ≡ tickWith sha256 (state r log masks) entry out
+      unfolding ticked
+      tick-down a k ea =
+          tick-effect (outcome a log masks out)
+          (ap (λ (x : Answer). outcome x log masks out) ea ∙ counted (tick-passed .valid .setup .f-most) k (eqb (r .timer .0) 0) refl)
+
+      pub tick-room : 1024 ≤ length out
+      tick-room = tick-passed .out-least
+
+      -- ticks left reach 0: what is heard on the out buffer after the blame
+      pub tick-out : (out′ y log′ masks′ : List ℕ) (q : Replica) (a : Answer) → r .timer .0 ≡ 1
+          → out′ ≡ putBlame out (r .id) (r .round .0) → q ≡ withTimer r 0
+          → outcome a log′ masks′ y
+          ≡ heardAt entry (take (length out′ - 512) (drop 512 out′)) (state q log masks) (r .round .0) (r .id)
+          → outcome (more a) log′ masks′ (putMid 512 (length out′ - 512) out′ y)
+          ≡ tickWith sha256 (state r log masks) entry out
+      unfolding ticked blaming waiting
+      tick-out out′ y log′ masks′ q a t eo eq h =
+          let v = tick-passed .valid .setup in
+          let R : ℕ = r .round .0 in
+          let B : List ℕ = makeBlame sha256 (r .id) R in
+          let s : State = waiting (state r log masks) R 0 in
+          let w : List ℕ = drop 512 out in
+          let o : out′ ≡ B ++ w = eo ∙ put-blame-fits out (r .id) R (omega (arith, tick-room)) in
+          let f : take 512 out′ ≡ B = ap (take 512) o ∙ take-at B w 512 (length-blame (r .id) R) in
+          let l : length (drop 512 out′) ≤ length out′ - 512 = rw length-drop (omega arith) in
+          let d : take (length out′ - 512) (drop 512 out′) ≡ w =
+          take-all (length out′ - 512) (drop 512 out′) l ∙ ap (drop 512) o ∙ drop-at B w 512 (length-blame (r .id) R) in
+          let p : putMid 512 (length out′ - 512) out′ y ≡ B ++ y = rw (f, drop-of-length-le (drop 512 out′) l, append-nil) in
+          let e : outcome a log′ masks′ y ≡ taken (settle sha256 entry (hearing s R (r .id)) R) w =
+          h ∙ ap₂ (λ (x : Replica) (u : List ℕ). heardAt entry u (state x log masks) R (r .id)) eq d
+          ∙ heard-fits entry w (withTimer r 0) log (passed-ready tick-passed 0 w (rw length-drop (omega (arith, tick-room)))) (tick-passed .round-last) masks R (r .id) (omega arith) in
+          tick-effect (outcome (more a) log′ masks′ (putMid 512 (length out′ - 512) out′ y))
+          (rw (ne-eqb (r .timer .0) 0 (omega arith), eq-eqb (r .timer .0) 1 t)
+          (ap (outcome (more a) log′ masks′) p ∙ taken-more B out log′ masks′ y (settle sha256 entry (hearing s R (r .id)) R) a e))
+
+-- a blame that is heard emits at most one frame
+pub frames-few : (entry out log masks y : List ℕ) (s : State) (k i : ℕ) (a : Answer)
+    → outcome a log masks y ≡ heardAt entry out s k i → a .frames ≤ 1
+frames-few entry out log masks y s k i a e =
+    let n : a .frames ≡ heardAt entry out s k i .answer .frames = ap (λ (o : Outcome). o .answer .frames) e in
+    omega (arith, heard-few entry out s k i)

@@ -1,5 +1,1 @@
-mod Judge
-mod Own
-mod Enter
 mod Calls
-mod Adoption

@@ -1,75 +1,73 @@
 -- `replica::open` meets its contract. Assumes nothing.
-use mathlib.Core.Path.{sym, _∙_}
-use borrow.Author.Needs.{needs}
-use Rattle.replica.proofs.Calls.{open-refused, open-taken, open-ready}
-use Rattle.replica.proofs.Judge.{opened}
+use mathlib.Core.Path.{refl, _∙_}
+use Rattle.replica.proofs.Calls.{open-refused, open-taken}
 use Rattle.replica.proofs.open.Statement.{statement}
 use Rattle.replica.proofs.open.Tie as tie
 
 fresh-requires : tie.Need-fresh-requires
-fresh-requires c κs = search needs
+fresh-requires c κs = tt
 
 judge-open-requires : tie.Need-judge-open-requires
-judge-open-requires c κs = search needs
+judge-open-requires c κs = tt
 
 zero-replica-requires : tie.Need-zero-replica-requires
-zero-replica-requires c κs = search needs
+zero-replica-requires c κs = tt
 
 refused-requires : tie.Need-refused-requires
-refused-requires c κs = search needs
+refused-requires c κs = tt
 
 same-length : tie.Need-same-length
-same-length c = search needs
+same-length c = refl
 
 same-length-2 : tie.Need-same-length-2
-same-length-2 c = search needs
-
-same-length-3 : tie.Need-same-length-3
-same-length-3 c = search needs
+same-length-2 c = refl
 
 returns : tie.Need-returns
 returns c =
     let z = c .before in
     let i = z .before in
     let j = i .before in
-    let f = j .before .before .before .before in
-    let a = f .before .before .before .before .before .args in
-    open-refused (a .id) (a .f) (a .timeout .0) (a .last-round .0) (a .log .now) (a .masks .now) (a .entry .now) (a .out .now) _ (f .fresh .ensures) _ _ _ (j .judge-open .ensures) (i .if1 .taken) (z .zero-replica .ensures) (c .refused .ensures)
+    let f = j .before .before .before in
+    let s = f .before .before .before .before .before in
+    let a = s .args in
+    open-refused (a .id) (a .f) (a .timeout .0) (a .last-round .0) (a .log .now) (a .masks .now) (a .entry .now) (a .out .now) _ (f .fresh .ensures) _ (j .judge-open .ensures) _ _ (i .if1 .taken) (z .zero-replica .ensures) (c .refused .ensures)
 
 clear-requires : tie.Need-clear-requires
-clear-requires c κs = search needs
+clear-requires c κs = tt
 
 clear-masks-requires : tie.Need-clear-masks-requires
-clear-masks-requires c κs = search needs
+clear-masks-requires c κs = tt
 
 enter-round-requires : tie.Need-enter-round-requires
-enter-round-requires c κs =
-    let l = c .before .before .before .before .before .before .before .before in
-    let i = l .before .before in
-    let j = i .before in
-    let f = j .before .before .before .before in
-    let a = f .before .before .before .before .before .args in
-    open-ready (a .id) (a .f) (a .timeout .0) (a .last-round .0) (a .log .now) (a .masks .now) (a .entry .now) (a .out .now) _ (f .fresh .ensures) (opened _ (a .log .now) (a .masks .now) (a .entry .now) (a .out .now) (sym (j .judge-open .ensures) ∙ i .if1 .left)) _ (l .clear .ensures)
+enter-round-requires c κs = tt
+
+same-length-3 : tie.Need-same-length-3
+same-length-3 c =
+    let e = c .before .before .before .before in
+    let l = e .before .before .before .before .before .before .before .before .before in
+    e .enter-round .kept .1 .0 ∙ l .clear .kept .0
 
 same-length-4 : tie.Need-same-length-4
-same-length-4 c = search needs
+same-length-4 c =
+    let m = c .before .before .before .before .before .before .before .before .before in
+    m .clear-masks .kept .0
 
 same-length-5 : tie.Need-same-length-5
-same-length-5 c = search needs
-
-same-length-6 : tie.Need-same-length-6
-same-length-6 c = search needs
+same-length-5 c =
+    let e = c .before .before .before .before in
+    e .enter-round .kept .1 .1 .1 .0
 
 returns-2 : tie.Need-returns-2
 returns-2 c =
     let e = c .before .before .before .before in
-    let l = e .before .before .before .before .before in
-    let r = l .before .before .before .before in
-    let i = r .before .before in
+    let m = e .before .before .before .before .before in
+    let l = m .before .before .before .before in
+    let i = l .before .before in
     let j = i .before in
-    let f = j .before .before .before .before in
-    let a = f .before .before .before .before .before .args in
-    open-taken (a .id) (a .f) (a .timeout .0) (a .last-round .0) (a .log .now) (a .masks .now) (a .entry .now) (a .out .now) _ (f .fresh .ensures) (opened _ (a .log .now) (a .masks .now) (a .entry .now) (a .out .now) (sym (j .judge-open .ensures) ∙ i .if1 .left)) _ (r .clear .ensures) _ _ _ (j .judge-open .ensures) (i .if1 .left) (l .clear-masks .ensures) (e .enter-round .ensures _)
+    let f = j .before .before .before in
+    let s = f .before .before .before .before .before in
+    let a = s .args in
+    open-taken (a .id) (a .f) (a .timeout .0) (a .last-round .0) (a .log .now) (a .masks .now) (a .entry .now) (a .out .now) _ (f .fresh .ensures) _ (j .judge-open .ensures) (i .if1 .left) _ (l .clear .ensures) _ _ (m .clear-masks .ensures) (e .enter-round .ensures _)
 
 pub open-spec : {M : Type 1} → statement M
 open-spec =
@@ -81,12 +79,11 @@ open-spec =
     refused-requires
     same-length
     same-length-2
-    same-length-3
     returns
     clear-requires
     clear-masks-requires
     enter-round-requires
+    same-length-3
     same-length-4
     same-length-5
-    same-length-6
     returns-2)

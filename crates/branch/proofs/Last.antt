@@ -1,0 +1,80 @@
+-- The last frame of an accepted branch is a block. Assumes nothing.
+use mathlib.Core.Path.{_≡_, refl, sym, ap, _∙_}
+use mathlib.Core.Bool.{Bool, true, false, not, cond}
+use mathlib.Core.List.{List, [], _∷_}
+use Prim.Native.Nat.{ℕ, _+_, _-_, _/_}
+use native.Mathlib.Omega.{arith}
+use lib.Dec.{eqb, ltb}
+use lib.ListN.{length, take, drop}
+use borrow.Author.Tests.{eqb-true, eqb-false}
+use Rattle.sha256.specs.Fips.{sha256}
+use Rattle.apollo.specs.declared.Replica.{Replica}
+use Rattle.apollo.specs.Setup.{Setup, setupOf}
+use Rattle.apollo.specs.Frame.{round, frames, checked, blockForm}
+use Rattle.apollo.specs.Log.{attach}
+use Rattle.apollo.specs.Branch.{Verdict, lastOf, childOf, faulty, judged, judgedAll}
+use Rattle.forms.proofs.Facts.{BlockFields, block-fields}
+use Rattle.chain.specs.Judged.{judgedFrames}
+use Rattle.branch.specs.declared.Judged.{Judged}
+use Rattle.branch.specs.Frames.{framesOf, firstFrame, lastFrame}
+use Rattle.branch.specs.Judge.{refusal, judgedAt, judgedWhole, isWhole, judgedBranch}
+use Rattle.branch.proofs.Frames.{Whole, whole-parts, frames-split, last-is}
+
+-- a frame without fault has the form of a block
+second-failed : (a b : Bool) (n : ℕ) → n ≡ cond (not a) 7 (cond (not b) 8 0) → n ≡ 0 → b ≡ true
+second-failed true true n h e = refl
+second-failed true false n h e = absurd (omega arith)
+second-failed false b n h e = absurd (omega arith)
+
+block-formed : (s : Setup) (x : List ℕ) → faulty sha256 s x ≡ 0 → blockForm s x ≡ true
+unfolding faulty
+block-formed s x e = second-failed (checked sha256 x) (blockForm s x) _ refl e
+
+-- a step of judging that refuses nothing
+step : (z c : Bool) (n i : ℕ) (v : Verdict) → eqb n 0 ≡ z
+    → cond z (cond c v (record { number = 9; place = i })) (record { number = n; place = i }) .number ≡ 0
+    → (n ≡ 0) × (v .number ≡ 0)
+step true true n i v e h = (eqb-true n 0 e, h)
+step true false n i v e h = absurd (omega arith)
+step false c n i v e h = absurd (eqb-false n 0 e h)
+
+last-sound : (s : Setup) (k : ℕ) (x : List ℕ) (ys : List (List ℕ)) → faulty sha256 s x ≡ 0 → judged sha256 s k x ys .number ≡ 0
+    → faulty sha256 s (lastOf x ys) ≡ 0
+unfolding judged lastOf
+last-sound s k x [] f e = f
+last-sound s k x (y ∷ ys) f e =
+    let p = step (eqb (faulty sha256 s y) 0) (childOf x y) (faulty sha256 s y) k (judged sha256 s (k + 1) y ys) refl e in
+    last-sound s (k + 1) y ys (p .0) (p .1)
+
+all-sound : (s : Setup) (x : List ℕ) (ys : List (List ℕ)) → judgedFrames s (x ∷ ys) .number ≡ 0 → faulty sha256 s (lastOf x ys) ≡ 0
+unfolding judgedFrames judgedAll
+all-sound s x ys e =
+    let p = step (eqb (faulty sha256 s x) 0) true (faulty sha256 s x) 0 (judged sha256 s 1 x ys) refl e in
+    last-sound s 1 x ys (p .0) (p .1)
+
+-- a judgement that refuses nothing
+opens : (z y : Bool) (j : Judged) (n p : ℕ) → eqb n 0 ≡ y → cond z (cond y j (refusal n p)) (refusal 6 0) .number ≡ 0
+    → (z ≡ true) × (n ≡ 0)
+opens true true j n p e h = (refl, eqb-true n 0 e)
+opens true false j n p e h = absurd (eqb-false n 0 e h)
+opens false y j n p e h = absurd (omega arith)
+
+pub last-block : (r : Replica) (log masks bytes : List ℕ) → judgedBranch r log masks bytes .number ≡ 0
+    → BlockFields (setupOf r) (lastFrame bytes)
+unfolding judgedBranch judgedWhole
+last-block r log masks bytes e =
+    let v : Verdict = judgedFrames (setupOf r) (framesOf bytes) in
+    let p =
+    opens (isWhole (r .«last_round» .0) bytes) (eqb (v .number) 0)
+    (cond (ltb (round (lastFrame bytes)) (r .round .0)) (refusal 10 0)
+    (judgedAt r log masks bytes (attach log (firstFrame bytes) (round (firstFrame bytes) - 1))))
+    (v .number) (v .place) refl e
+    in
+    let w : Whole (r .«last_round» .0) bytes = whole-parts (r .«last_round» .0) bytes (p .0) in
+    let f = frames-split (length bytes / 512) bytes (w .some-frame) in
+    let g =
+    all-sound (setupOf r) (take 512 bytes) (frames (length bytes / 512 - 1) (drop 512 bytes))
+    (ap (λ (xs : List (List ℕ)). judgedFrames (setupOf r) xs .number) (sym f) ∙ p .1)
+    in
+    block-fields (setupOf r) (lastFrame bytes)
+    (block-formed (setupOf r) (lastFrame bytes) (ap (faulty sha256 (setupOf r)) (last-is (r .«last_round» .0) bytes w) ∙ g))

@@ -1,0 +1,34 @@
+-- `rounds::count_down` meets its contract. Assumes nothing.
+use borrow.Author.Needs.{needs}
+use Rattle.rounds.proofs.Steps.{none-left, one-less}
+use Rattle.rounds.proofs.count_down.Statement.{statement}
+use Rattle.rounds.proofs.count_down.Tie as tie
+
+taken-requires : tie.Need-taken-requires
+taken-requires c κs = tt
+
+returns : tie.Need-returns
+returns c =
+    let i = c .before in
+    let s = i .before in
+    none-left (s .args .r) _ (i .if1 .taken) (c .taken .ensures)
+
+sub-with-timer : tie.Need-sub-with-timer
+sub-with-timer c = search needs
+
+with-timer-requires : tie.Need-with-timer-requires
+with-timer-requires c κs = tt
+
+taken-requires-2 : tie.Need-taken-requires-2
+taken-requires-2 c κs = tt
+
+returns-2 : tie.Need-returns-2
+returns-2 c =
+    let w = c .before in
+    let s = w .before .before in
+    one-less (s .args .r) _ _ (w .with-timer .ensures) (c .taken2 .ensures)
+
+pub count-down-spec : {M : Type 1} → statement M
+count-down-spec =
+    tie.close
+    (tie.spec taken-requires returns sub-with-timer with-timer-requires taken-requires-2 returns-2)

@@ -1,0 +1,61 @@
+-- `rounds::enter_round` meets its contract. Assumes nothing.
+use Rattle.rounds.proofs.Steps.{entered-own, entered-other}
+use Rattle.rounds.proofs.enter_round.Statement.{statement}
+use Rattle.rounds.proofs.enter_round.Tie as tie
+
+leads-requires : tie.Need-leads-requires
+leads-requires c κs = tt
+
+propose-requires : tie.Need-propose-requires
+propose-requires c κs = tt
+
+taken-requires : tie.Need-taken-requires
+taken-requires c κs = tt
+
+same-length : tie.Need-same-length
+same-length c =
+    let p = c .before .before .before .before .before in
+    p .propose .kept .1 .0
+
+same-length-2 : tie.Need-same-length-2
+same-length-2 c =
+    let p = c .before .before .before .before .before in
+    p .propose .kept .1 .1 .1 .0
+
+returns : tie.Need-returns
+returns c =
+    let p = c .before .before .before .before .before in
+    let i = p .before .before .before in
+    let l = i .before in
+    let s = l .before .before .before .before in
+    let a = s .args in
+    λ masks. entered-own (a .r) (a .log .now) (a .entry .now) (a .out .now) masks _ _ _ _ _ (l .leads .ensures) (i .if1 .taken) (p .propose .ensures) (c .taken .ensures)
+
+with-timer-requires : tie.Need-with-timer-requires
+with-timer-requires c κs = tt
+
+taken-requires-2 : tie.Need-taken-requires-2
+taken-requires-2 c κs = tt
+
+returns-2 : tie.Need-returns-2
+returns-2 c =
+    let w = c .before in
+    let i = w .before in
+    let l = i .before in
+    let s = l .before .before .before .before in
+    let a = s .args in
+    λ masks. entered-other (a .r) (a .log .now) (a .entry .now) (a .out .now) masks _ _ _ (l .leads .ensures) (i .if1 .left) (w .with-timer .ensures) (c .taken2 .ensures)
+
+pub enter-round-spec : {M : Type 1} → statement M
+enter-round-spec =
+    tie.close
+    (tie.spec
+    leads-requires
+    propose-requires
+    taken-requires
+    same-length
+    same-length-2
+    returns
+    with-timer-requires
+    taken-requires-2
+    returns-2)

@@ -1,0 +1,81 @@
+-- `rounds::hear` meets its contract. Assumes nothing.
+use borrow.Author.Tests.{not-true, not-false}
+use Rattle.rounds.proofs.Steps.{heard-still, heard-next}
+use Rattle.rounds.proofs.hear.Statement.{statement}
+use Rattle.rounds.proofs.hear.Tie as tie
+
+add-blame-requires : tie.Need-add-blame-requires
+add-blame-requires c κs = tt
+
+certifies-requires : tie.Need-certifies-requires
+certifies-requires c κs = tt
+
+taken-requires : tie.Need-taken-requires
+taken-requires c κs = tt
+
+same-length : tie.Need-same-length
+same-length c =
+    let m = c .before .before .before .before .before .before in
+    m .add-blame .kept .0
+
+returns : tie.Need-returns
+returns c =
+    let i = c .before in
+    let e = i .before in
+    let m = e .before .before .before .before in
+    let s = m .before .before .before .before .before .before in
+    let a = s .args in
+    heard-still (a .r) (a .log .now) (a .masks .now) _ (a .entry .now) (a .out .now) (a .round) (a .signer) (m .add-blame .ensures) _ (e .certifies .ensures) _ (not-true _ (i .if1 .taken)) (c .taken .ensures)
+
+wrapping-add-u32-requires : tie.Need-wrapping-add-u32-requires
+wrapping-add-u32-requires c κs = tt
+
+with-round-requires : tie.Need-with-round-requires
+with-round-requires c κs = tt
+
+enter-round-requires : tie.Need-enter-round-requires
+enter-round-requires c κs = tt
+
+same-length-2 : tie.Need-same-length-2
+same-length-2 c =
+    let e = c .before .before .before .before in
+    e .enter-round .kept .1 .0
+
+same-length-3 : tie.Need-same-length-3
+same-length-3 c =
+    let m = c .before .before .before .before .before .before .before .before .before .before .before .before .before .before in
+    m .add-blame .kept .0
+
+same-length-4 : tie.Need-same-length-4
+same-length-4 c =
+    let e = c .before .before .before .before in
+    e .enter-round .kept .1 .1 .1 .0
+
+returns-2 : tie.Need-returns-2
+returns-2 c =
+    let n = c .before .before .before .before in
+    let w = n .before .before .before in
+    let k = w .before in
+    let i = k .before in
+    let e = i .before in
+    let m = e .before .before .before .before in
+    let s = m .before .before .before .before .before .before in
+    let a = s .args in
+    heard-next (a .r) (a .log .now) (a .masks .now) _ (a .entry .now) (a .out .now) (a .round) (a .signer) (m .add-blame .ensures) _ (e .certifies .ensures) _ _ _ (not-false _ (i .if1 .left)) (k .wrapping-add-u32 .ensures) (w .with-round .ensures) (n .enter-round .ensures _)
+
+pub hear-spec : {M : Type 1} → statement M
+hear-spec =
+    tie.close
+    (tie.spec
+    add-blame-requires
+    certifies-requires
+    taken-requires
+    same-length
+    returns
+    wrapping-add-u32-requires
+    with-round-requires
+    enter-round-requires
+    same-length-2
+    same-length-3
+    same-length-4
+    returns-2)

@@ -1,0 +1,90 @@
+// What a replica does without being refused: it enters a round, hears a blame, or counts a tick down. Every public function takes
+// any record, and slices of any length and content; rounds are 32-bit words, whose sums wrap, and a leader is told in a byte.
+use apollo::Answer;
+use apollo::Replica;
+ghost use mathlib.Core.Path.{_≡_};
+ghost use mathlib.Core.Bool.{_&&_};
+ghost use mathlib.Core.List.{List};
+ghost use Prim.Native.Nat.{ℕ, _-_, _%_, _^_};
+ghost use lib.Dec.{eqb};
+ghost use Rattle.apollo.specs.Setup.{setupOf};
+ghost use Rattle.apollo.specs.Masks as Masks;
+ghost use Rattle.apollo.specs.Replica.{withTimer};
+ghost use Rattle.apollo.specs.Outcome.{nextLeader};
+ghost use Rattle.rounds.specs.Rounds.{state, outcome, told, enteredAt, heardAt};
+
+// The leader of R, 255 when R = T + 1.
+fn next_leader(r: Replica) -> u8
+    ensures { λ l. ⌜ l ≡ nextLeader r % 2 ^ 8 ⌝ }
+{
+    let round = r.round.0;
+    if r.last_round.0 < round {
+        return 255;
+    }
+    (frame::leader(r.f, round) % 256) as u8
+}
+
+// Taken, with some frames emitted.
+fn taken(r: Replica, frames: u8) -> Answer
+    ensures { λ a. ⌜ a ≡ told r frames ⌝ }
+{
+    let leader = next_leader(r);
+    Answer {
+        number: 0,
+        frames,
+        leader,
+        place: 0,
+        replica: r,
+    }
+}
+
+// R is entered: proposed where this replica leads it, else waited for.
+pub fn enter_round(r: Replica, log: &mut [u8], entry: &[u8], out: &mut [u8]) -> Answer
+    ensures { λ a. ⌜ ((masks : List ℕ) → outcome a (now (log .exit)) masks (now (out .exit)) ≡ enteredAt (now (entry .entry)) (now (out .entry)) (state r (now (log .entry)) masks)) ⌝ }
+{
+    if ranges::leads(r) {
+        return taken(tip::propose(r, log, entry, out), 1);
+    }
+    taken(record::with_timer(r, r.timeout.0), 0)
+}
+
+// The blames for a round certify R.
+fn certifies(r: Replica, masks: &[u16], round: u32) -> bool
+    ensures { λ b. ⌜ b ≡ eqb round (r .round .0) && Masks.certified (setupOf r) (now (masks .entry)) round ⌝ }
+{
+    if round != r.round.0 {
+        return false;
+    }
+    masks::certified(r.f, masks, round)
+}
+
+// A replica's blame for a round is heard: if that is R and now certified, R grows by 1 and is entered.
+pub fn hear(
+    r: Replica,
+    log: &mut [u8],
+    masks: &mut [u16],
+    round: u32,
+    signer: u8,
+    entry: &[u8],
+    out: &mut [u8],
+) -> Answer
+    ensures { λ a. ⌜ outcome a (now (log .exit)) (now (masks .exit)) (now (out .exit)) ≡ heardAt (now (entry .entry)) (now (out .entry)) (state r (now (log .entry)) (now (masks .entry))) round signer ⌝ }
+{
+    masks::add_blame(masks, round, signer);
+    if !certifies(r, masks, round) {
+        return taken(r, 0);
+    }
+    let next = std::num::wrapping_add_u32(round, 1);
+    enter_round(record::with_round(r, next), log, entry, out)
+}
+
+// Ticks left lowered by 1; nothing where they are 0.
+pub fn count_down(r: Replica) -> Answer
+    ensures { λ a. ⌜ a ≡ told (withTimer r (r .timer .0 - 1)) 0 ⌝ }
+{
+    let timer = r.timer.0;
+    if timer == 0 {
+        return taken(r, 0);
+    }
+    taken(record::with_timer(r, timer - 1), 0)
+}

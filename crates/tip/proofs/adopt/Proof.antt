@@ -1,0 +1,45 @@
+-- `tip::adopt` meets its contract. Assumes nothing.
+use Rattle.tip.proofs.Steps.{adopt-tip}
+use Rattle.tip.proofs.adopt.Statement.{statement}
+use Rattle.tip.proofs.adopt.Tie as tie
+
+take-branch-requires : tie.Need-take-branch-requires
+take-branch-requires c κs = tt
+
+last-frame-requires : tie.Need-last-frame-requires
+last-frame-requires c κs = tt
+
+round-requires : tie.Need-round-requires
+round-requires c κs = tt
+
+height-requires : tie.Need-height-requires
+height-requires c κs = tt
+
+tipped-requires : tie.Need-tipped-requires
+tipped-requires c κs = tt
+
+same-length : tie.Need-same-length
+same-length c =
+    let k = c .before .before .before .before .before .before .before in
+    k .take-branch .kept .0
+
+returns : tie.Need-returns
+returns c =
+    let h = c .before in
+    let r = h .before in
+    let l = r .before .before in
+    let k = l .before .before .before in
+    let a = k .before .before .before .before .args in
+    (k .take-branch .ensures, adopt-tip (a .r) _ _ _ _ _ _ (l .last-frame .ensures) (r .round .ensures) (h .height .ensures) (c .tipped .ensures))
+
+pub adopt-spec : {M : Type 1} → statement M
+adopt-spec =
+    tie.close
+    (tie.spec
+    take-branch-requires
+    last-frame-requires
+    round-requires
+    height-requires
+    tipped-requires
+    same-length
+    returns)
