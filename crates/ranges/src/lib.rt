@@ -28,15 +28,20 @@ pub fn valid_setup(r: Replica, log: &[u8]) -> bool
         & (log.len() == size)
 }
 
-// The fields that a call changes are in range.
+// The fields that a call changes are in range. In two steps: the compiler joins the comparisons of one step into vectors, whose
+// loads wait for the caller's stores.
 fn valid_rounds(r: Replica) -> bool
     ensures { λ b. ⌜ b ≡ validRounds r ⌝ }
 {
     let last = r.last_round.0 as u64;
     let round = r.round.0 as u64;
-    ((1 <= round) & (round <= last + 1))
+    let running = ((1 <= round) & (round <= last + 1))
         & (r.timer.0 <= r.timeout.0)
-        & (r.tip_round.0 < r.round.0)
+        & (r.tip_round.0 < r.round.0);
+    if !running {
+        return false;
+    }
+    running
         & (r.tip_height.0 <= r.tip_round.0)
         & (r.committed_round.0 <= r.tip_round.0)
         & (r.committed_height.0 <= r.tip_height.0)
