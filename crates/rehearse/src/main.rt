@@ -8,306 +8,224 @@ use apollo::Answer;
 use apollo::Replica;
 use apollo::Round;
 use apollo::Ticks;
-use input::Line;
-use libc::STDIN_FILENO;
-ghost use mathlib.Core.Path.{_≡_};
+use input::Input;
 ghost use Prim.Native.Nat.{_<_};
-ghost use lib.ListN.{length};
-ghost use Rattle.rehearse.specs.Room.{Room};
 
-const LOG: usize = 3072; // bytes of a log: 6 slots
+type Logs = [[u8; 3072]; 3]; // 6 slots for each replica
 
-const MASKS: usize = 6;
+type Masks = [[u16; 6]; 3];
 
-const QUEUE: usize = 12288; // bytes of a queue: 24 frames
-
-// A replica's record, and its queue: how many frames joined it, and how many of these left it.
-struct Node {
-    replica: Replica,
-    joined: u32,
-    left: u32,
+// A step: `o` opens replica i, `t` is a tick, `b` and `v` hand it frame k, a block as a branch of one or a blame. There is
+// nothing to do for replica 3.
+struct Step {
+    letter: u8,
+    i: usize,
+    k: u32,
 }
 
-// What goes from byte to byte: the replicas, how many lines ended, what was read of the next, and whether to stop.
+// The records, and of the frames sent so far how many there are and how many replica i is past: its queue is what another
+// sent since. How many lines ended, and whether to stop.
 struct Table {
-    nodes: [Node; 3],
+    replicas: [Replica; 3],
+    sent: u32,
+    past: [u32; 3],
     lines: u64,
-    line: Line,
     is_over: bool,
 }
 
-// A frame joins the queue of replica j. A full queue would drop it, but none is ever full: each of the other two replicas
-// emits at most a blame and a block for each of the 6 rounds, which makes 24 frames.
-fn join(t: Table, j: usize, x: &[u8], queues: &mut [u8]) -> Table
-    requires { ⌜ (j < 3) × (length (now queues) ≡ 36864) ⌝ }
+// The frames that replica i emitted in a call are put behind those sent. There is room for all: a replica emits at most a
+// blame and a block for each of the 6 rounds, which makes 36 frames. What is put past the count is never read.
+fn send(t: Table, out: &[u8; 1024], sent: &mut [u8; 18432]) {
+    let k = std::num::wrapping_add_u32(t.sent, 1);
+    log::store(sent, k, slices::part(out, 0, 512));
+    log::store(
+        sent,
+        std::num::wrapping_add_u32(k, 1),
+        slices::part(out, 512, 512),
+    );
+}
+
+// The first frame after frame k that another replica than i sent, 0 if there is none.
+fn oldest(sent: &[u8], count: u32, k: u32, i: u8) -> u32 {
+    let mut j = k;
+    while j < count {
+        j += 1;
+        if frame::signer(log::slot(sent, j)) != i {
+            return j;
+        }
+    }
+    0
+}
+
+// The command that hands replica i a frame: none if its queue is empty.
+fn delivery(t: Table, i: usize, sent: &[u8]) -> Step
+    requires { ⌜ i < 3 ⌝ }
 {
+    let k = oldest(sent, t.sent, t.past[i], i as u8);
+    if k == 0 {
+        return Step { letter: 0, i: 3, k };
+    }
+    let letter = if frame::kind(log::slot(sent, k)) == 1 {
+        b'b'
+    } else {
+        b'v'
+    };
+    Step { letter, i, k }
+}
+
+// The command that a line holds.
+fn command(t: Table, input: Input, sent: &[u8]) -> Step {
+    let l = input.line;
+    let i = input::target(l);
+    let bytes = l.bytes;
+    let letter = bytes[0];
+    if 2 < i {
+        return Step { letter, i: 3, k: 0 };
+    }
+    if letter == b'd' {
+        return delivery(t, i, sent);
+    }
+    let k = t.past[i];
+    Step { letter, i, k }
+}
+
+// A line was read, which holds a command or none. The end of the input is no line.
+fn noted(t: Table, input: Input, c: Step) -> Table {
     let mut next = t;
-    let mut node = next.nodes[j];
-    if node.joined < 24 {
-        let k = node.joined + 1;
-        let a = QUEUE * j;
-        let e = a + QUEUE;
-        log::store(&mut queues[a..e], k, x);
-        node.joined = k;
-        next.nodes[j] = node;
+    let l = input.line;
+    if input.is_over & (l.length == 0) {
+        return next;
+    }
+    next.lines = std::num::wrapping_add_u64(t.lines, 1);
+    if 2 < input::target(l) {
+        print::no_command(next.lines);
+    }
+    let i = c.i;
+    if i < 3 {
+        next.past[i] = c.k;
     }
     next
 }
 
-// The emitted frames join the queue of replica j in their order.
-fn send(t: Table, j: usize, frames: u8, out: &[u8], queues: &mut [u8]) -> Table
-    requires { ⌜ (j < 3) × (length (now queues) ≡ 36864) ⌝ }
+fn replica_at(t: Table, i: usize) -> Replica
+    requires { ⌜ i < 3 ⌝ }
 {
-    if frames == 0 {
-        return t;
-    }
-    let next = join(t, j, slices::part(out, 0, 512), queues);
-    if frames == 1 {
-        return next;
-    }
-    join(next, j, slices::part(out, 512, 512), queues)
+    t.replicas[i]
 }
 
-// Replica i's record is kept, and what it emitted joins the queues of the other two.
-fn settle(t: Table, i: usize, answer: Answer, out: &[u8], queues: &mut [u8]) -> Table
-    requires { ⌜ (i < 3) × (length (now queues) ≡ 36864) ⌝ }
+// Replica i's record is kept and what it emitted is counted. Its answer is printed, unless it was opened.
+fn settled(t: Table, c: Step, i: usize, x: Answer) -> Table
+    requires { ⌜ i < 3 ⌝ }
 {
     let mut next = t;
-    let mut node = next.nodes[i];
-    let r = answer.replica;
-    node.replica = r;
-    next.nodes[i] = node;
-    let sent = send(next, (i + 1) % 3, answer.frames, out, queues);
-    send(sent, (i + 2) % 3, answer.frames, out, queues)
-}
-
-// The answer of a tick or a delivery is printed and settled.
-fn report(t: Table, i: usize, answer: Answer, out: &[u8], queues: &mut [u8]) -> Table
-    requires { ⌜ (i < 3) × (length (now queues) ≡ 36864) ⌝ }
-{
-    let mut next = t;
-    let r = answer.replica;
-    if !print::state(
-        i as u64,
-        answer.number,
-        r.round.0,
-        r.tip_round.0,
-        r.committed_round.0,
-    ) {
-        os::fail(b"standard output");
-        next.is_over = true;
+    let r = x.replica;
+    next.replicas[i] = r;
+    next.sent = std::num::wrapping_add_u32(t.sent, x.frames as u32);
+    if c.letter != b'o' {
+        next.is_over = !print::state(i, x.number, r);
     }
-    settle(next, i, answer, out, queues)
+    next
 }
 
-fn open(t: Table, i: usize, log: &mut [u8], masks: &mut [u16], queues: &mut [u8]) -> Table
-    requires { ⌜ (i < 3) × (length (now queues) ≡ 36864) ⌝ }
-{
-    let mut out = [0u8; 1024];
+// The answer of replica i to a command, where x is the frame that it is handed.
+fn answer(
+    letter: u8,
+    i: u8,
+    r: Replica,
+    x: &[u8],
+    log: &mut [u8; 3072],
+    masks: &mut [u16; 6],
+    entry: &[u8],
+    out: &mut [u8; 1024],
+) -> Answer {
     let timeout = Ticks(2);
     let last = Round(6);
-    let answer = replica::open(i as u8, 1, timeout, last, log, masks, b"", &mut out);
-    settle(t, i, answer, &out, queues)
-}
-
-fn tick(t: Table, i: usize, log: &mut [u8], masks: &mut [u16], queues: &mut [u8]) -> Table
-    requires { ⌜ (i < 3) × (length (now queues) ≡ 36864) ⌝ }
-{
-    let mut out = [0u8; 1024];
-    let node = t.nodes[i];
-    let r = node.replica;
-    let answer = replica::tick(r, log, masks, b"", &mut out);
-    report(t, i, answer, &out, queues)
-}
-
-// A block is handed in as a branch of one frame, a blame as a blame.
-fn hand(r: Replica, x: &[u8], log: &mut [u8], masks: &mut [u16], out: &mut [u8]) -> Answer {
-    if frame::kind(x) == 1 {
-        return replica::branch(r, log, masks, x, b"", out);
+    match letter {
+        b'o' => replica::open(i, 1, timeout, last, log, masks, entry, out),
+        b't' => replica::tick(r, log, masks, entry, out),
+        b'b' => replica::branch(r, log, masks, x, entry, out),
+        _ => replica::blame(r, log, masks, x, entry, out),
     }
-    replica::blame(r, log, masks, x, b"", out)
 }
 
-// Frame k, from 1, of replica i's queue.
-fn queued<'a>(queues: &'a [u8], i: usize, k: u32) -> &'a [u8]
-    requires { ⌜ (i < 3) × (length (now queues) ≡ 36864) ⌝ }
-{
-    let a = QUEUE * i;
-    let e = a + QUEUE;
-    log::slot(&queues[a..e], k)
-}
-
-// The oldest frame of replica i's queue is handed in and leaves it, whatever the answer.
-fn deliver(t: Table, i: usize, log: &mut [u8], masks: &mut [u16], queues: &mut [u8]) -> Table
-    requires { ⌜ (i < 3) × (length (now queues) ≡ 36864) ⌝ }
-{
-    let mut next = t;
-    let mut node = next.nodes[i];
-    if node.joined <= node.left {
-        return next;
-    }
-    let k = node.left + 1;
-    node.left = k;
-    next.nodes[i] = node;
-    let mut out = [0u8; 1024];
-    let r = node.replica;
-    let answer = hand(r, queued(queues, i, k), log, masks, &mut out);
-    report(next, i, answer, &out, queues)
-}
-
-// The command that a line holds is carried out with what is replica i's.
-fn command(
-    t: Table,
-    l: Line,
-    i: usize,
-    logs: &mut [u8],
-    masks: &mut [u16],
-    queues: &mut [u8],
-) -> Table
-    requires { ⌜ (i < 3) × Room (now logs) (now masks) (now queues) ⌝ }
-{
-    let a = LOG * i;
-    let e = a + LOG;
-    let b = MASKS * i;
-    let g = b + MASKS;
-    if l.letter == b't' {
-        return tick(t, i, &mut logs[a..e], &mut masks[b..g], queues);
-    }
-    deliver(t, i, &mut logs[a..e], &mut masks[b..g], queues)
-}
-
-// A line has ended.
-fn end_line(t: Table, logs: &mut [u8], masks: &mut [u16], queues: &mut [u8]) -> Table
-    requires { ⌜ Room (now logs) (now masks) (now queues) ⌝ }
-{
-    let mut next = t;
-    let l = t.line;
-    let empty = input::empty_line();
-    next.line = empty;
-    next.lines = std::num::wrapping_add_u64(t.lines, 1);
-    let i = input::target(l);
-    if i < 3 {
-        return command(next, l, i, logs, masks, queues);
-    }
-    print::no_command(next.lines);
-    next
-}
-
-fn take_byte(t: Table, b: u8, logs: &mut [u8], masks: &mut [u16], queues: &mut [u8]) -> Table
-    requires { ⌜ Room (now logs) (now masks) (now queues) ⌝ }
-{
-    if t.is_over {
+// A command is carried out. What the replica emits is sent.
+fn act(t: Table, c: Step, logs: &mut Logs, masks: &mut Masks, sent: &mut [u8; 18432]) -> Table {
+    let i = c.i;
+    if 2 < i {
         return t;
     }
-    if b == b'\n' {
-        return end_line(t, logs, masks, queues);
-    }
-    let mut next = t;
-    let l = input::longer(t.line, b);
-    next.line = l;
-    next
+    let r = replica_at(t, i);
+    let mut out = [0u8; 1024];
+    let x = answer(
+        c.letter,
+        i as u8,
+        r,
+        log::slot(sent, c.k),
+        &mut logs[i],
+        &mut masks[i],
+        b"",
+        &mut out,
+    );
+    send(t, &out, sent);
+    settled(t, c, i, x)
 }
 
-fn take_bytes(
-    t: Table,
-    bytes: &[u8],
-    logs: &mut [u8],
-    masks: &mut [u16],
-    queues: &mut [u8],
-) -> Table
-    requires { ⌜ Room (now logs) (now masks) (now queues) ⌝ }
-{
-    let mut next = t;
-    let mut i = 0;
-    while i < bytes.len() {
-        next = take_byte(next, bytes[i], logs, masks, queues);
-        i += 1;
-    }
-    next
-}
-
-// The input has ended: a last line without its end counts.
-fn finish(t: Table, logs: &mut [u8], masks: &mut [u16], queues: &mut [u8]) -> Table
-    requires { ⌜ Room (now logs) (now masks) (now queues) ⌝ }
-{
-    let mut next = t;
-    if t.line.length != 0 {
-        next = end_line(t, logs, masks, queues);
-    }
-    next.is_over = true;
-    next
-}
-
-// Reads once, and takes what came.
-fn take_some(t: Table, logs: &mut [u8], masks: &mut [u16], queues: &mut [u8]) -> Table
-    requires { ⌜ Room (now logs) (now masks) (now queues) ⌝ }
-{
-    let mut buf = io::buffer();
-    let got = libc::read(STDIN_FILENO, &mut buf);
-    if got < 0 {
-        os::fail(b"standard input");
-    }
-    if got <= 0 {
-        return finish(t, logs, masks, queues);
-    }
-    let n = io::count(got, &buf);
-    take_bytes(t, &buf[..n], logs, masks, queues)
-}
-
-// Nothing says that the input ends, so the turns are counted down, from a number that no run uses up.
-fn take_all(t: Table, logs: &mut [u8], masks: &mut [u16], queues: &mut [u8])
-    requires { ⌜ Room (now logs) (now masks) (now queues) ⌝ }
-{
-    let mut next = t;
-    let mut turns = u64::MAX;
-    while turns > 0 {
-        if next.is_over {
-            return;
-        }
-        next = take_some(next, logs, masks, queues);
-        turns -= 1;
-    }
-}
-
-// Before the replicas are opened: records of zeros, empty queues, nothing read.
+// Before the replicas are opened: records of zeros, nothing sent or read.
 fn closed() -> Table {
-    let replica = record::zero_replica();
-    let node = Node {
-        replica,
-        joined: 0,
-        left: 0,
-    };
-    let nodes = [node; 3];
-    let line = input::empty_line();
+    let zero = record::zero_replica();
+    let replicas = [zero; 3];
+    let past = [0u32; 3];
     Table {
-        nodes,
+        replicas,
+        sent: 0,
+        past,
         lines: 0,
-        line,
         is_over: false,
     }
 }
 
 // The replicas are opened in their order.
-fn open_all(logs: &mut [u8], masks: &mut [u16], queues: &mut [u8]) -> Table
-    requires { ⌜ Room (now logs) (now masks) (now queues) ⌝ }
-{
+fn open_all(logs: &mut Logs, masks: &mut Masks, sent: &mut [u8; 18432]) -> Table {
     let mut next = closed();
     let mut i = 0;
     while i < 3 {
-        let a = LOG * i;
-        let e = a + LOG;
-        let b = MASKS * i;
-        let g = b + MASKS;
-        next = open(next, i, &mut logs[a..e], &mut masks[b..g], queues);
+        let c = Step {
+            letter: b'o',
+            i,
+            k: 0,
+        };
+        next = act(next, c, logs, masks, sent);
         i += 1;
     }
     next
 }
 
+fn is_done(t: Table, input: Input) -> bool {
+    t.is_over | input.is_over
+}
+
+// Carries out the commands of the input, a line each. Nothing says that the input ends, so the turns are counted down, from
+// a number that no run uses up.
+fn obey(t: Table, logs: &mut Logs, masks: &mut Masks, sent: &mut [u8; 18432]) {
+    let mut next = t;
+    let mut input = input::unread();
+    let mut buf = io::buffer();
+    let mut turns = u64::MAX;
+    while turns > 0 {
+        if is_done(next, input) {
+            return;
+        }
+        input = input::read_line(input, &mut buf);
+        let c = command(next, input, sent);
+        next = act(noted(next, input, c), c, logs, masks, sent);
+        turns -= 1;
+    }
+}
+
 fn main() {
-    let mut logs = [0u8; 9216];
-    let mut masks = [0u16; 18];
-    let mut queues = [0u8; 36864];
-    let t = open_all(&mut logs, &mut masks, &mut queues);
-    take_all(t, &mut logs, &mut masks, &mut queues);
+    let mut logs = [[0u8; 3072]; 3];
+    let mut masks = [[0u16; 6]; 3];
+    let mut sent = [0u8; 18432];
+    let t = open_all(&mut logs, &mut masks, &mut sent);
+    obey(t, &mut logs, &mut masks, &mut sent);
 }
