@@ -24,7 +24,7 @@ const ENDED: u8 = 8; // the letter, or `-`: the word ends here
 const BAD: u8 = 9; // the line is none of the list
 
 pub struct Line {
-    pub letter: u8, // 0 if the line is none of the list
+    pub letter: u8, // 0 if the line is none of the list, 1 if there is none
     pub form: u64, // the kinds of the words to come
     pub stage: u8,
     pub place: usize, // of the number of the word that is being read
@@ -36,24 +36,28 @@ pub struct Line {
     pub at: u32, // where the next one starts
     pub numbers: [u32; 20],
     pub count: usize, // numbers of kind 9 and a
+    pub reader: Reader, // where it stands after the line
 }
 
-// A line, and where the reader stands after it.
-pub struct Input {
-    pub line: Line,
-    pub reader: Reader,
-}
-
-// How many bytes of a log, masks, and bytes of the out buffer a call is lent.
+// How many bytes of a log, masks, and bytes of the out buffer a call is lent; how many bytes and frames a line has.
 pub struct Lent {
     pub log: usize,
     pub masks: usize,
     pub out: usize,
+    pub bytes: usize,
+    pub frames: usize,
 }
 
-fn empty_line() -> Line {
+// Nothing was read.
+pub fn empty_line() -> Line {
     let mut numbers = [0u32; 20];
     numbers[8] = 512;
+    let reader = Reader {
+        at: 0,
+        end: 0,
+        byte: 0,
+        is_over: false,
+    };
     Line {
         letter: 0,
         form: 0,
@@ -67,18 +71,8 @@ fn empty_line() -> Line {
         at: 0,
         numbers,
         count: 0,
+        reader,
     }
-}
-
-pub fn unread() -> Input {
-    let line = empty_line();
-    let reader = Reader {
-        at: 0,
-        end: 0,
-        byte: 0,
-        is_over: false,
-    };
-    Input { line, reader }
 }
 
 pub fn wide(x: u32) -> usize
@@ -93,18 +87,9 @@ pub fn lent_by(l: Line) -> Lent {
         log: wide(n[2]),
         masks: wide(n[3]),
         out: wide(n[4]),
+        bytes: wide(n[7]),
+        frames: wide(std::num::wrapping_sub_u32(n[8], 512)),
     }
-}
-
-// The bytes of a line: an entry, a slot, or what `h` digests.
-pub fn entry<'a>(l: Line, bytes: &'a [u8; 8704]) -> &'a [u8] {
-    let n = l.numbers;
-    frame::part(bytes, 0, wide(n[7]))
-}
-
-pub fn frames<'a>(l: Line, bytes: &'a [u8; 8704]) -> &'a [u8] {
-    let n = l.numbers;
-    frame::part(bytes, 512, wide(std::num::wrapping_sub_u32(n[8], 512)))
 }
 
 // The words after a letter by their kinds, the first in the lowest four bits: 1 a replica, 2 bytes of the log, 3 masks,
@@ -312,18 +297,6 @@ fn longer(l: Line, b: u8) -> Line {
     }
 }
 
-// The line is one of the list: its words are all there, a round is not 0, and a slot has 512 bytes.
-fn is_right(l: Line) -> bool {
-    let n = l.numbers;
-    let is_whole = can_end(l.stage) & (l.form == 0);
-    let letter = l.letter;
-    match letter {
-        b's' => is_whole & (0 < n[5]) & (n[7] == 512),
-        b'm' => is_whole & (0 < n[5]),
-        _ => is_whole,
-    }
-}
-
 // The bytes of the piece that was read last are put.
 fn fill(bytes: &mut [u8; 8704], l: Line) {
     let mut i = l.from;
@@ -337,24 +310,31 @@ fn fill(bytes: &mut [u8; 8704], l: Line) {
     }
 }
 
-// The input ended before a line.
-pub fn is_end(input: Input) -> bool {
-    input.reader.is_over & (input.line.stage == LETTER)
-}
-
-// A line has ended. Its letter becomes 0 if it is none of the list.
-fn ended(l: Line, reader: Reader) -> Input {
-    let mut line = l;
-    if !is_right(l) {
-        line.letter = 0;
+// A line has ended. Its letter becomes 0 if it is none of the list: a word is missing, a round is 0, or a slot has not 512
+// bytes. It becomes 1 if the input ended before a line.
+fn ended(l: Line, reader: Reader) -> Line {
+    let mut next = l;
+    next.reader = reader;
+    let n = l.numbers;
+    let letter = l.letter;
+    let has_round = (letter == b's') | (letter == b'm');
+    if !can_end(l.stage)
+        | (l.form != 0)
+        | (has_round & (n[5] == 0))
+        | ((letter == b's') & (n[7] != 512))
+    {
+        next.letter = 0;
     }
-    Input { line, reader }
+    if reader.is_over & (l.stage == LETTER) {
+        next.letter = 1;
+    }
+    next
 }
 
 // Reads the next line and puts its words of bytes. Nothing says that it ends, so the turns are counted down from a number
 // that no run uses up.
-pub fn read_line(input: Input, buf: &mut [u8; 4096], bytes: &mut [u8; 8704]) -> Input {
-    let mut reader = input.reader;
+pub fn read_line(l: Line, buf: &mut [u8; 4096], bytes: &mut [u8; 8704]) -> Line {
+    let mut reader = l.reader;
     let mut line = empty_line();
     let mut turns = u64::MAX;
     while turns > 0 {
@@ -366,5 +346,5 @@ pub fn read_line(input: Input, buf: &mut [u8; 4096], bytes: &mut [u8; 8704]) -> 
         fill(bytes, line);
         turns -= 1;
     }
-    input
+    l
 }

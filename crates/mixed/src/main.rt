@@ -10,7 +10,6 @@ use apollo::Height;
 use apollo::Replica;
 use apollo::Round;
 use apollo::Ticks;
-use input::Input;
 use input::Line;
 ghost use mathlib.Core.Path.{_≡_};
 ghost use Prim.Native.Nat.{_<_};
@@ -101,14 +100,13 @@ fn recorded(t: Table, l: Line) -> Table {
     }
 }
 
-// A line has ended, unless the input did. One that is none of the list is told; `n`, `w` and `g` set records.
-fn noted(t: Table, input: Input) -> Table {
+// A line was read. One that is none of the list is told; `n`, `w` and `g` set records.
+fn noted(t: Table, l: Line) -> Table {
     let mut next = t;
-    if input::is_end(input) {
+    if l.letter == 1 {
         return next;
     }
     next.lines = std::num::wrapping_add_u64(t.lines, 1);
-    let l = input.line;
     if l.letter == 0 {
         print::no_command(next.lines);
     }
@@ -251,8 +249,8 @@ fn change(
     let x = lend(
         l,
         replica_for(t, l),
-        input::entry(l, bytes),
-        input::frames(l, bytes),
+        frame::part(bytes, 0, s.bytes),
+        frame::part(bytes, 512, s.frames),
         log,
         masks,
         &mut out,
@@ -264,6 +262,7 @@ fn change(
 fn set(l: Line, i: usize, logs: &mut Logs, masks: &mut Masks, bytes: &[u8; 8704])
     requires { ⌜ i < 5 ⌝ }
 {
+    let s = input::lent_by(l);
     let n = l.numbers;
     let j = place(n[5]);
     let letter = l.letter;
@@ -276,7 +275,7 @@ fn set(l: Line, i: usize, logs: &mut Logs, masks: &mut Masks, bytes: &[u8; 8704]
             logs[i] = [0u8; 4608];
             masks[i] = [0u16; 9];
         }
-        b's' => log::store(&mut logs[i], n[5], input::entry(l, bytes)),
+        b's' => log::store(&mut logs[i], n[5], frame::part(bytes, 0, s.bytes)),
         _ => masks[i][j] = (n[6] % 65536) as u16,
     }
 }
@@ -284,41 +283,38 @@ fn set(l: Line, i: usize, logs: &mut Logs, masks: &mut Masks, bytes: &[u8; 8704]
 // A line is carried out, but for the records that it sets.
 fn step(t: Table, l: Line, logs: &mut Logs, masks: &mut Masks, bytes: &[u8; 8704]) -> Table {
     let i = target(l);
+    let s = input::lent_by(l);
     let letter = l.letter;
     match letter {
         b'n' | b'w' | b's' | b'm' => {
             set(l, i, logs, masks, bytes);
             t
         }
-        b'h' => told(t, print::digest(input::entry(l, bytes))),
+        b'h' => told(t, print::digest(frame::part(bytes, 0, s.bytes))),
         b'q' | b'f' => look(t, l, &logs[i]),
         b'o' | b'b' | b'v' | b't' => change(t, l, i, &mut logs[i], &mut masks[i], bytes),
         _ => t,
     }
 }
 
-fn line_of(input: Input) -> Line {
-    input.line
-}
-
-fn is_done(t: Table, input: Input) -> bool {
-    t.is_over | input.reader.is_over
+fn is_done(t: Table, l: Line) -> bool {
+    t.is_over | l.reader.is_over
 }
 
 // Carries out the lines of the input. Nothing says that it ends, so the turns are counted down, from a number that no run
 // uses up.
 fn obey(logs: &mut Logs, masks: &mut Masks) {
     let mut next = new_table(0);
-    let mut input = input::unread();
+    let mut line = input::empty_line();
     let mut buf = io::buffer();
     let mut bytes = [0u8; 8704];
     let mut turns = u64::MAX;
     while turns > 0 {
-        if is_done(next, input) {
+        if is_done(next, line) {
             return;
         }
-        input = input::read_line(input, &mut buf, &mut bytes);
-        next = step(noted(next, input), line_of(input), logs, masks, &bytes);
+        line = input::read_line(line, &mut buf, &mut bytes);
+        next = step(noted(next, line), line, logs, masks, &bytes);
         turns -= 1;
     }
 }

@@ -26,26 +26,23 @@ fn hex(d: [u8; 32]) -> [u8; 66] {
     digits
 }
 
-fn write(line: &[u8]) -> bool {
-    let is_written = io::write_all(STDOUT_FILENO, line);
+// Prints numbers and a digest.
+fn row(ns: &[u64], d: [u8; 32]) -> bool {
+    let mut line = [0u8; 256];
+    let digits = hex(d);
+    let a = 1 - cut(ns.len(), 1); // a space only after numbers
+    let n = text::put_row(&mut line, 0, ns, &digits[a..66]);
+    let is_written = io::write_all(STDOUT_FILENO, &line[0..n]);
     if !is_written {
         os::fail(b"standard output");
     }
     is_written
 }
 
-// Prints numbers and a digest.
-fn row(ns: &[u64], d: [u8; 32]) -> bool {
-    let mut line = [0u8; 256];
-    let digits = hex(d);
-    let n = text::put_row(&mut line, 0, ns, &digits);
-    write(&line[0..n])
-}
-
 // Prints the digest of some bytes.
 pub fn digest(bytes: &[u8]) -> bool {
-    let digits = hex(sha256::digest(bytes));
-    write(&digits[1..66])
+    let none = [0u64; 0];
+    row(&none, sha256::digest(bytes))
 }
 
 pub fn cut(n: usize, most: usize) -> usize

@@ -4,16 +4,16 @@ use Rattle.mixed.proofs.obey.Statement.{statement}
 use Rattle.mixed.proofs.obey.Tie as tie
 
 abbrev Inv-loop : tie.InvT-loop
-Inv-loop logs₀ masks₀ next₀ input₀ buf₀ bytes₀ turns₀ logs masks next input buf bytes turns = Unit {0}
+Inv-loop logs₀ masks₀ next₀ line₀ buf₀ bytes₀ turns₀ logs masks next line buf bytes turns = Unit {0}
 
 abbrev μ-loop : tie.MeasureT-loop
-μ-loop logs₀ masks₀ next₀ input₀ buf₀ bytes₀ turns₀ logs masks next input buf bytes turns = turns
+μ-loop logs₀ masks₀ next₀ line₀ buf₀ bytes₀ turns₀ logs masks next line buf bytes turns = turns
 
 new-table-requires : tie.Need-new-table-requires Inv-loop μ-loop
 new-table-requires c κs = search needs
 
-unread-requires : tie.Need-unread-requires Inv-loop μ-loop
-unread-requires c κs = search needs
+empty-line-requires : tie.Need-empty-line-requires Inv-loop μ-loop
+empty-line-requires c κs = search needs
 
 buffer-requires : tie.Need-buffer-requires Inv-loop μ-loop
 buffer-requires c κs = search needs
@@ -32,9 +32,6 @@ read-line-requires c κs = search needs
 
 noted-requires : tie.Need-noted-requires Inv-loop μ-loop
 noted-requires c κs = search needs
-
-line-of-requires : tie.Need-line-of-requires Inv-loop μ-loop
-line-of-requires c κs = search needs
 
 step-requires : tie.Need-step-requires Inv-loop μ-loop
 step-requires c κs = search needs
@@ -58,14 +55,13 @@ obey-spec =
     Inv-loop
     μ-loop
     new-table-requires
-    unread-requires
+    empty-line-requires
     buffer-requires
     loop-holds
     is-done-requires
     returns
     read-line-requires
     noted-requires
-    line-of-requires
     step-requires
     sub-turns
     loop-less
