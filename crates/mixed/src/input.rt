@@ -1,157 +1,187 @@
-// A line of the input, byte by byte: a letter, then its words with a space before each, first the numbers, then the words of
-// bytes. The first word of bytes is put at 0 of a buffer and has at most 512, the second at 512 and has at most 8,192.
+// A line of the input, byte by byte: a letter, then its words with a space before each.
+use text::Reader;
 ghost use mathlib.Core.Path.{_≡_};
-ghost use Prim.Native.Nat.{_+_, _≤_};
-ghost use lib.ListN.{length};
 
-// How far a word has come.
-const START: u8 = 0; // nothing of it was read
+// What was read last, and what may come.
+const LETTER: u8 = 0; // nothing was read
 
-const WHOLE: u8 = 1; // it can end here
+const DIGIT: u8 = 1; // the first digit of a number comes
 
-const NONE: u8 = 2; // after `-`: it ends here
+const NUMBER: u8 = 2; // a digit of a number
 
-const TIMES: u8 = 3; // after `x`, within N
+const START: u8 = 3; // a word of bytes comes
 
-const HIGH: u8 = 4; // the first digit of a byte comes
+const PIECE: u8 = 4; // a piece of a word of bytes
 
-const LOW: u8 = 5; // the second digit of a byte comes
+const TIMES: u8 = 5; // `x`, or a digit of its N
+
+const HIGH: u8 = 6; // the first digit of a byte comes
+
+const LOW: u8 = 7; // the second digit of a byte comes
+
+const ENDED: u8 = 8; // the letter, or `-`: the word ends here
+
+const BAD: u8 = 9; // the line is none of the list
 
 pub struct Line {
-    pub letter: u8, // 0 if nothing was read
-    pub words: u8, // words begun after the letter
+    pub letter: u8, // 0 if the line is none of the list, 1 if there is none
+    pub form: u64, // the kinds of the words to come
     pub stage: u8,
-    pub value: u32, // of the number that is being read
-    pub high: u8, // the first digit of a byte
-    pub numbers: [u32; 12], // at k, of word k
-    pub first: usize, // bytes of the first word of bytes
-    pub second: usize, // bytes of the second
-    pub is_bad: bool,
+    pub place: usize, // of the number of the word that is being read
+    pub limit: u32, // of that number
+    pub value: u32, // of the digits that were read of it
+    pub byte: u8, // of the piece that was read last, or its first digit
+    pub from: usize, // where that piece starts
+    pub to: usize, // where it ends, 0 once it is put
+    pub at: u32, // where the next one starts
+    pub numbers: [u32; 20],
+    pub count: usize, // numbers of kind 9 and a
+    pub reader: Reader, // where it stands after the line
 }
 
+// How many bytes of a log, masks, and bytes of the out buffer a call is lent; how many bytes and frames a line has.
+pub struct Lent {
+    pub log: usize,
+    pub masks: usize,
+    pub out: usize,
+    pub bytes: usize,
+    pub frames: usize,
+}
+
+// Nothing was read.
 pub fn empty_line() -> Line {
-    let numbers = [0u32; 12];
+    let mut numbers = [0u32; 20];
+    numbers[8] = 512;
+    let reader = Reader {
+        at: 0,
+        end: 0,
+        byte: 0,
+        is_over: false,
+    };
     Line {
         letter: 0,
-        words: 0,
-        stage: START,
+        form: 0,
+        stage: LETTER,
+        place: 0,
+        limit: 0,
         value: 0,
-        high: 0,
+        byte: 0,
+        from: 0,
+        to: 0,
+        at: 0,
         numbers,
-        first: 0,
-        second: 0,
-        is_bad: false,
+        count: 0,
+        reader,
     }
 }
 
-pub fn wide(x: u32) -> usize {
+pub fn wide(x: u32) -> usize
+    ensures { λ r. ⌜ r ≡ x ⌝ }
+{
     x as usize
 }
 
-// How many numbers follow a letter, 255 if no line starts with it.
-fn numbers_after(letter: u8) -> u8 {
-    match letter {
-        b'n' | b'h' => 0,
-        b's' => 2,
-        b'm' | b'q' => 3,
-        b'b' | b'v' | b't' | b'f' => 4,
-        b'o' => 8,
-        b'g' => 10,
-        b'w' => 11,
-        _ => 255,
+pub fn lent_by(l: Line) -> Lent {
+    let n = l.numbers;
+    Lent {
+        log: wide(n[2]),
+        masks: wide(n[3]),
+        out: wide(n[4]),
+        bytes: wide(n[7]),
+        frames: wide(std::num::wrapping_sub_u32(n[8], 512)),
     }
 }
 
-// How many words of bytes follow these.
-fn bytes_after(letter: u8) -> u8 {
+// The words after a letter by their kinds, the first in the lowest four bits: 1 a replica, 2 bytes of the log, 3 masks,
+// 4 bytes of the out buffer, 5 a round, 6 a mask, 7 bytes, 8 frames, 9 an own number or f, a any number. f if there is no
+// such letter.
+fn form(letter: u8) -> u64 {
     match letter {
-        b's' | b'o' | b't' | b'h' => 1,
-        b'b' | b'v' => 2,
-        _ => 0,
+        b'n' => 0,
+        b'w' => 0xaaaaaaaa991,
+        b's' => 0x751,
+        b'm' => 0x651,
+        b'g' => 0xaaaaaaaa99,
+        b'o' => 0x7432aa991,
+        b'b' | b'v' => 0x874321,
+        b't' => 0x74321,
+        b'q' => 0xa21,
+        b'f' => 0xa421,
+        b'h' => 7,
+        _ => 15,
     }
 }
 
-fn words_after(letter: u8) -> u8 {
-    std::num::wrapping_add_u8(numbers_after(letter), bytes_after(letter))
+// The limit of a number. Numbers 7 and 8 are the places after the words of bytes in a buffer, which start at 0 and 512.
+fn limit(kind: u64) -> u32 {
+    match kind {
+        1 => 4,
+        2 => 4608,
+        3 | 5 => 9,
+        4 => 6144,
+        6 => 65535,
+        7 => 512,
+        8 => 8704,
+        9 => 255,
+        _ => 4294967295,
+    }
 }
 
-fn can_end(l: Line) -> bool {
-    (l.stage == WHOLE) | (l.stage == NONE)
-}
-
-// All words of its letter were read.
-pub fn is_whole(l: Line) -> bool {
-    !l.is_bad & can_end(l) & (l.words == words_after(l.letter))
-}
-
-pub fn is_empty(l: Line) -> bool {
-    !l.is_bad & (l.letter == 0)
+// A word may end here.
+fn can_end(stage: u8) -> bool {
+    match stage {
+        NUMBER | PIECE | ENDED => true,
+        _ => false,
+    }
 }
 
 fn bad(l: Line) -> Line {
     let mut next = l;
-    next.is_bad = true;
-    next
-}
-
-fn at_stage(l: Line, stage: u8) -> Line {
-    let mut next = l;
-    next.stage = stage;
+    next.stage = BAD;
     next
 }
 
 // b is the letter.
 fn begun(l: Line, b: u8) -> Line {
-    if numbers_after(b) == 255 {
-        return bad(l);
-    }
     let mut next = l;
+    let form = form(b);
     next.letter = b;
-    next.stage = WHOLE;
+    next.form = form;
+    next.stage = if form == 15 { BAD } else { ENDED };
     next
 }
 
-// A space was read.
+// A space was read. Number k of kind 9 or a has the place 9 + k.
 fn next_word(l: Line) -> Line {
-    if !can_end(l) {
-        return bad(l);
-    }
-    if words_after(l.letter) <= l.words {
+    let kind = l.form % 16;
+    if !can_end(l.stage) {
         return bad(l);
     }
     let mut next = l;
-    next.words = std::num::wrapping_add_u8(l.words, 1);
-    next.stage = START;
+    next.form = l.form / 16;
+    next.limit = limit(kind);
+    next.place = kind as usize;
     next.value = 0;
-    next
-}
-
-// The number with a digit more, 2^32 if b is no digit.
-fn longer_number(value: u32, b: u8) -> u64 {
-    if b < b'0' {
-        return 4294967296;
+    next.stage = DIGIT;
+    match kind {
+        0 => bad(l),
+        7 => {
+            next.stage = START;
+            next.at = 0;
+            next
+        }
+        8 => {
+            next.stage = START;
+            next.at = 512;
+            next
+        }
+        9 | 10 => {
+            next.place = std::num::wrapping_add_usize(9, l.count);
+            next.count = std::num::wrapping_add_usize(l.count, 1);
+            next
+        }
+        _ => next,
     }
-    if b'9' < b {
-        return 4294967296;
-    }
-    (value as u64) * 10 + ((b - b'0') as u64)
-}
-
-// b is within a number.
-fn in_number(l: Line, b: u8) -> Line {
-    let v = longer_number(l.value, b);
-    if 4294967295 < v {
-        return bad(l);
-    }
-    let k = l.words as usize;
-    if 12 <= k {
-        return bad(l);
-    }
-    let mut next = l;
-    next.value = v as u32;
-    next.numbers[k] = v as u32;
-    next.stage = WHOLE;
-    next
 }
 
 // 16 if b is no hex digit.
@@ -163,141 +193,158 @@ fn hex_digit(b: u8) -> u8 {
     }
 }
 
-// All bytes become x.
-fn fill(s: &mut [u8], x: u8) {
-    let mut i = 0;
-    while i < s.len() {
-        s[i] = x;
-        i += 1;
+// The number with a digit more, 2^32 if d is no decimal digit.
+fn longer_number(value: u32, d: u8) -> u64 {
+    if 9 < d {
+        return 4294967296;
     }
+    (value as u64) * 10 + (d as u64)
 }
 
-// The word of bytes from start on that has some bytes gets n more; answers how many it then has, more than size if there is
-// no room for them.
-fn put(bytes: &mut [u8], start: usize, size: usize, some: usize, n: usize, x: u8) -> usize
-    requires { ⌜ start + size ≤ length (now bytes) ⌝ }
-{
-    if size < some {
-        return some;
+// The line with the number of its word.
+fn with_number(l: Line, v: u32, stage: u8) -> Line {
+    let mut next = l;
+    let k = l.place;
+    if k < 20 {
+        next.numbers[k] = v;
     }
-    if size - some < n {
-        return std::num::wrapping_add_usize(size, 1);
-    }
-    let a = start + some;
-    let e = a + n;
-    fill(&mut bytes[a..e], x);
-    some + n
-}
-
-// The byte x, as many times as the value says.
-fn with_bytes(l: Line, x: u8, bytes: &mut [u8]) -> Line
-    requires { ⌜ length (now bytes) ≡ 8704 ⌝ }
-{
-    let mut next = at_stage(l, WHOLE);
-    let n = wide(l.value);
-    if std::num::wrapping_sub_u8(l.words, 1) == numbers_after(l.letter) {
-        let e = put(bytes, 0, 512, l.first, n, x);
-        next.first = e;
-        next.is_bad = 512 < e;
-        return next;
-    }
-    let e = put(bytes, 512, 8192, l.second, n, x);
-    next.second = e;
-    next.is_bad = 8192 < e;
+    next.stage = stage;
     next
 }
 
-// b is the first digit of a byte.
-fn high_digit(l: Line, b: u8) -> Line {
-    let d = hex_digit(b);
-    if 15 < d {
-        return bad(l);
-    }
-    let mut next = at_stage(l, LOW);
-    next.high = d;
-    next
-}
-
-// b is the second digit of a byte.
-fn low_digit(l: Line, b: u8, bytes: &mut [u8]) -> Line
-    requires { ⌜ length (now bytes) ≡ 8704 ⌝ }
-{
-    let d = hex_digit(b);
-    if 15 < d {
-        return bad(l);
-    }
-    with_bytes(l, l.high % 16 * 16 + d, bytes)
-}
-
-// b is after `x`.
-fn in_times(l: Line, b: u8) -> Line {
-    if b == b'.' {
-        if l.value == 0 {
-            return bad(l);
-        }
-        return at_stage(l, HIGH);
-    }
-    let v = longer_number(l.value, b);
-    if 8192 < v {
+// A digit of a number was read.
+fn in_number(l: Line, d: u8) -> Line {
+    let v = longer_number(l.value, d);
+    if (l.limit as u64) < v {
         return bad(l);
     }
     let mut next = l;
-    next.value = v as u32;
+    next.value = (v % 4294967296) as u32;
+    with_number(next, next.value, NUMBER)
+}
+
+// The first digit of a byte was read.
+fn high_digit(l: Line, d: u8) -> Line {
+    let mut next = l;
+    next.byte = d;
+    next.stage = if 15 < d { BAD } else { LOW };
+    next
+}
+
+// The second digit of a byte was read. There are as many of this byte as the value says.
+fn low_digit(l: Line, d: u8) -> Line {
+    let e = std::num::wrapping_add_u32(l.at, l.value);
+    if (15 < d) | (l.limit < e) {
+        return bad(l);
+    }
+    let mut next = l;
+    next.byte = l.byte % 16 * 16 + d % 16;
+    next.from = l.at as usize;
+    next.to = e as usize;
+    next.at = e;
+    with_number(next, e, PIECE)
+}
+
+// b is after `x`.
+fn in_times(l: Line, b: u8, d: u8) -> Line {
+    let v = longer_number(l.value, d);
+    let mut next = bad(l);
+    if v <= 8192 {
+        next.value = v as u32;
+        next.stage = TIMES;
+    }
+    if (b == b'.') & (0 < l.value) {
+        next.stage = HIGH;
+    }
     next
 }
 
 // b starts a piece of a word of bytes.
-fn piece(l: Line, b: u8) -> Line {
+fn piece(l: Line, b: u8, d: u8) -> Line {
     let mut next = l;
-    if b == b'x' {
-        next.value = 0;
-        return at_stage(next, TIMES);
-    }
     next.value = 1;
-    high_digit(next, b)
-}
-
-// b is within a word of bytes.
-fn in_bytes(l: Line, b: u8, bytes: &mut [u8]) -> Line
-    requires { ⌜ length (now bytes) ≡ 8704 ⌝ }
-{
-    let stage = l.stage;
-    if stage == LOW {
-        return low_digit(l, b, bytes);
+    match b {
+        b'x' => {
+            next.value = 0;
+            next.stage = TIMES;
+            next
+        }
+        b'-' => {
+            next.stage = if l.stage == START { ENDED } else { BAD };
+            next
+        }
+        _ => high_digit(next, d),
     }
-    if stage == HIGH {
-        return high_digit(l, b);
-    }
-    if stage == TIMES {
-        return in_times(l, b);
-    }
-    if stage == NONE {
-        return bad(l);
-    }
-    if (stage == START) & (b == b'-') {
-        return at_stage(l, NONE);
-    }
-    piece(l, b)
 }
 
 // The line with a byte more.
-pub fn longer(l: Line, b: u8, bytes: &mut [u8]) -> Line
-    requires { ⌜ length (now bytes) ≡ 8704 ⌝ }
-{
-    if l.is_bad {
-        return l;
-    }
-    if l.letter == 0 {
-        return begun(l, b);
-    }
+fn longer(l: Line, b: u8) -> Line {
+    let mut next = l;
+    next.to = 0;
     if b == b' ' {
-        return next_word(l);
+        return next_word(next);
     }
-    if l.words == 0 {
-        return bad(l);
+    let d = hex_digit(b);
+    let stage = l.stage;
+    match stage {
+        LETTER => begun(next, b),
+        DIGIT | NUMBER => in_number(next, d),
+        START | PIECE => piece(next, b, d),
+        TIMES => in_times(next, b, d),
+        HIGH => high_digit(next, d),
+        LOW => low_digit(next, d),
+        _ => bad(next),
     }
-    if l.words <= numbers_after(l.letter) {
-        return in_number(l, b);
+}
+
+// The bytes of the piece that was read last are put.
+fn fill(bytes: &mut [u8; 8704], l: Line) {
+    let mut i = l.from;
+    let e = l.to;
+    while i < e {
+        if 8703 < i {
+            return;
+        }
+        bytes[i] = l.byte;
+        i += 1;
     }
-    in_bytes(l, b, bytes)
+}
+
+// A line has ended. Its letter becomes 0 if it is none of the list: a word is missing, a round is 0, or a slot has not 512
+// bytes. It becomes 1 if the input ended before a line.
+fn ended(l: Line, reader: Reader) -> Line {
+    let mut next = l;
+    next.reader = reader;
+    let n = l.numbers;
+    let letter = l.letter;
+    let has_round = (letter == b's') | (letter == b'm');
+    if !can_end(l.stage)
+        | (l.form != 0)
+        | (has_round & (n[5] == 0))
+        | ((letter == b's') & (n[7] != 512))
+    {
+        next.letter = 0;
+    }
+    if reader.is_over & (l.stage == LETTER) {
+        next.letter = 1;
+    }
+    next
+}
+
+// Reads the next line and puts its words of bytes. Nothing says that it ends, so the turns are counted down from a number
+// that no run uses up.
+pub fn read_line(l: Line, buf: &mut [u8; 4096], bytes: &mut [u8; 8704]) -> Line {
+    let mut reader = l.reader;
+    let mut line = empty_line();
+    let mut turns = u64::MAX;
+    while turns > 0 {
+        reader = text::next(reader, buf);
+        if reader.is_over | (reader.byte == b'\n') {
+            return ended(line, reader);
+        }
+        line = longer(line, reader.byte);
+        fill(bytes, line);
+        turns -= 1;
+    }
+    l
 }

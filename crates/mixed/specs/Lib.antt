@@ -1,2 +1,0 @@
--- What the functions of mixed ask of the buffers that they are lent.
-pub mod Room
