@@ -1,6 +1,5 @@
 // A line of the input, byte by byte: a letter, then its words with a space before each.
 use text::Reader;
-ghost use mathlib.Core.Path.{_≡_};
 
 // What was read last, and what may come.
 const LETTER: u8 = 0; // nothing was read
@@ -23,72 +22,74 @@ const ENDED: u8 = 8; // the letter, or `-`: the word ends here
 
 const BAD: u8 = 9; // the line is none of the list
 
-pub struct Line {
-    pub letter: u8, // 0 if the line is none of the list, 1 if there is none
-    pub form: u64, // the kinds of the words to come
-    pub stage: u8,
-    pub place: usize, // of the number of the word that is being read
-    pub limit: u32, // of that number
-    pub value: u32, // of the digits that were read of it
-    pub byte: u8, // of the piece that was read last, or its first digit
-    pub from: usize, // where that piece starts
-    pub to: usize, // where it ends, 0 once it is put
-    pub at: u32, // where the next one starts
-    pub numbers: [u32; 20],
-    pub count: usize, // numbers of kind 9 and a
-    pub reader: Reader, // where it stands after the line
+struct Line {
+    letter: u8,
+    form: u64, // the kinds of the words to come
+    stage: u8,
+    kind: u64, // of the word that is being read
+    limit: u32, // of its number
+    value: u32, // of the digits that were read of it
+    byte: u8, // of the piece that was read last, or its first digit
+    from: usize, // where that piece starts
+    to: usize, // where it ends, 0 once it is put
+    at: u32, // where the next one starts
+    sizes: [usize; 9], // by kind
+    numbers: [u32; 11], // those of kind 9 and a, from 1
+    count: usize, // of these
 }
 
-// How many bytes of a log, masks, and bytes of the out buffer a call is lent; how many bytes and frames a line has.
-pub struct Lent {
-    pub log: usize,
-    pub masks: usize,
-    pub out: usize,
-    pub bytes: usize,
-    pub frames: usize,
+// What a line says: its letter, 0 if it is none of the list and 1 if there is none; its numbers of the kinds 1 to 8, by
+// kind, and the others in their order, from 1.
+pub struct Task {
+    pub letter: u8,
+    pub sizes: [usize; 9],
+    pub numbers: [u32; 11],
 }
 
-// Nothing was read.
-pub fn empty_line() -> Line {
-    let mut numbers = [0u32; 20];
-    numbers[8] = 512;
-    let reader = Reader {
-        at: 0,
-        end: 0,
-        byte: 0,
-        is_over: false,
-    };
+// The line that was read, and where the reader stands after it.
+pub struct Input {
+    pub task: Task,
+    pub reader: Reader,
+}
+
+fn empty_line() -> Line {
+    let sizes = [0usize, 0, 0, 0, 0, 0, 0, 0, 512];
+    let numbers = [0u32; 11];
     Line {
         letter: 0,
         form: 0,
         stage: LETTER,
-        place: 0,
+        kind: 0,
         limit: 0,
         value: 0,
         byte: 0,
         from: 0,
         to: 0,
         at: 0,
+        sizes,
         numbers,
         count: 0,
-        reader,
     }
 }
 
-pub fn wide(x: u32) -> usize
-    ensures { λ r. ⌜ r ≡ x ⌝ }
-{
-    x as usize
+pub fn unread() -> Input {
+    let task = task_of(empty_line());
+    let reader = Reader {
+        at: 0,
+        end: 0,
+        byte: 0,
+        is_over: false,
+    };
+    Input { task, reader }
 }
 
-pub fn lent_by(l: Line) -> Lent {
-    let n = l.numbers;
-    Lent {
-        log: wide(n[2]),
-        masks: wide(n[3]),
-        out: wide(n[4]),
-        bytes: wide(n[7]),
-        frames: wide(std::num::wrapping_sub_u32(n[8], 512)),
+fn task_of(l: Line) -> Task {
+    let sizes = l.sizes;
+    let numbers = l.numbers;
+    Task {
+        letter: l.letter,
+        sizes,
+        numbers,
     }
 }
 
@@ -151,7 +152,7 @@ fn begun(l: Line, b: u8) -> Line {
     next
 }
 
-// A space was read. Number k of kind 9 or a has the place 9 + k.
+// A space was read.
 fn next_word(l: Line) -> Line {
     let kind = l.form % 16;
     if !can_end(l.stage) {
@@ -160,7 +161,7 @@ fn next_word(l: Line) -> Line {
     let mut next = l;
     next.form = l.form / 16;
     next.limit = limit(kind);
-    next.place = kind as usize;
+    next.kind = kind;
     next.value = 0;
     next.stage = DIGIT;
     match kind {
@@ -176,7 +177,6 @@ fn next_word(l: Line) -> Line {
             next
         }
         9 | 10 => {
-            next.place = std::num::wrapping_add_usize(9, l.count);
             next.count = std::num::wrapping_add_usize(l.count, 1);
             next
         }
@@ -204,11 +204,16 @@ fn longer_number(value: u32, d: u8) -> u64 {
 // The line with the number of its word.
 fn with_number(l: Line, v: u32, stage: u8) -> Line {
     let mut next = l;
-    let k = l.place;
-    if k < 20 {
-        next.numbers[k] = v;
-    }
+    let k = l.kind as usize;
+    let j = l.count;
     next.stage = stage;
+    if k < 9 {
+        next.sizes[k] = v as usize;
+        return next;
+    }
+    if j < 11 {
+        next.numbers[j] = v;
+    }
     next
 }
 
@@ -310,31 +315,34 @@ fn fill(bytes: &mut [u8; 8704], l: Line) {
     }
 }
 
-// A line has ended. Its letter becomes 0 if it is none of the list: a word is missing, a round is 0, or a slot has not 512
-// bytes. It becomes 1 if the input ended before a line.
-fn ended(l: Line, reader: Reader) -> Line {
-    let mut next = l;
-    next.reader = reader;
-    let n = l.numbers;
+// The line is one of the list: its words are all there, a round is not 0, and a slot has 512 bytes.
+fn is_right(l: Line) -> bool {
+    let n = l.sizes;
+    let is_whole = can_end(l.stage) & (l.form == 0);
     let letter = l.letter;
-    let has_round = (letter == b's') | (letter == b'm');
-    if !can_end(l.stage)
-        | (l.form != 0)
-        | (has_round & (n[5] == 0))
-        | ((letter == b's') & (n[7] != 512))
-    {
-        next.letter = 0;
+    match letter {
+        b's' => is_whole & (0 < n[5]) & (n[7] == 512),
+        b'm' => is_whole & (0 < n[5]),
+        _ => is_whole,
+    }
+}
+
+// A line has ended, or the input has.
+fn ended(l: Line, reader: Reader) -> Input {
+    let mut task = task_of(l);
+    if !is_right(l) {
+        task.letter = 0;
     }
     if reader.is_over & (l.stage == LETTER) {
-        next.letter = 1;
+        task.letter = 1;
     }
-    next
+    Input { task, reader }
 }
 
 // Reads the next line and puts its words of bytes. Nothing says that it ends, so the turns are counted down from a number
 // that no run uses up.
-pub fn read_line(l: Line, buf: &mut [u8; 4096], bytes: &mut [u8; 8704]) -> Line {
-    let mut reader = l.reader;
+pub fn read_line(input: Input, buf: &mut [u8; 4096], bytes: &mut [u8; 8704]) -> Input {
+    let mut reader = input.reader;
     let mut line = empty_line();
     let mut turns = u64::MAX;
     while turns > 0 {
@@ -346,5 +354,5 @@ pub fn read_line(l: Line, buf: &mut [u8; 4096], bytes: &mut [u8; 8704]) -> Line 
         fill(bytes, line);
         turns -= 1;
     }
-    l
+    input
 }

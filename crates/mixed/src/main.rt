@@ -10,7 +10,8 @@ use apollo::Height;
 use apollo::Replica;
 use apollo::Round;
 use apollo::Ticks;
-use input::Line;
+use input::Input;
+use input::Task;
 ghost use mathlib.Core.Path.{_≡_};
 ghost use Prim.Native.Nat.{_<_};
 ghost use lib.ListN.{length};
@@ -55,32 +56,32 @@ fn called(t: Table, is_written: bool) -> Table {
 }
 
 // The replica that a line is for.
-fn target(l: Line) -> usize
+fn target(l: Task) -> usize
     ensures { λ i. ⌜ i < 5 ⌝ }
 {
-    let n = l.numbers;
-    input::wide(n[1] % 5)
+    let s = l.sizes;
+    s[1] % 5
 }
 
 // The record in a line.
-fn replica_of(l: Line) -> Replica {
+fn replica_of(l: Task) -> Replica {
     let n = l.numbers;
     Replica {
-        id: (n[9] % 256) as u8,
-        f: (n[10] % 256) as u8,
-        timeout: Ticks(n[11]),
-        last_round: Round(n[12]),
-        round: Round(n[13]),
-        timer: Ticks(n[14]),
-        tip_round: Round(n[15]),
-        tip_height: Height(n[16]),
-        committed_round: Round(n[17]),
-        committed_height: Height(n[18]),
+        id: (n[1] % 256) as u8,
+        f: (n[2] % 256) as u8,
+        timeout: Ticks(n[3]),
+        last_round: Round(n[4]),
+        round: Round(n[5]),
+        timer: Ticks(n[6]),
+        tip_round: Round(n[7]),
+        tip_height: Height(n[8]),
+        committed_round: Round(n[9]),
+        committed_height: Height(n[10]),
     }
 }
 
 // The records after a line that sets one: `n` all, `w` that of a replica, `g` that of the next call.
-fn recorded(t: Table, l: Line) -> Table {
+fn recorded(t: Table, l: Task) -> Table {
     let mut next = t;
     let r = replica_of(l);
     let i = target(l);
@@ -101,7 +102,7 @@ fn recorded(t: Table, l: Line) -> Table {
 }
 
 // A line was read. One that is none of the list is told; `n`, `w` and `g` set records.
-fn noted(t: Table, l: Line) -> Table {
+fn noted(t: Table, l: Task) -> Table {
     let mut next = t;
     if l.letter == 1 {
         return next;
@@ -132,14 +133,14 @@ fn front_masks<'a>(s: &'a mut [u16], n: usize) -> &'a mut [u16] {
 }
 
 // The place of a round's mask.
-fn place(round: u32) -> usize
+fn place(round: usize) -> usize
     ensures { λ j. ⌜ j < 9 ⌝ }
 {
-    input::wide(std::num::wrapping_sub_u32(round, 1) % 9)
+    std::num::wrapping_sub_usize(round, 1) % 9
 }
 
 // The record that the call of a line gets: of `o` that in the line.
-fn replica_for(t: Table, l: Line) -> Replica {
+fn replica_for(t: Table, l: Task) -> Replica {
     let i = target(l);
     if l.letter == b'o' {
         return replica_of(l);
@@ -150,10 +151,16 @@ fn replica_for(t: Table, l: Line) -> Replica {
     t.replicas[i]
 }
 
+// `h`
+fn digest(l: Task, bytes: &[u8; 8704]) -> bool {
+    let s = l.sizes;
+    print::digest(slices::part(bytes, 0, s[7]))
+}
+
 // `q`: both forms of read, which have to agree.
-fn read(l: Line, r: Replica, log: &[u8]) -> bool {
+fn read(l: Task, r: Replica, log: &[u8]) -> bool {
     let n = l.numbers;
-    let height = Height(n[9]);
+    let height = Height(n[1]);
     let mut number = 0u8;
     let p = reads::read_part(r, log, height);
     let x = reads::read(r, log, height, &mut number);
@@ -161,19 +168,19 @@ fn read(l: Line, r: Replica, log: &[u8]) -> bool {
 }
 
 // `f`
-fn fetch(l: Line, r: Replica, log: &[u8], out: &mut [u8]) -> bool {
+fn fetch(l: Task, r: Replica, log: &[u8], out: &mut [u8]) -> bool {
     let n = l.numbers;
-    let height = Height(n[9]);
-    let s = input::lent_by(l);
-    let x = reads::fetch(r, log, height, front(out, s.out));
-    print::fetched(x, log, slices::part(out, 0, s.out))
+    let height = Height(n[1]);
+    let s = l.sizes;
+    let x = reads::fetch(r, log, height, front(out, s[4]));
+    print::fetched(x, log, slices::part(out, 0, s[4]))
 }
 
 // `q` or `f`
-fn look(t: Table, l: Line, log: &[u8; 4608]) -> Table {
-    let s = input::lent_by(l);
+fn look(t: Table, l: Task, log: &[u8; 4608]) -> Table {
+    let s = l.sizes;
     let r = replica_for(t, l);
-    let lent = slices::part(log, 0, s.log);
+    let lent = slices::part(log, 0, s[2]);
     if l.letter == b'q' {
         return called(t, read(l, r, lent));
     }
@@ -201,7 +208,7 @@ fn answer(
 
 // The same with the parts that the call is lent.
 fn lend(
-    l: Line,
+    l: Task,
     r: Replica,
     entry: &[u8],
     frames: &[u8],
@@ -209,22 +216,21 @@ fn lend(
     masks: &mut [u16],
     out: &mut [u8],
 ) -> Answer {
-    let s = input::lent_by(l);
+    let s = l.sizes;
     answer(
         l.letter,
         r,
         entry,
         frames,
-        front(log, s.log),
-        front_masks(masks, s.masks),
-        front(out, s.out),
+        front(log, s[2]),
+        front_masks(masks, s[3]),
+        front(out, s[4]),
     )
 }
 
-// Replica i keeps the record of an answer that takes the call.
-fn kept(t: Table, i: usize, x: Answer, is_written: bool) -> Table
-    requires { ⌜ i < 5 ⌝ }
-{
+// The replica keeps the record of an answer that takes the call.
+fn kept(t: Table, l: Task, x: Answer, is_written: bool) -> Table {
+    let i = target(l);
     let mut next = called(t, is_written);
     if x.number == 0 {
         let r = x.replica;
@@ -236,85 +242,99 @@ fn kept(t: Table, i: usize, x: Answer, is_written: bool) -> Table
 // `o`, `b`, `v` or `t`
 fn change(
     t: Table,
-    l: Line,
-    i: usize,
+    l: Task,
     log: &mut [u8; 4608],
     masks: &mut [u16; 9],
     bytes: &[u8; 8704],
-) -> Table
-    requires { ⌜ i < 5 ⌝ }
-{
-    let s = input::lent_by(l);
+) -> Table {
+    let s = l.sizes;
     let mut out = blank();
     let x = lend(
         l,
         replica_for(t, l),
-        slices::part(bytes, 0, s.bytes),
-        slices::part(bytes, 512, s.frames),
+        slices::part(bytes, 0, s[7]),
+        slices::part(bytes, 512, std::num::wrapping_sub_usize(s[8], 512)),
         log,
         masks,
         &mut out,
     );
-    kept(t, i, x, print::answer(x, s, log, masks, &out))
+    kept(t, l, x, print::answer(x, s, log, masks, &out))
 }
 
-// `n` and `w` set logs and masks to zero, `s` sets a slot, `m` a mask.
-fn set(l: Line, i: usize, logs: &mut Logs, masks: &mut Masks, bytes: &[u8; 8704])
+// `n` and `w` set logs and masks to zero.
+fn clear(l: Task, i: usize, logs: &mut Logs, masks: &mut Masks)
     requires { ⌜ i < 5 ⌝ }
 {
-    let s = input::lent_by(l);
-    let n = l.numbers;
-    let j = place(n[5]);
+    if l.letter == b'n' {
+        *logs = [[0u8; 4608]; 5];
+        *masks = [[0u16; 9]; 5];
+        return;
+    }
+    logs[i] = [0u8; 4608];
+    masks[i] = [0u16; 9];
+}
+
+// `s`
+fn store(l: Task, log: &mut [u8; 4608], bytes: &[u8; 8704]) {
+    let s = l.sizes;
+    log::store(log, (s[5] % 10) as u32, slices::part(bytes, 0, 512));
+}
+
+// `m`
+fn set_mask(l: Task, masks: &mut [u16; 9]) {
+    let s = l.sizes;
+    let j = place(s[5]);
+    masks[j] = (s[6] % 65536) as u16;
+}
+
+// A line that sets a log or masks is carried out.
+fn set(l: Task, logs: &mut Logs, masks: &mut Masks, bytes: &[u8; 8704]) {
+    let i = target(l);
     let letter = l.letter;
     match letter {
-        b'n' => {
-            *logs = [[0u8; 4608]; 5];
-            *masks = [[0u16; 9]; 5];
-        }
-        b'w' => {
-            logs[i] = [0u8; 4608];
-            masks[i] = [0u16; 9];
-        }
-        b's' => log::store(&mut logs[i], n[5], slices::part(bytes, 0, s.bytes)),
-        _ => masks[i][j] = (n[6] % 65536) as u16,
+        b'n' | b'w' => clear(l, i, logs, masks),
+        b's' => store(l, &mut logs[i], bytes),
+        b'm' => set_mask(l, &mut masks[i]),
+        _ => {}
     }
 }
 
-// A line is carried out, but for the records that it sets.
-fn step(t: Table, l: Line, logs: &mut Logs, masks: &mut Masks, bytes: &[u8; 8704]) -> Table {
+// A line that prints is carried out.
+fn call(t: Table, l: Task, logs: &mut Logs, masks: &mut Masks, bytes: &[u8; 8704]) -> Table {
     let i = target(l);
-    let s = input::lent_by(l);
     let letter = l.letter;
     match letter {
-        b'n' | b'w' | b's' | b'm' => {
-            set(l, i, logs, masks, bytes);
-            t
-        }
-        b'h' => told(t, print::digest(slices::part(bytes, 0, s.bytes))),
+        b'h' => told(t, digest(l, bytes)),
         b'q' | b'f' => look(t, l, &logs[i]),
-        b'o' | b'b' | b'v' | b't' => change(t, l, i, &mut logs[i], &mut masks[i], bytes),
+        b'o' | b'b' | b'v' | b't' => change(t, l, &mut logs[i], &mut masks[i], bytes),
         _ => t,
     }
 }
 
-fn is_done(t: Table, l: Line) -> bool {
-    t.is_over | l.reader.is_over
+fn task_of(input: Input) -> Task {
+    input.task
+}
+
+fn is_done(t: Table, input: Input) -> bool {
+    t.is_over | input.reader.is_over
 }
 
 // Carries out the lines of the input. Nothing says that it ends, so the turns are counted down, from a number that no run
 // uses up.
 fn obey(logs: &mut Logs, masks: &mut Masks) {
     let mut next = new_table(0);
-    let mut line = input::empty_line();
+    let mut input = input::unread();
     let mut buf = io::buffer();
     let mut bytes = [0u8; 8704];
     let mut turns = u64::MAX;
     while turns > 0 {
-        if is_done(next, line) {
+        if is_done(next, input) {
             return;
         }
-        line = input::read_line(line, &mut buf, &mut bytes);
-        next = step(noted(next, line), line, logs, masks, &bytes);
+        input = input::read_line(input, &mut buf, &mut bytes);
+        let l = task_of(input);
+        set(l, logs, masks, &bytes);
+        next = call(noted(next, l), l, logs, masks, &bytes);
         turns -= 1;
     }
 }

@@ -1,5 +1,4 @@
 // Lines of text, each written at once. One that could not be written is told, and false is the answer.
-use crate::input::Lent;
 use apollo::Answer;
 use apollo::Fetched;
 use libc::STDERR_FILENO;
@@ -120,14 +119,20 @@ fn numbers_of(x: Answer) -> [u64; 14] {
     ]
 }
 
-// Prints an answer and the digest of what was lent.
-pub fn answer(x: Answer, s: Lent, log: &[u8; 4608], masks: &[u16; 9], out: &[u8; 6144]) -> bool {
+// Prints an answer and the digest of what was lent, whose sizes are s[2] to s[4].
+pub fn answer(
+    x: Answer,
+    s: [usize; 9],
+    log: &[u8; 4608],
+    masks: &[u16; 9],
+    out: &[u8; 6144],
+) -> bool {
     let ns = numbers_of(x);
     let d = lent_digest(
-        slices::part(log, 0, s.log),
+        slices::part(log, 0, s[2]),
         masks,
-        s.masks,
-        slices::part(out, 0, s.out),
+        s[3],
+        slices::part(out, 0, s[4]),
     );
     row(&ns, d)
 }

@@ -33,7 +33,7 @@ struct Table {
     is_over: bool,
 }
 
-// The frames that replica i emitted in a call are put behind those sent. There is room for all: a replica emits at most a
+// The frames emitted in a call are put behind those sent. There is room for all: a replica emits at most a
 // blame and a block for each of the 6 rounds, which makes 36 frames. What is put past the count is never read.
 fn send(t: Table, out: &[u8; 1024], sent: &mut [u8; 18432]) {
     let k = std::num::wrapping_add_u32(t.sent, 1);
@@ -57,7 +57,7 @@ fn oldest(sent: &[u8], count: u32, k: u32, i: u8) -> u32 {
     0
 }
 
-// The command that hands replica i a frame: none if its queue is empty.
+// The step that hands replica i a frame: none if its queue is empty.
 fn delivery(t: Table, i: usize, sent: &[u8]) -> Step
     requires { ⌜ i < 3 ⌝ }
 {
@@ -73,7 +73,7 @@ fn delivery(t: Table, i: usize, sent: &[u8]) -> Step
     Step { letter, i, k }
 }
 
-// The command that a line holds.
+// The step that a line asks for.
 fn command(t: Table, input: Input, sent: &[u8]) -> Step {
     let l = input.line;
     let i = input::target(l);
@@ -89,7 +89,7 @@ fn command(t: Table, input: Input, sent: &[u8]) -> Step {
     Step { letter, i, k }
 }
 
-// A line was read, which holds a command or none. The end of the input is no line.
+// A line was read, which asks for a step or is no command. The end of the input is no line.
 fn noted(t: Table, input: Input, c: Step) -> Table {
     let mut next = t;
     let l = input.line;
@@ -127,7 +127,7 @@ fn settled(t: Table, c: Step, i: usize, x: Answer) -> Table
     next
 }
 
-// The answer of replica i to a command, where x is the frame that it is handed.
+// The answer of replica i to a step, where x is the frame that it is handed.
 fn answer(
     letter: u8,
     i: u8,
@@ -148,7 +148,7 @@ fn answer(
     }
 }
 
-// A command is carried out. What the replica emits is sent.
+// A step is carried out. What the replica emits is sent.
 fn act(t: Table, c: Step, logs: &mut Logs, masks: &mut Masks, sent: &mut [u8; 18432]) -> Table {
     let i = c.i;
     if 2 < i {

@@ -4,16 +4,16 @@ use Rattle.mixed.proofs.obey.Statement.{statement}
 use Rattle.mixed.proofs.obey.Tie as tie
 
 abbrev Inv-loop : tie.InvT-loop
-Inv-loop logs₀ masks₀ next₀ line₀ buf₀ bytes₀ turns₀ logs masks next line buf bytes turns = Unit {0}
+Inv-loop logs₀ masks₀ next₀ input₀ buf₀ bytes₀ turns₀ logs masks next input buf bytes turns = Unit {0}
 
 abbrev μ-loop : tie.MeasureT-loop
-μ-loop logs₀ masks₀ next₀ line₀ buf₀ bytes₀ turns₀ logs masks next line buf bytes turns = turns
+μ-loop logs₀ masks₀ next₀ input₀ buf₀ bytes₀ turns₀ logs masks next input buf bytes turns = turns
 
 new-table-requires : tie.Need-new-table-requires Inv-loop μ-loop
 new-table-requires c κs = search needs
 
-empty-line-requires : tie.Need-empty-line-requires Inv-loop μ-loop
-empty-line-requires c κs = search needs
+unread-requires : tie.Need-unread-requires Inv-loop μ-loop
+unread-requires c κs = search needs
 
 buffer-requires : tie.Need-buffer-requires Inv-loop μ-loop
 buffer-requires c κs = search needs
@@ -30,11 +30,17 @@ returns c = search needs
 read-line-requires : tie.Need-read-line-requires Inv-loop μ-loop
 read-line-requires c κs = search needs
 
+task-of-requires : tie.Need-task-of-requires Inv-loop μ-loop
+task-of-requires c κs = search needs
+
+set-requires : tie.Need-set-requires Inv-loop μ-loop
+set-requires c κs = search needs
+
 noted-requires : tie.Need-noted-requires Inv-loop μ-loop
 noted-requires c κs = search needs
 
-step-requires : tie.Need-step-requires Inv-loop μ-loop
-step-requires c κs = search needs
+call-requires : tie.Need-call-requires Inv-loop μ-loop
+call-requires c κs = search needs
 
 sub-turns : tie.Need-sub-turns Inv-loop μ-loop
 sub-turns c = search needs
@@ -55,14 +61,16 @@ obey-spec =
     Inv-loop
     μ-loop
     new-table-requires
-    empty-line-requires
+    unread-requires
     buffer-requires
     loop-holds
     is-done-requires
     returns
     read-line-requires
+    task-of-requires
+    set-requires
     noted-requires
-    step-requires
+    call-requires
     sub-turns
     loop-less
     loop-again

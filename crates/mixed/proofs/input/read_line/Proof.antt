@@ -4,10 +4,10 @@ use Rattle.mixed.proofs.input.read_line.Statement.{statement}
 use Rattle.mixed.proofs.input.read_line.Tie as tie
 
 abbrev Inv-loop : tie.InvT-loop
-Inv-loop l buf₀ bytes₀ reader₀ line₀ turns₀ buf bytes reader line turns = Unit {0}
+Inv-loop input buf₀ bytes₀ reader₀ line₀ turns₀ buf bytes reader line turns = Unit {0}
 
 abbrev μ-loop : tie.MeasureT-loop
-μ-loop l buf₀ bytes₀ reader₀ line₀ turns₀ buf bytes reader line turns = turns
+μ-loop input buf₀ bytes₀ reader₀ line₀ turns₀ buf bytes reader line turns = turns
 
 empty-line-requires : tie.Need-empty-line-requires Inv-loop μ-loop
 empty-line-requires c κs = search needs
