@@ -1,18 +1,9 @@
 /* NULL with length 0 is an empty buffer, for each pointer of each call: an empty entry is taken and proposed, any other empty buffer gets
  * the refusal of its length. Exits with 0 if all is so. */
 #include "apollo.h"
+#include "expect.h"
 
-#include <stdio.h>
-#include <stdlib.h>
 #include <string.h>
-
-#define EXPECT(what)                                    \
-  do {                                                  \
-    if (!(what)) {                                      \
-      printf("line %d: not so: %s\n", __LINE__, #what); \
-      exit(1);                                          \
-    }                                                   \
-  } while (0)
 
 enum { T = 6, LOG = APOLLO_FRAME * T };
 

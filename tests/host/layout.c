@@ -1,18 +1,9 @@
 /* The structs lie alike on both sides of the C interface: what a call is handed comes back field by field, and the sizes and offsets are
  * those that the library's `#[repr(C)]` structs have by their fields. Exits with 0 if all is so. */
 #include "apollo.h"
+#include "expect.h"
 
-#include <stdio.h>
-#include <stdlib.h>
 #include <string.h>
-
-#define EXPECT(what)                                          \
-  do {                                                        \
-    if (!(what)) {                                            \
-      printf("line %d: not so: %s\n", __LINE__, #what);       \
-      exit(1);                                                \
-    }                                                         \
-  } while (0)
 
 #define AT(type, field, offset) EXPECT(offsetof(type, field) == (offset))
 
