@@ -20,7 +20,7 @@ use Rattle.chain.specs.Judged.{judgedFrames}
 use Rattle.span.specs.Keeps.{keepsAll}
 use Rattle.chain.specs.Ordered.{Ordered}
 use Rattle.chain.proofs.Ordered.{ordered}
-use Rattle.span.proofs.Grown.{taken-grown, keeps-grown}
+use Rattle.span.proofs.Grown.{keeps-grown}
 use Rattle.apollo.proofs.Validity.{Valid}
 use Rattle.apollo.proofs.Validity.{valid}
 use Rattle.branch.specs.declared.Judged.{Judged}
@@ -56,10 +56,9 @@ one-of-three f false l i j k o p q a b c = c refl
 
 module _ (s : State) (bytes entry out x : List ℕ) (xs : List (List ℕ)) (split : framesOf bytes ≡ x ∷ xs) (first : firstFrame bytes ≡ x)
     (last : lastFrame bytes ≡ lastOf x xs) (v : Valid (s .replica) (s .log)) where
-  adopted-is : (a : ℕ) → Ordered (s .replica .«last_round» .0) a (x ∷ xs)
-      → adopting sha256 entry s a x xs ≡ adopted entry s a bytes
+  adopted-is : (a : ℕ) → adopting sha256 entry s a x xs ≡ adopted entry s a bytes
   unfolding adopted adopting
-  adopted-is a o = rw (split, last, taken-grown (s .replica .«last_round» .0) a (s .log) (x ∷ xs) (v .setup .size) o)
+  adopted-is a = rw (split, last)
 
   on-answer : (a : ℕ) → Ordered (s .replica .«last_round» .0) a (x ∷ xs)
       → placed sha256 entry out s x xs (some a) ≡ answered entry out s bytes (judgedOn (s .replica) (s .log) (s .masks) bytes a)
@@ -72,7 +71,7 @@ module _ (s : State) (bytes entry out x : List ℕ) (xs : List (List ℕ)) (spli
       (refusal 13 (firstUncertified (setupOf (s .replica)) (s .masks) a (x ∷ xs)))
       (taken (adopting sha256 entry s a x xs) out) (refused s out 12 0)
       (refused s out 13 (firstUncertified (setupOf (s .replica)) (s .masks) a (x ∷ xs)))
-      (λ z. ap (λ (e : Effect). taken e out) (adopted-is a o)) (λ z. refl) (λ z. refl))
+      (λ z. ap (λ (e : Effect). taken e out) (adopted-is a)) (λ z. refl) (λ z. refl))
 
   module _ (order : (a : ℕ) → judgedFrames (setupOf (s .replica)) (x ∷ xs) .number ≡ 0 → attach (s .log) x (round x - 1) ≡ some a
       → Ordered (s .replica .«last_round» .0) a (x ∷ xs)) where

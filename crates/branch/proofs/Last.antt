@@ -1,8 +1,8 @@
--- The last frame of an accepted branch is a block. Assumes nothing.
+-- The frames of an accepted branch have their slots, and the last is a block. Assumes nothing.
 use mathlib.Core.Path.{_≡_, refl, sym, ap, _∙_}
 use mathlib.Core.Bool.{Bool, true, false, not, cond}
 use mathlib.Core.List.{List, [], _∷_}
-use Prim.Native.Nat.{ℕ, _+_, _-_, _/_}
+use Prim.Native.Nat.{ℕ, _+_, _-_, _*_, _/_, _≤_}
 use native.Mathlib.Omega.{arith}
 use lib.Dec.{eqb, ltb}
 use lib.ListN.{length, take, drop}
@@ -14,6 +14,7 @@ use Rattle.apollo.specs.Frame.{round, frames, checked, blockForm}
 use Rattle.apollo.specs.Log.{attach}
 use Rattle.apollo.specs.Branch.{Verdict, lastOf, childOf, faulty, judged, judgedAll}
 use Rattle.forms.proofs.Facts.{BlockFields, block-fields}
+use Rattle.log.specs.Slots.{Slotted}
 use Rattle.chain.specs.Judged.{judgedFrames}
 use Rattle.branch.specs.declared.Judged.{Judged}
 use Rattle.branch.specs.Frames.{framesOf, firstFrame, lastFrame}
@@ -38,19 +39,31 @@ step true true n i v e h = (eqb-true n 0 e, h)
 step true false n i v e h = absurd (omega arith)
 step false c n i v e h = absurd (eqb-false n 0 e h)
 
-last-sound : (s : Setup) (k : ℕ) (x : List ℕ) (ys : List (List ℕ)) → faulty sha256 s x ≡ 0 → judged sha256 s k x ys .number ≡ 0
-    → faulty sha256 s (lastOf x ys) ≡ 0
-unfolding judged lastOf
-last-sound s k x [] f e = f
-last-sound s k x (y ∷ ys) f e =
-    let p = step (eqb (faulty sha256 s y) 0) (childOf x y) (faulty sha256 s y) k (judged sha256 s (k + 1) y ys) refl e in
-    last-sound s (k + 1) y ys (p .0) (p .1)
+-- each frame has the slot of its round, and the last has no fault
+record Sound (s : Setup) (x : List ℕ) (ys : List (List ℕ)) : Type 0 where
+  slots : Slotted (512 * s .lastRound) (x ∷ ys)
+  last : faulty sha256 s (lastOf x ys) ≡ 0
 
-all-sound : (s : Setup) (x : List ℕ) (ys : List (List ℕ)) → judgedFrames s (x ∷ ys) .number ≡ 0 → faulty sha256 s (lastOf x ys) ≡ 0
+slot-first : (s : Setup) (x : List ℕ) (ys : List (List ℕ)) → faulty sha256 s x ≡ 0 → Slotted (512 * s .lastRound) ys
+    → Slotted (512 * s .lastRound) (x ∷ ys)
+unfolding Slotted
+slot-first s x ys f h =
+    let b : BlockFields s x = block-fields s x (block-formed s x f) in
+    (b .round-low, omega (arith, b .round-high), h)
+
+sound : (s : Setup) (k : ℕ) (x : List ℕ) (ys : List (List ℕ)) → faulty sha256 s x ≡ 0 → judged sha256 s k x ys .number ≡ 0 → Sound s x ys
+unfolding judged lastOf Slotted
+sound s k x [] f e = record { slots = slot-first s x [] f tt; last = f }
+sound s k x (y ∷ ys) f e =
+    let p = step (eqb (faulty sha256 s y) 0) (childOf x y) (faulty sha256 s y) k (judged sha256 s (k + 1) y ys) refl e in
+    let q : Sound s y ys = sound s (k + 1) y ys (p .0) (p .1) in
+    record { slots = slot-first s x (y ∷ ys) f (q .slots); last = q .last }
+
+all-sound : (s : Setup) (x : List ℕ) (ys : List (List ℕ)) → judgedFrames s (x ∷ ys) .number ≡ 0 → Sound s x ys
 unfolding judgedFrames judgedAll
 all-sound s x ys e =
     let p = step (eqb (faulty sha256 s x) 0) true (faulty sha256 s x) 0 (judged sha256 s 1 x ys) refl e in
-    last-sound s 1 x ys (p .0) (p .1)
+    sound s 1 x ys (p .0) (p .1)
 
 -- a judgement that refuses nothing
 opens : (z y : Bool) (j : Judged) (n p : ℕ) → eqb n 0 ≡ y → cond z (cond y j (refusal n p)) (refusal 6 0) .number ≡ 0
@@ -59,10 +72,10 @@ opens true true j n p e h = (refl, eqb-true n 0 e)
 opens true false j n p e h = absurd (eqb-false n 0 e h)
 opens false y j n p e h = absurd (omega arith)
 
-pub last-block : (r : Replica) (log masks bytes : List ℕ) → judgedBranch r log masks bytes .number ≡ 0
-    → BlockFields (setupOf r) (lastFrame bytes)
+pub branch-sound : (r : Replica) (log masks bytes : List ℕ) → judgedBranch r log masks bytes .number ≡ 0
+    → Slotted (512 * r .«last_round» .0) (framesOf bytes) × BlockFields (setupOf r) (lastFrame bytes)
 unfolding judgedBranch judgedWhole
-last-block r log masks bytes e =
+branch-sound r log masks bytes e =
     let v : Verdict = judgedFrames (setupOf r) (framesOf bytes) in
     let p =
     opens (isWhole (r .«last_round» .0) bytes) (eqb (v .number) 0)
@@ -75,6 +88,8 @@ last-block r log masks bytes e =
     let g =
     all-sound (setupOf r) (take 512 bytes) (frames (length bytes / 512 - 1) (drop 512 bytes))
     (ap (λ (xs : List (List ℕ)). judgedFrames (setupOf r) xs .number) (sym f) ∙ p .1)
-    in
-    block-fields (setupOf r) (lastFrame bytes)
-    (block-formed (setupOf r) (lastFrame bytes) (ap (faulty sha256 (setupOf r)) (last-is (r .«last_round» .0) bytes w) ∙ g))
+    in (
+      rw f (g .slots),
+      block-fields (setupOf r) (lastFrame bytes)
+          (block-formed (setupOf r) (lastFrame bytes) (ap (faulty sha256 (setupOf r)) (last-is (r .«last_round» .0) bytes w) ∙ g .last)),
+    )

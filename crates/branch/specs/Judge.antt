@@ -13,11 +13,10 @@ use Rattle.apollo.specs.Frame.{round, height}
 use Rattle.apollo.specs.Log.{attach}
 use Rattle.apollo.specs.Enter.{State, Effect, holding, enterRound}
 use Rattle.apollo.specs.Outcome as Outcome
-use Rattle.apollo.specs.Branch.{Verdict, firstUncertified}
+use Rattle.apollo.specs.Branch.{Verdict, firstUncertified, grown}
 use Rattle.apollo.specs.Refusal.{badLength, stale, unattached, revertsCommitted, notCertified}
 use Rattle.chain.specs.Judged.{judgedFrames}
 use Rattle.span.specs.Keeps.{keepsAll}
-use Rattle.log.specs.Slots.{taken}
 use Rattle.branch.specs.declared.Judged.{Judged}
 use Rattle.branch.specs.Frames.{framesOf, firstFrame, lastFrame}
 
@@ -63,7 +62,7 @@ judgedBranch r log masks bytes =
 unfoldable pub adopted : (entry : List ℕ) → State → (a : ℕ) (bytes : List ℕ) → Effect
 adopted entry s a bytes =
     enterRound sha256 entry
-    (holding s (taken (s .log) a (framesOf bytes)) (round (lastFrame bytes)) (height (lastFrame bytes)))
+    (holding s (grown (s .log) a (framesOf bytes)) (round (lastFrame bytes)) (height (lastFrame bytes)))
 
 -- what the call answers to a branch so judged
 unfoldable pub answered : (entry out : List ℕ) → State → (bytes : List ℕ) → Judged → Outcome.Outcome

@@ -12,10 +12,9 @@ use lib.Seq.{take-all, take-length, take-append-le, take-at, drop-append-add, dr
 use Rattle.apollo.specs.Frame.{height}
 use Rattle.apollo.specs.Log.{slot, filled, store, chain}
 use Rattle.apollo.specs.Fetch.{above}
-use Rattle.log.specs.Slots.{slotPart, storeAt}
-use Rattle.heights.specs.Fetch.{isTall, tall}
+use Rattle.log.specs.Slots.{slotPart}
+use Rattle.heights.specs.Fetch.{isTall}
 use Rattle.log.proofs.Search.{slot-part}
-use Rattle.log.proofs.Slots.{store-fits}
 
 above-append : (h : ℕ) (xs ys : List (List ℕ)) → above h (xs ++ ys) ≡ above h xs ++ above h ys
 unfolding above
@@ -38,11 +37,12 @@ flatten-append [] ys = refl
 flatten-append (x ∷ xs) ys = rw (flatten-append xs ys) (sym (append-assoc x (flatten xs) (flatten ys)))
 
 -- slot r of a log, stored in slot k + 1 of the out buffer
-module _ (log out y x : List ℕ) (r k : ℕ) (g : 0 < r) (h : 512 * r ≤ length log) (e : x ≡ slotPart log r) where
-  pub slot-copied : 512 * (k + 1) ≤ length out → y ≡ storeAt out (k + 1) x → y ≡ store out (k + 1) (slot log r)
-  slot-copied f d =
-      let l : length (slotPart log r) ≡ 512 = simp (length-take, length-drop) (omega arith) in
-      d ∙ store-fits out x (k + 1) (omega arith) f (ap length e ∙ l) ∙ ap (store out (k + 1)) (e ∙ slot-part log r g)
+pub slot-size : (log : List ℕ) (r : ℕ) → 0 < r → 512 * r ≤ length log → length (slotPart log r) ≡ 512
+slot-size log r g h = simp (length-take, length-drop) (omega arith)
+
+pub slot-copied : (log out y x : List ℕ) (r k : ℕ) → 0 < r → x ≡ slotPart log r → y ≡ store out (k + 1) x
+    → y ≡ store out (k + 1) (slot log r)
+slot-copied log out y x r k g e d = d ∙ ap (store out (k + 1)) (e ∙ slot-part log r g)
 
 module _ (log : List ℕ) (h : ℕ) where
   -- the frames that fetch copies up to round r
@@ -127,21 +127,16 @@ module _ (log : List ℕ) (h : ℕ) where
         by false t p q = rw (p, q) (copied-over t)
 
     -- all are copied, or all that fit
-    module _ (t n : ℕ) (d : n ≡ min t (length log / 512)) where
-      tall-is : tall log h t ≡ upTo n
-      unfolding tall
-      tall-is = rw (← d)
+    pub copied-all : (t : ℕ) → t ≡ r → (k ≡ min (length (upTo t)) (length o / 512)) × (out ≡ flatten (take k (upTo t)) ++ drop (512 * k) o)
+    copied-all t e =
+        let z : length (upTo r) ≡ k = sym (c .count) in
+        rw e (omega (arith, c .fits), rw (take-all k (upTo r) (omega arith)) (c .bytes))
 
-      pub copied-all : n ≡ r → (k ≡ min (length (tall log h t)) (length o / 512)) × (out ≡ flatten (take k (tall log h t)) ++ drop (512 * k) o)
-      copied-all e =
-          let z : length (upTo r) ≡ k = sym (c .count) in
-          rw (tall-is, e) (omega (arith, c .fits), rw (take-all k (upTo r) (omega arith)) (c .bytes))
-
-      pub copied-full : r ≤ n → length o / 512 ≤ k
-          → (k ≡ min (length (tall log h t)) (length o / 512)) × (out ≡ flatten (take k (tall log h t)) ++ drop (512 * k) o)
-      copied-full g f =
-          let e : r + (n - r) ≡ n = omega arith in
-          let p : (length (upTo r) ≤ length (upTo n)) × (take (length (upTo r)) (upTo n) ≡ upTo r) = rw e at (up-first r (n - r)) in
-          let z : k ≡ length (upTo r) = c .count in
-          let y : take k (upTo n) ≡ upTo r = ap (λ (m : ℕ). take m (upTo n)) z ∙ p .1 in
-          rw tall-is (omega (arith, c .fits, p .0), rw y (c .bytes))
+    pub copied-full : (t : ℕ) → r ≤ t → length o / 512 ≤ k
+        → (k ≡ min (length (upTo t)) (length o / 512)) × (out ≡ flatten (take k (upTo t)) ++ drop (512 * k) o)
+    copied-full t g f =
+        let e : r + (t - r) ≡ t = omega arith in
+        let p : (length (upTo r) ≤ length (upTo t)) × (take (length (upTo r)) (upTo t) ≡ upTo r) = rw e at (up-first r (t - r)) in
+        let z : k ≡ length (upTo r) = c .count in
+        let y : take k (upTo t) ≡ upTo r = ap (λ (m : ℕ). take m (upTo t)) z ∙ p .1 in
+        (omega (arith, c .fits, p .0), rw y (c .bytes))

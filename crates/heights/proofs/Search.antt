@@ -2,12 +2,11 @@
 use mathlib.Core.Path.{_≡_}
 use mathlib.Core.Bool.{Bool, true, false, cond}
 use mathlib.Core.List.{List}
-use Prim.Native.Nat.{ℕ, suc, _+_, _-_, _*_, _≤_, _<_, _/_, min}
-use native.Mathlib.Nat.{sub-zero}
+use Prim.Native.Nat.{ℕ, suc, _+_, _-_, _*_, _≤_, _<_}
 use native.Mathlib.Numerals.{add-one}
 use native.Mathlib.Omega.{arith}
 use lib.Dec.{leb, ltb}
-use lib.ListN.{length, take, drop}
+use lib.ListN.{take, drop}
 use borrow.Author.Tests.{eq-eqb, ne-eqb}
 use Rattle.apollo.specs.Frame.{kind, height, entryLength}
 use Rattle.apollo.specs.Log.{slot, filled}
@@ -16,7 +15,7 @@ use Rattle.log.specs.Slots.{slotPart}
 use Rattle.log.proofs.Search.{slot-is}
 use Rattle.log.proofs.Frames.{frame-part}
 use Rattle.heights.specs.Fetch.{isTall}
-use Rattle.heights.specs.Read.{isReadable, lowestWhole}
+use Rattle.heights.specs.Read.{isReadable}
 
 module _ (log x : List ℕ) (r : ℕ) (g : 0 < r) (e : x ≡ slotPart log r) where
   module _ (k : ℕ) (d : k ≡ kind x) where
@@ -56,10 +55,6 @@ unfolding lowest
 lowest-more log h lo c g =
     let q : c - lo ≡ suc (c - (lo + 1)) = omega arith in
     rw q
-
-pub lowest-start : (log : List ℕ) (h c n : ℕ) → n ≡ min c (length log / 512) → lowest log h 0 (n - 0) ≡ lowestWhole log h c
-unfolding lowestWhole
-lowest-start log h c n e = rw (e, sub-zero)
 
 pub lowest-here : (log : List ℕ) (h lo c : ℕ) → lo < c → true ≡ readable log h (lo + 1) → lo + 1 ≡ lowest log h lo (c - lo)
 lowest-here log h lo c g e = rw (lowest-more log h lo c g, ← e)

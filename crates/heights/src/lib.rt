@@ -1,22 +1,14 @@
-// Slots of a log by height: the lowest readable, and the chain frames above a height. Every public function takes slices of any
-// length and any numbers.
+// Slots of a log by height: the lowest readable, and the chain frames above a height.
 ghost use mathlib.Core.Path.{_≡_};
 ghost use Prim.Native.Nat.{_+_, _*_, _/_, _≤_, _<_, min};
 ghost use mathlib.Core.Bool.{cond};
 ghost use mathlib.Core.List.{_++_, flatten};
 ghost use lib.ListN.{length, take, drop};
 ghost use Rattle.apollo.specs.Log as Log;
-ghost use Rattle.heights.specs.Fetch.{isTall, tall};
-ghost use Rattle.heights.specs.Read.{isReadable, lowestWhole};
-
-// How many whole slots up to the last round the log has.
-fn whole_slots(log: &[u8], last_round: u32) -> u32
-    ensures { λ n. ⌜ n ≡ min «last_round» (length (now (log .entry)) / 512) ⌝ }
-{
-    let n = log.len() / 512;
-    let t = last_round as usize;
-    if n < t { n as u32 } else { last_round }
-}
+ghost use Rattle.apollo.specs.Read as Read;
+ghost use Rattle.apollo.specs.Fetch.{above};
+ghost use Rattle.heights.specs.Fetch.{isTall};
+ghost use Rattle.heights.specs.Read.{isReadable};
 
 // Slot x is filled, with height h and an entry length of at most 400.
 fn is_readable(x: &[u8], h: u32) -> bool
@@ -31,13 +23,13 @@ fn is_readable(x: &[u8], h: u32) -> bool
     frame::entry_length(x) <= 400
 }
 
-// The lowest such slot up to the committed round, in whole slots, 0 if none.
+// The lowest such slot up to the committed round, 0 if none.
 pub fn lowest(log: &[u8], h: u32, committed: u32) -> u32
-    ensures { λ r. ⌜ r ≡ lowestWhole (now (log .entry)) h committed ⌝ }
+    requires { ⌜ 512 * committed ≤ length (now log) ⌝ }
+    ensures { λ r. ⌜ r ≡ Read.lowest (now (log .entry)) h 0 committed ⌝ }
 {
-    let n = whole_slots(log, committed);
     let mut lo = 0;
-    while lo < n {
+    while lo < committed {
         let a = 512 * (lo as usize);
         let e = a + 512;
         let r = lo + 1;
@@ -76,14 +68,14 @@ fn fetch_slot(log: &[u8], h: u32, r: u32, out: &mut [u8], k: u32) -> u32
 
 // The chain frames of height above h are copied to out, in rising round, as many as fit; how many.
 pub fn fetch_frames(log: &[u8], h: u32, last_round: u32, out: &mut [u8]) -> usize
-    ensures { λ k. ⌜ k ≡ min (length (tall (now (log .entry)) h «last_round»)) (length (now (out .entry)) / 512) ⌝ }
-    ensures { λ k. ⌜ now (out .exit) ≡ flatten (take k (tall (now (log .entry)) h «last_round»)) ++ drop (512 * k) (now (out .entry)) ⌝ }
+    requires { ⌜ 512 * «last_round» ≤ length (now log) ⌝ }
+    ensures { λ k. ⌜ k ≡ min (length (above h (Log.chain (now (log .entry)) «last_round»))) (length (now (out .entry)) / 512) ⌝ }
+    ensures { λ k. ⌜ now (out .exit) ≡ flatten (take k (above h (Log.chain (now (log .entry)) «last_round»))) ++ drop (512 * k) (now (out .entry)) ⌝ }
 {
-    let n = whole_slots(log, last_round);
     let room = out.len() / 512;
     let mut k = 0;
     let mut r = 0;
-    while r < n {
+    while r < last_round {
         if room <= k as usize {
             return k as usize;
         }

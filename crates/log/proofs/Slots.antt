@@ -1,18 +1,18 @@
 -- Slots zeroed and stored in place, and frames stored one at a time. Assumes nothing.
 use mathlib.Core.Path.{_≡_, sym, _∙_}
 use mathlib.Core.List.{List, [], append-nil}
-use Prim.Native.Nat.{ℕ, _+_, _-_, _*_, _/_, _≤_, _<_}
+use Prim.Native.Nat.{ℕ, _+_, _-_, _*_, _≤_, _<_}
 use native.Mathlib.Nat.{le-of-eq}
 use native.Mathlib.Omega.{arith}
 use lib.ListN.{length, take, drop, length-take, length-drop, drop-of-length-le}
 use lib.Seq.{take-all, take-length, drop-drop}
 use borrow.Rule.Slice.PartMut.{putMid}
-use borrow.Author.Tests.{eq-eqb, ne-eqb, le-leb, lt-leb}
-use Rattle.apollo.specs.Bytes.{zeros}
+use Rattle.apollo.specs.Bytes.{part, zeros}
 use Rattle.apollo.specs.Log.{store, clearAbove}
 use Rattle.apollo.specs.Frame.{round}
+use Rattle.apollo.specs.Branch.{storeAll}
 use Rattle.slices.specs.Copy.{copied}
-use Rattle.log.specs.Slots.{storeAt, storeEach}
+use Rattle.log.specs.Slots.{Slotted}
 use Rattle.log.proofs.Frames.{rest, rest-next, rest-end, frame-part}
 
 -- a log whose slots above round r are zeroed in place, and one that has none
@@ -37,25 +37,8 @@ unfolding copied
 copied-whole out x e = rw (e, take-length x, drop-of-length-le out (le-of-eq e), append-nil)
 
 module _ (log x : List ℕ) (r : ℕ) where
-  pub store-zero : r ≡ 0 → log ≡ storeAt log r x
-  unfolding storeAt
-  store-zero e = rw e
-
-  pub store-past : 1 ≤ r → length log < 512 * r → log ≡ storeAt log r x
-  unfolding storeAt
-  store-past g h = rw (le-leb 1 r g, lt-leb r (length log / 512) (omega arith))
-
-  pub store-cut : 1 ≤ r → 512 * r ≤ length log → (length x ≡ 512 → ⊥) → log ≡ storeAt log r x
-  unfolding storeAt
-  store-cut g h n = rw (le-leb 1 r g, le-leb r (length log / 512) (omega arith), ne-eqb (length x) 512 n)
-
-  -- in range it is the definition's store
-  pub store-fits : 1 ≤ r → 512 * r ≤ length log → length x ≡ 512 → storeAt log r x ≡ store log r x
-  unfolding storeAt
-  store-fits g h l = rw (le-leb 1 r g, le-leb r (length log / 512) (omega arith), eq-eqb (length x) 512 l)
-
   pub stored : (y : List ℕ) → 1 ≤ r → 512 * r ≤ length log → length x ≡ 512
-      → y ≡ copied (take (512 * r - (512 * r - 512)) (drop (512 * r - 512) log)) x → putMid (512 * r - 512) (512 * r - (512 * r - 512)) log y ≡ storeAt log r x
+      → y ≡ copied (take (512 * r - (512 * r - 512)) (drop (512 * r - 512) log)) x → putMid (512 * r - 512) (512 * r - (512 * r - 512)) log y ≡ store log r x
   unfolding store
   stored y g h l e =
       let q : length (take (512 * r - (512 * r - 512)) (drop (512 * r - 512) log)) ≡ length x =
@@ -64,15 +47,29 @@ module _ (log x : List ℕ) (r : ℕ) where
       let a : 512 * r - (512 * r - 512) ≡ 512 = omega arith in
       let b : 512 * (r - 1) ≡ 512 * r - 512 = omega arith in
       let d : 512 * r - 512 + 512 ≡ 512 * r = omega arith in
-      rw (store-fits g h l, f, a, b, drop-drop 512 (512 * r - 512) log, d)
+      rw (f, a, b, drop-drop 512 (512 * r - 512) log, d)
 
 -- the frames stored one at a time
 pub each-more : (log y b goal : List ℕ) (n i : ℕ) → i < n
-    → y ≡ storeAt log (round (take (512 * i + 512 - 512 * i) (drop (512 * i) b))) (take (512 * i + 512 - 512 * i) (drop (512 * i) b))
-    → storeEach log (rest b n i) ≡ goal → storeEach y (rest b n (i + 1)) ≡ goal
-unfolding storeEach
+    → y ≡ store log (round (take (512 * i + 512 - 512 * i) (drop (512 * i) b))) (take (512 * i + 512 - 512 * i) (drop (512 * i) b))
+    → storeAll log (rest b n i) ≡ goal → storeAll y (rest b n (i + 1)) ≡ goal
+unfolding storeAll
 each-more log y b goal n i h d e = rw (d, frame-part b (512 * i)) (rw (rest-next b n i h) at e)
 
-pub each-end : (log b goal : List ℕ) (n i : ℕ) → n ≤ i → storeEach log (rest b n i) ≡ goal → log ≡ goal
-unfolding storeEach
+pub each-end : (log b goal : List ℕ) (n i : ℕ) → n ≤ i → storeAll log (rest b n i) ≡ goal → log ≡ goal
+unfolding storeAll
 each-end log b goal n i h e = rw (rest-end b n i h) at e
+
+-- the slot of the next frame, and of those after it
+pub slotted-next : (size : ℕ) (b : List ℕ) (n i : ℕ) → i < n → Slotted size (rest b n i)
+    → (1 ≤ round (part b (512 * i) 512)) × (512 * round (part b (512 * i) 512) ≤ size) × Slotted size (rest b n (i + 1))
+unfolding Slotted
+slotted-next size b n i h s = rw (rest-next b n i h) at s
+
+pub next-slot : (size : ℕ) (b : List ℕ) (n i : ℕ) → i < n → 512 * n ≤ length b → Slotted size (rest b n i)
+    → (1 ≤ round (take (512 * i + 512 - 512 * i) (drop (512 * i) b)))
+    × (512 * round (take (512 * i + 512 - 512 * i) (drop (512 * i) b)) ≤ size)
+    × (length (take (512 * i + 512 - 512 * i) (drop (512 * i) b)) ≡ 512)
+next-slot size b n i h g s =
+    let p = slotted-next size b n i h s in
+    rw (frame-part b (512 * i)) (p .0, p .1, simp (length-take, length-drop) (omega arith))

@@ -1,9 +1,11 @@
-// The log (book) of a replica: slots stored, zeroed and read, and the highest filled. Every function takes slices of any length
-// and any numbers.
+// The log (book) of a replica: slots stored, zeroed and read, and the highest filled.
 ghost use mathlib.Core.Path.{_≡_};
+ghost use Prim.Native.Nat.{_*_, _≤_};
+ghost use lib.ListN.{length};
 ghost use Rattle.apollo.specs.Frame as Frame;
 ghost use Rattle.apollo.specs.Log as Log;
-ghost use Rattle.log.specs.Slots.{slotPart, storeAt, framesOf, storeEach, taken};
+ghost use Rattle.apollo.specs.Branch as Branch;
+ghost use Rattle.log.specs.Slots.{slotPart, framesOf, Slotted};
 
 // The slots above round r are zeroed.
 fn clear_above(log: &mut [u8], r: u32)
@@ -17,25 +19,18 @@ fn clear_above(log: &mut [u8], r: u32)
 
 // Frame x is stored in slot r.
 pub fn store(log: &mut [u8], r: u32, x: &[u8])
-    ensures { λ _. ⌜ now (log .exit) ≡ storeAt (now (log .entry)) r (now (x .entry)) ⌝ }
+    requires { ⌜ (1 ≤ r) × (512 * r ≤ length (now log)) × (length (now x) ≡ 512) ⌝ }
+    ensures { λ _. ⌜ now (log .exit) ≡ Log.store (now (log .entry)) r (now (x .entry)) ⌝ }
 {
     let e = 512 * (r as usize);
-    if r == 0 {
-        return;
-    }
-    if log.len() < e {
-        return;
-    }
-    if x.len() != 512 {
-        return;
-    }
     let a = e - 512;
     slices::copy(&mut log[a..e], x);
 }
 
 // Frame x is stored in the slot of its round.
 fn store_frame(log: &mut [u8], x: &[u8])
-    ensures { λ _. ⌜ now (log .exit) ≡ storeAt (now (log .entry)) (Frame.round (now (x .entry))) (now (x .entry)) ⌝ }
+    requires { ⌜ (1 ≤ Frame.round (now x)) × (512 * Frame.round (now x) ≤ length (now log)) × (length (now x) ≡ 512) ⌝ }
+    ensures { λ _. ⌜ now (log .exit) ≡ Log.store (now (log .entry)) (Frame.round (now (x .entry))) (now (x .entry)) ⌝ }
 {
     let r = frame::round(x);
     store(log, r, x);
@@ -43,7 +38,8 @@ fn store_frame(log: &mut [u8], x: &[u8])
 
 // Each whole frame is stored in the slot of its round.
 fn store_each(log: &mut [u8], frames: &[u8])
-    ensures { λ _. ⌜ now (log .exit) ≡ storeEach (now (log .entry)) (framesOf (now (frames .entry))) ⌝ }
+    requires { ⌜ Slotted (length (now log)) (framesOf (now frames)) ⌝ }
+    ensures { λ _. ⌜ now (log .exit) ≡ Branch.storeAll (now (log .entry)) (framesOf (now (frames .entry))) ⌝ }
 {
     let n = frames.len() / 512;
     let mut i = 0;
@@ -57,7 +53,8 @@ fn store_each(log: &mut [u8], frames: &[u8])
 
 // The frames are taken on round a.
 pub fn take_branch(log: &mut [u8], a: u32, frames: &[u8])
-    ensures { λ _. ⌜ now (log .exit) ≡ taken (now (log .entry)) a (framesOf (now (frames .entry))) ⌝ }
+    requires { ⌜ Slotted (length (now log)) (framesOf (now frames)) ⌝ }
+    ensures { λ _. ⌜ now (log .exit) ≡ Branch.grown (now (log .entry)) a (framesOf (now (frames .entry))) ⌝ }
 {
     clear_above(log, a);
     store_each(log, frames);

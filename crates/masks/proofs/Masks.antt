@@ -10,11 +10,9 @@ use lib.Count.{ones}
 use lib.Dec.{eqb, leb}
 use lib.ListN.{length, getD, set}
 use lib.Seq.{set-out}
-use borrow.Author.Tests.{lt-ltb, le-ltb}
-use Rattle.apollo.specs.Masks.{bit, setBit, mask, certified}
+use Rattle.apollo.specs.Masks.{bit, setBit, mask, addBlame, certified}
 use Rattle.apollo.proofs.Masks.{ones-count, or-set, bit-shift}
 use Rattle.apollo.specs.Setup.{setup}
-use Rattle.masks.specs.Masks.{addBlame16}
 
 -- 2 ^ n in a word of 2 ^ w
 pub one-bit : (w n : ℕ) → n < w → 1 * 2 ^ n % 2 ^ w ≡ 2 ^ n
@@ -46,13 +44,10 @@ bit-high masks r i m e h g =
     let z : m / 2 ^ i ≡ 0 = div-eq-of-lt (below-pow m i h g) in
     rw (← e, bit-shift i m, z)
 
+-- the or with 2 ^ i in the round's place
 module _ (masks : List ℕ) (r i k : ℕ) (e : k ≡ r - 1) where
-  -- the or with 2 ^ i in the round's place
-  pub blame-added : i < 16 → set masks k (bitOr (getD masks k 0) (1 * 2 ^ i % 2 ^ 16)) ≡ addBlame16 masks r i
-  blame-added h = rw (one-bit 16 i h, or-set i (getD masks k 0), lt-ltb i 16 h, e)
+  pub blame-added : i < 16 → set masks k (bitOr (getD masks k 0) (1 * 2 ^ i % 2 ^ 16)) ≡ addBlame masks r i
+  blame-added h = rw (one-bit 16 i h, or-set i (getD masks k 0), e)
 
-  pub blame-past : i < 16 → length masks ≤ k → masks ≡ addBlame16 masks r i
-  blame-past h g = rw (lt-ltb i 16 h, ← e) (sym (set-out masks k (setBit i (getD masks k 0)) g))
-
-pub blame-high : (masks : List ℕ) (r i : ℕ) → 16 ≤ i → masks ≡ addBlame16 masks r i
-blame-high masks r i h = rw (le-ltb i 16 h)
+  pub blame-past : length masks ≤ k → masks ≡ addBlame masks r i
+  blame-past g = rw (← e) (sym (set-out masks k (setBit i (getD masks k 0)) g))

@@ -1,10 +1,8 @@
-// The blame masks of a replica: certified (shown) rounds, and blames added. Every function takes masks of any length and any
-// numbers.
+// The blame masks of a replica: certified (shown) rounds, and blames added. A blame is added for a replica that has a bit.
 ghost use mathlib.Core.Path.{_≡_};
-ghost use Prim.Native.Nat.{ℕ, _%_, _^_};
+ghost use Prim.Native.Nat.{ℕ, _%_, _^_, _<_};
 ghost use Rattle.apollo.specs.Masks as Masks;
 ghost use Rattle.apollo.specs.Setup.{setup};
-ghost use Rattle.masks.specs.Masks.{addBlame16};
 
 // The mask of round r, 0 past the end.
 fn mask(masks: &[u16], r: u32) -> u16
@@ -41,12 +39,11 @@ pub fn has_blame(masks: &[u16], r: u32, i: u8) -> bool
 
 // Replica i's blame for round r is added.
 pub fn add_blame(masks: &mut [u16], r: u32, i: u8)
-    ensures { λ _. ⌜ now (masks .exit) ≡ addBlame16 (now (masks .entry)) r i ⌝ }
+    requires { ⌜ i < 16 ⌝ }
+    ensures { λ _. ⌜ now (masks .exit) ≡ Masks.addBlame (now (masks .entry)) r i ⌝ }
 {
     let k = frame::previous(r) as usize;
-    if i < 16 {
-        if k < masks.len() {
-            masks[k] = masks[k] | (1u16 << i);
-        }
+    if k < masks.len() {
+        masks[k] = masks[k] | (1u16 << i);
     }
 }

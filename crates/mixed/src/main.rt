@@ -274,10 +274,21 @@ fn clear(l: Task, i: usize, logs: &mut Logs, masks: &mut Masks)
     masks[i] = [0u16; 9];
 }
 
+// Frame x goes into slot r, where there is such a slot and x is a whole frame.
+fn put(log: &mut [u8], r: u32, x: &[u8]) {
+    if 0 < r {
+        if 512 * (r as usize) <= log.len() {
+            if x.len() == 512 {
+                log::store(log, r, x);
+            }
+        }
+    }
+}
+
 // `s`
 fn store(l: Task, log: &mut [u8; 4608], bytes: &[u8; 8704]) {
     let s = l.sizes;
-    log::store(log, (s[5] % 10) as u32, slices::part(bytes, 0, 512));
+    put(log, (s[5] % 10) as u32, slices::part(bytes, 0, 512));
 }
 
 // `m`

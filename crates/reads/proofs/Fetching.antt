@@ -10,7 +10,6 @@ use Rattle.apollo.specs.declared.Replica.{Replica}
 use Rattle.apollo.specs.declared.Fetched.{Fetched}
 use Rattle.apollo.specs.Replica.{validReplica}
 use Rattle.apollo.specs.Fetch.{fetchable, mayCopy, fetchCall}
-use Rattle.heights.specs.Fetch.{tall}
 use Rattle.apollo.proofs.Validity.{valid}
 use Rattle.reads.specs.Answers.{noFrames, fetched}
 
@@ -34,38 +33,28 @@ module _ (r : Replica) (log : List ℕ) (h : ℕ) (out : List ℕ) where
       fetch-short a i s = refused a 4 out i (λ z. omega arith) (rw (← e, t, lt-ltb (length out) 1024 s))
 
       -- a log of T slots has all rounds up to T
-      tall-all : tall log h (r .«last_round» .0) ≡ fetchable r log h
-      unfolding tall
-      tall-all =
-          let w : length log ≡ 512 * r .«last_round» .0 = valid r log (sym e ∙ t) .setup .size in
-          let n : min (r .«last_round» .0) (length log / 512) ≡ r .«last_round» .0 = omega arith in
-          rw n
+      pub last-fits : 512 * r .«last_round» .0 ≤ length log
+      last-fits = omega (arith, valid r log (sym e ∙ t) .setup .size)
 
       module _ (wide : 1024 ≤ length out) (k : ℕ) (after : List ℕ)
-          (d : k ≡ min (length (tall log h (r .«last_round» .0))) (length out / 512))
-          (c : after ≡ flatten (take k (tall log h (r .«last_round» .0))) ++ drop (512 * k) out) where
-        count-is : k ≡ min (length (fetchable r log h)) (length out / 512)
-        count-is = rw tall-all at d
-
+          (d : k ≡ min (length (fetchable r log h)) (length out / 512))
+          (c : after ≡ flatten (take k (fetchable r log h)) ++ drop (512 * k) out) where
         pub fetch-absent : (a : Fetched) → a ≡ noFrames 15 → k ≡ 0 → Answers a after
         unfolding fetchCall flatten
         fetch-absent a i z =
-            let m : k ≡ min (length (fetchable r log h)) (length out / 512) = count-is in
             let w : after ≡ out = rw z at c in
             refused a 15 after i (λ z. omega arith)
             (rw (← e, t, le-ltb (length out) 1024 wide, eq-eqb (length (fetchable r log h)) 0 (omega arith), w))
 
         pub fetch-copied : (k ≡ 0 → ⊥) → Answers (record { number = 0; count = k }) after
         unfolding fetchCall mayCopy
-        fetch-copied n =
-            let m : k ≡ min (length (fetchable r log h)) (length out / 512) = count-is in (
-              rw (
-                ← e,
-                t,
-                le-ltb (length out) 1024 wide,
-                ne-eqb (length (fetchable r log h)) 0 (λ (z : length (fetchable r log h) ≡ 0). n (omega arith)),
-                c,
-                tall-all,
-              ),
-              λ z. rw (le-leb 1 k (omega arith)) (le-leb k (min (length (fetchable r log h)) (length out / 512)) (omega arith)),
-            )
+        fetch-copied n = (
+          rw (
+            ← e,
+            t,
+            le-ltb (length out) 1024 wide,
+            ne-eqb (length (fetchable r log h)) 0 (λ (z : length (fetchable r log h) ≡ 0). n (omega arith)),
+            c,
+          ),
+          λ z. rw (le-leb 1 k (omega arith)) (le-leb k (min (length (fetchable r log h)) (length out / 512)) (omega arith)),
+        )

@@ -2,7 +2,7 @@
 use mathlib.Core.Path.{_≡_, refl, sym, _∙_}
 use mathlib.Core.Bool.{Bool, true, false, not, cond}
 use mathlib.Core.List.{List}
-use Prim.Native.Nat.{ℕ, _+_, _-_, _*_, _/_, _<_, min}
+use Prim.Native.Nat.{ℕ, _+_, _-_, _*_, _≤_, _<_}
 use native.Mathlib.Omega.{arith}
 use lib.Dec.{eqb}
 use lib.ListN.{length}
@@ -17,7 +17,6 @@ use Rattle.apollo.specs.Read.{ReadOutcome, partOf, lowest, readCall}
 use Rattle.apollo.proofs.Validity.{Valid, valid}
 use Rattle.log.specs.Slots.{slotPart}
 use Rattle.log.proofs.Search.{slot-part}
-use Rattle.heights.specs.Read.{lowestWhole}
 use Rattle.reads.specs.Answers.{noPart, entryPart}
 
 pub entry-found : (log x : List ℕ) (r l : ℕ) → 0 < r → x ≡ slotPart log r → l ≡ entryLength x
@@ -29,16 +28,13 @@ module _ (r : Replica) (log : List ℕ) (h : ℕ) (v : Bool) (e : v ≡ validRep
   unfolding readCall
   read-invalid f = rw (← e, f)
 
-  module _ (t : v ≡ true) (q : ℕ) (g : q ≡ lowestWhole log h (r .«committed_round» .0)) where
-    -- a log of T slots has all rounds up to the committed one
-    d : q ≡ lowest log h 0 (r .«committed_round» .0)
-    unfolding lowestWhole
-    d =
-        let w : Valid r log = valid r log (sym e ∙ t) in
-        let n : min (r .«committed_round» .0) (length log / 512) ≡ r .«committed_round» .0 =
-        omega (arith, w .setup .size, w .round-most, w .tip-below, w .committed-most) in
-        rw n at g
+  -- a log of T slots has all rounds up to the committed one
+  pub committed-fits : v ≡ true → 512 * r .«committed_round» .0 ≤ length log
+  committed-fits t =
+      let w : Valid r log = valid r log (sym e ∙ t) in
+      omega (arith, w .setup .size, w .round-most, w .tip-below, w .committed-most)
 
+  module _ (t : v ≡ true) (q : ℕ) (d : q ≡ lowest log h 0 (r .«committed_round» .0)) where
     pub read-absent : q ≡ 0 → noPart 15 ≡ readCall r log h .answer
     unfolding readCall
     read-absent z = rw (← e, t, ← d, eq-eqb q 0 z)

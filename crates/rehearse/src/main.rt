@@ -33,12 +33,23 @@ struct Table {
     is_over: bool,
 }
 
+// Frame x goes into slot r, where there is such a slot and x is a whole frame.
+fn put(log: &mut [u8], r: u32, x: &[u8]) {
+    if 0 < r {
+        if 512 * (r as usize) <= log.len() {
+            if x.len() == 512 {
+                log::store(log, r, x);
+            }
+        }
+    }
+}
+
 // The frames emitted in a call are put behind those sent. There is room for all: a replica emits at most a
 // blame and a block for each of the 6 rounds, which makes 36 frames. What is put past the count is never read.
 fn send(t: Table, out: &[u8; 1024], sent: &mut [u8; 18432]) {
     let k = std::num::wrapping_add_u32(t.sent, 1);
-    log::store(sent, k, slices::part(out, 0, 512));
-    log::store(
+    put(sent, k, slices::part(out, 0, 512));
+    put(
         sent,
         std::num::wrapping_add_u32(k, 1),
         slices::part(out, 512, 512),

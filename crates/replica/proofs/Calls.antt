@@ -2,7 +2,7 @@
 use mathlib.Core.Path.{_≡_, refl, sym, ap, ap₂, _∙_}
 use mathlib.Core.Bool.{Bool, true, false, cond}
 use mathlib.Core.List.{List, [], _∷_, _++_, flatten, append-assoc, append-nil}
-use Prim.Native.Nat.{ℕ, suc, _+_, _-_, _*_, _≤_}
+use Prim.Native.Nat.{ℕ, suc, _+_, _-_, _*_, _≤_, _<_}
 use native.Mathlib.Numerals.{add-one}
 use native.Mathlib.Omega.{arith}
 use lib.Dec.{eqb}
@@ -20,27 +20,24 @@ use Rattle.apollo.specs.Replica.{withTimer, fresh, zeroReplica}
 use Rattle.apollo.specs.Enter.{State, Effect, commit, tipped, waiting, hearing, holding, enterRound, settle}
 use Rattle.apollo.specs.Outcome.{Outcome, nextLeader, refused, taken}
 use Rattle.apollo.specs.Open.{openWith}
-use Rattle.apollo.specs.Branch.{branchWith}
+use Rattle.apollo.specs.Branch.{grown, branchWith}
 use Rattle.apollo.specs.Blame.{blameWith}
 use Rattle.apollo.specs.Tick.{blaming, ticked, tickWith}
-use Rattle.writing.specs.Put.{putBlame}
 use Rattle.apollo.proofs.Slots.{length-zeros}
 use Rattle.forms.proofs.Facts.{BlockFields}
-use Rattle.writing.proofs.Make.{length-blame, put-blame-fits}
-use Rattle.log.specs.Slots as Slots
+use Rattle.writing.proofs.Make.{length-blame}
+use Rattle.log.specs.Slots.{Slotted}
 use Rattle.branch.specs.declared.Judged.{Judged}
 use Rattle.branch.specs.Frames.{framesOf, lastFrame}
 use Rattle.branch.specs.Judge.{adopted, answered}
-use Rattle.branch.proofs.Last.{last-block}
+use Rattle.branch.proofs.Last.{branch-sound}
 use Rattle.refusals.specs.Number.{openNumber, guardNumber, blameNumber}
 use Rattle.refusals.specs.Branch.{guardedBranch}
 use Rattle.refusals.proofs.Passed.{Opened, Passed, opened, passed, blame-passed, branch-passed}
 use Rattle.refusals.proofs.Answer.{by-number, open-by, guarded-by, blame-by, branch-by}
-use Rattle.tip.specs.Tip.{tippedAt}
 use Rattle.tip.specs.Ready.{Ready}
-use Rattle.tip.proofs.Fits.{tipped-fits}
-use Rattle.rounds.specs.Rounds.{told, enteredAt, heardAt}
-use Rattle.rounds.proofs.Fits.{told-none, entered-fits, heard-fits, heard-few}
+use Rattle.rounds.specs.Rounds.{told}
+use Rattle.rounds.proofs.Few.{settle-few}
 use Rattle.replica.specs.Call.{state, outcome, refusedAnswer}
 
 -- an answer with one more frame
@@ -105,7 +102,7 @@ module _ (id f timeout last : ℕ) (log masks entry out : List ℕ) (r : Replica
     log-is : log′ ≡ zeros (512 * last)
     log-is = el ∙ ap zeros (passed-open .valid .size ∙ ap (λ (k : ℕ). 512 * k) last-is)
 
-    open-ready : Ready r log′ entry out
+    pub open-ready : Ready r log′ entry out
     unfolding fresh
     open-ready =
         let g : Opened r log masks (length entry) (length out) = passed-open in
@@ -124,11 +121,11 @@ module _ (id f timeout last : ℕ) (log masks entry out : List ℕ) (r : Replica
         }
 
     pub open-taken : (masks′ : List ℕ) (o : Outcome) → masks′ ≡ zeros (length masks)
-        → o ≡ enteredAt entry out (state r log′ masks′)
+        → o ≡ taken (enterRound sha256 entry (state r log′ masks′)) out
         → o ≡ openWith sha256 id f timeout last log masks entry out
     open-taken masks′ o em h =
         let m : masks′ ≡ zeros last = em ∙ ap zeros (passed-open .masks-size ∙ last-is) in
-        rw (m, log-is, er) at (h ∙ entered-fits entry out r log′ open-ready masks′)
+        rw (m, log-is, er) at h
         ∙ taken-by (state zeroReplica log masks) out _ _ n number-is z
         ∙ sym (open-by id f timeout last log masks entry out)
 
@@ -154,45 +151,42 @@ module _ (r : Replica) (log masks entry out : List ℕ) where
     unfolding answered refused
     branch-refused a h ea = rw (branch-by (state r log masks) entry out x, ← ej, ne-eqb (j .number) 0 h, ea)
 
-    module _ (z : j .number ≡ 0) (log′ : List ℕ) (q : Replica)
-        (p : (log′ ≡ Slots.taken log (j .attach) (framesOf x)) × (q ≡ tippedAt r log′ (round (lastFrame x)) (height (lastFrame x)))) where
-      branch-facts : Passed r log (length entry) (length out) × BlockFields (setupOf r) (lastFrame x)
+    module _ (z : j .number ≡ 0) where
+      branch-facts : Passed r log (length entry) (length out) × Slotted (512 * r .«last_round» .0) (framesOf x) × BlockFields (setupOf r) (lastFrame x)
       branch-facts =
           let w = branch-passed r log masks (length entry) (length out) x (ap (λ (i : Judged). i .number) (sym ej) ∙ z) in
-          (w .0, last-block r log masks x (w .1))
+          let b = branch-sound r log masks x (w .1) in
+          (w .0, b .0, b .1)
 
-      tip-is : q ≡ tipped r log′ (round (lastFrame x)) (height (lastFrame x))
-      tip-is =
+      -- what adopting asks for
+      pub adopt-asks : Slotted (length log) (framesOf x) × (round (lastFrame x) ≤ 4096)
+      adopt-asks =
           let w = branch-facts in
-          p .1
-          ∙ tipped-fits r log′ (round (lastFrame x)) (height (lastFrame x))
-          (omega (arith, w .1 .round-high, w .0 .valid .setup .last-most))
+          (rw (w .0 .valid .setup .size) (w .1), omega (arith, w .2 .round-high, w .0 .valid .setup .last-most))
 
-      adopt-ready : length log′ ≡ length log → Ready q log′ entry out
-      unfolding tipped commit
-      adopt-ready l =
-          let w = branch-facts in
-          let v = w .0 .valid .setup in
-          rw tip-is
-          (record {
-            f-most = v .f-most;
-            last-most = v .last-most;
-            size = l ∙ v .size;
-            round-most = omega (arith, w .1 .round-high);
-            tip-below = omega arith;
-            tip-height = w .1 .height-high;
-            out-least = omega (arith, w .0 .out-least);
-            entry-most = w .0 .entry-most;
-          })
+      module _ (log′ : List ℕ) (q : Replica)
+          (p : (m : List ℕ) → state q log′ m ≡ holding (state r log m) (grown log (j .attach) (framesOf x)) (round (lastFrame x)) (height (lastFrame x))) where
+        pub adopt-ready : length log′ ≡ length log → Ready q log′ entry out
+        unfolding holding tipped commit
+        adopt-ready l =
+            let w = branch-facts in
+            let v = w .0 .valid .setup in
+            rw (ap (λ (s : State). s .replica) (p masks))
+            (record {
+              f-most = v .f-most;
+              last-most = v .last-most;
+              size = l ∙ v .size;
+              round-most = omega (arith, w .2 .round-high);
+              tip-below = omega arith;
+              tip-height = w .2 .height-high;
+              out-least = omega (arith, w .0 .out-least);
+              entry-most = w .0 .entry-most;
+            })
 
-      pub branch-taken : length log′ ≡ length log → (o : Outcome) → o ≡ enteredAt entry out (state q log′ masks)
-          → o ≡ branchWith sha256 (state r log masks) x entry out
-      unfolding answered adopted holding
-      branch-taken l o e =
-          let h : state q log′ masks ≡ holding (state r log masks) (Slots.taken log (j .attach) (framesOf x)) (round (lastFrame x)) (height (lastFrame x)) =
-          rw (tip-is, p .0) in
-          rw (branch-by (state r log masks) entry out x, ← ej, eq-eqb (j .number) 0 z)
-          (e ∙ entered-fits entry out q log′ (adopt-ready l) masks ∙ ap (λ (s : State). taken (enterRound sha256 entry s) out) h)
+        pub branch-taken : (o : Outcome) → o ≡ taken (enterRound sha256 entry (state q log′ masks)) out
+            → o ≡ branchWith sha256 (state r log masks) x entry out
+        unfolding answered adopted
+        branch-taken o e = rw (branch-by (state r log masks) entry out x, ← ej, eq-eqb (j .number) 0 z) (rw (p masks) at e)
 
   -- blame
   module _ (x : List ℕ) (n : ℕ) (en : n ≡ blameNumber r log masks x (length entry) (length out)) where
@@ -200,27 +194,29 @@ module _ (r : Replica) (log masks entry out : List ℕ) where
         → outcome a log masks out ≡ blameWith sha256 (state r log masks) x entry out
     blame-refused a h ea = refused-by (state r log masks) out _ _ n en a h ea ∙ sym (blame-by (state r log masks) entry out x)
 
-    pub blame-taken : (k i : ℕ) (o : Outcome) → n ≡ 0 → k ≡ round x → i ≡ signer x
-        → o ≡ heardAt entry out (state r log masks) k i → o ≡ blameWith sha256 (state r log masks) x entry out
-    blame-taken k i o z ek ei e =
+    -- what hearing asks for
+    pub blame-asks : (i : ℕ) → n ≡ 0 → i ≡ signer x → Ready r log entry out × (r .round .0 ≤ r .«last_round» .0) × (i < 16)
+    blame-asks i z ei =
         let p = blame-passed r log masks (length entry) (length out) x (sym en ∙ z) in
-        rw (ek, ei) at e
-        ∙ heard-fits entry out r log (passed-ready (p .0) (r .timer .0) out (omega (arith, p .0 .out-least))) (p .0 .round-last) masks (round x) (signer x) (p .1)
-        ∙ taken-by (state r log masks) out _ _ n en z
-        ∙ sym (blame-by (state r log masks) entry out x)
+        (passed-ready (p .0) (r .timer .0) out (omega (arith, p .0 .out-least)), p .0 .round-last, rw ei (p .1))
+
+    pub blame-taken : (k i : ℕ) (o : Outcome) → n ≡ 0 → k ≡ round x → i ≡ signer x
+        → o ≡ taken (settle sha256 entry (hearing (state r log masks) k i) k) out → o ≡ blameWith sha256 (state r log masks) x entry out
+    blame-taken k i o z ek ei e =
+        rw (ek, ei) at e ∙ taken-by (state r log masks) out _ _ n en z ∙ sym (blame-by (state r log masks) entry out x)
 
   -- tick
-  counted : r .f ≤ 7 → (r .timer .0 ≡ 1 → ⊥) → (b : Bool) → eqb (r .timer .0) 0 ≡ b
+  counted : (r .timer .0 ≡ 1 → ⊥) → (b : Bool) → eqb (r .timer .0) 0 ≡ b
       → outcome (told (withTimer r (r .timer .0 - 1)) 0) log masks out
       ≡ taken (cond b (record { state = state r log masks; emitted = [] })
       (cond (eqb (r .timer .0) 1) (blaming sha256 entry (state r log masks))
       (record { state = waiting (state r log masks) (r .round .0) (r .timer .0 - 1); emitted = [] }))) out
-  unfolding waiting
-  counted l k true e =
+  unfolding waiting taken flatten
+  counted k true e =
       let z : r .timer .0 ≡ 0 = eqb-true (r .timer .0) 0 e in
       let d : r .timer .0 - 1 ≡ r .timer .0 = omega arith in
-      rw d (told-none entry out (state r log masks) l)
-  counted l k false e = rw (ne-eqb (r .timer .0) 1 k) (told-none entry out (state (withTimer r (r .timer .0 - 1)) log masks) l)
+      rw d
+  counted k false e = rw (ne-eqb (r .timer .0) 1 k)
 
   module _ (n : ℕ) (en : n ≡ guardNumber r log masks (length entry) (length out)) where
     pub tick-refused : (a : Answer) → (n ≡ 0 → ⊥) → a ≡ refusedAnswer r n 0
@@ -229,7 +225,7 @@ module _ (r : Replica) (log masks entry out : List ℕ) where
     tick-refused a h ea = refused-by (state r log masks) out _ _ n en a h ea ∙ sym (guarded-by (state r log masks) entry out _)
 
     module _ (z : n ≡ 0) where
-      tick-passed : Passed r log (length entry) (length out)
+      pub tick-passed : Passed r log (length entry) (length out)
       tick-passed = passed r log masks (length entry) (length out) (sym en ∙ z)
 
       tick-effect : (o : Outcome) → o ≡ taken (ticked sha256 entry (state r log masks)) out
@@ -242,41 +238,44 @@ module _ (r : Replica) (log masks entry out : List ℕ) where
       unfolding ticked
       tick-down a k ea =
           tick-effect (outcome a log masks out)
-          (ap (λ (x : Answer). outcome x log masks out) ea ∙ counted (tick-passed .valid .setup .f-most) k (eqb (r .timer .0) 0) refl)
-
-      pub tick-room : 1024 ≤ length out
-      tick-room = tick-passed .out-least
+          (ap (λ (x : Answer). outcome x log masks out) ea ∙ counted k (eqb (r .timer .0) 0) refl)
 
       -- ticks left reach 0: what is heard on the out buffer after the blame
-      pub tick-out : (out′ y log′ masks′ : List ℕ) (q : Replica) (a : Answer) → r .timer .0 ≡ 1
-          → out′ ≡ putBlame out (r .id) (r .round .0) → q ≡ withTimer r 0
-          → outcome a log′ masks′ y
-          ≡ heardAt entry (take (length out′ - 512) (drop 512 out′)) (state q log masks) (r .round .0) (r .id)
-          → outcome (more a) log′ masks′ (putMid 512 (length out′ - 512) out′ y)
-          ≡ tickWith sha256 (state r log masks) entry out
-      unfolding ticked blaming waiting
-      tick-out out′ y log′ masks′ q a t eo eq h =
-          let v = tick-passed .valid .setup in
-          let R : ℕ = r .round .0 in
-          let B : List ℕ = makeBlame sha256 (r .id) R in
-          let s : State = waiting (state r log masks) R 0 in
-          let w : List ℕ = drop 512 out in
-          let o : out′ ≡ B ++ w = eo ∙ put-blame-fits out (r .id) R (omega (arith, tick-room)) in
-          let f : take 512 out′ ≡ B = ap (take 512) o ∙ take-at B w 512 (length-blame (r .id) R) in
-          let l : length (drop 512 out′) ≤ length out′ - 512 = rw length-drop (omega arith) in
-          let d : take (length out′ - 512) (drop 512 out′) ≡ w =
-          take-all (length out′ - 512) (drop 512 out′) l ∙ ap (drop 512) o ∙ drop-at B w 512 (length-blame (r .id) R) in
-          let p : putMid 512 (length out′ - 512) out′ y ≡ B ++ y = rw (f, drop-of-length-le (drop 512 out′) l, append-nil) in
-          let e : outcome a log′ masks′ y ≡ taken (settle sha256 entry (hearing s R (r .id)) R) w =
-          h ∙ ap₂ (λ (x : Replica) (u : List ℕ). heardAt entry u (state x log masks) R (r .id)) eq d
-          ∙ heard-fits entry w (withTimer r 0) log (passed-ready tick-passed 0 w (rw length-drop (omega (arith, tick-room)))) (tick-passed .round-last) masks R (r .id) (omega arith) in
-          tick-effect (outcome (more a) log′ masks′ (putMid 512 (length out′ - 512) out′ y))
-          (rw (ne-eqb (r .timer .0) 0 (omega arith), eq-eqb (r .timer .0) 1 t)
-          (ap (outcome (more a) log′ masks′) p ∙ taken-more B out log′ masks′ y (settle sha256 entry (hearing s R (r .id)) R) a e))
+      module _ (out′ : List ℕ) (eo : out′ ≡ makeBlame sha256 (r .id) (r .round .0) ++ drop 512 out) where
+        after-blame : take (length out′ - 512) (drop 512 out′) ≡ drop 512 out
+        after-blame =
+            let l : length (drop 512 out′) ≤ length out′ - 512 = rw length-drop (omega arith) in
+            take-all (length out′ - 512) (drop 512 out′) l ∙ ap (drop 512) eo ∙ drop-at (makeBlame sha256 (r .id) (r .round .0)) (drop 512 out) 512 (length-blame (r .id) (r .round .0))
+
+        pub tick-asks : (q : Replica) → q ≡ withTimer r 0
+            → Ready q log entry (take (length out′ - 512) (drop 512 out′)) × (q .round .0 ≤ q .«last_round» .0) × (r .id < 16)
+        tick-asks q eq =
+            let p = tick-passed in
+            rw (after-blame, eq)
+            (passed-ready p 0 (drop 512 out) (rw length-drop (omega (arith, p .out-least))), p .round-last, omega (arith, p .valid .setup .id-below, p .valid .setup .f-most))
+
+        pub tick-out : (y log′ masks′ : List ℕ) (q : Replica) (a : Answer) → r .timer .0 ≡ 1 → q ≡ withTimer r 0
+            → outcome a log′ masks′ y
+            ≡ taken (settle sha256 entry (hearing (state q log masks) (r .round .0) (r .id)) (r .round .0)) (take (length out′ - 512) (drop 512 out′))
+            → outcome (more a) log′ masks′ (putMid 512 (length out′ - 512) out′ y)
+            ≡ tickWith sha256 (state r log masks) entry out
+        unfolding ticked blaming waiting
+        tick-out y log′ masks′ q a t eq h =
+            let R : ℕ = r .round .0 in
+            let B : List ℕ = makeBlame sha256 (r .id) R in
+            let s : State = waiting (state r log masks) R 0 in
+            let f : take 512 out′ ≡ B = ap (take 512) eo ∙ take-at B (drop 512 out) 512 (length-blame (r .id) R) in
+            let l : length (drop 512 out′) ≤ length out′ - 512 = rw length-drop (omega arith) in
+            let p : putMid 512 (length out′ - 512) out′ y ≡ B ++ y = rw (f, drop-of-length-le (drop 512 out′) l, append-nil) in
+            let e : outcome a log′ masks′ y ≡ taken (settle sha256 entry (hearing s R (r .id)) R) (drop 512 out) = rw (eq, after-blame) at h in
+            tick-effect (outcome (more a) log′ masks′ (putMid 512 (length out′ - 512) out′ y))
+            (rw (ne-eqb (r .timer .0) 0 (omega arith), eq-eqb (r .timer .0) 1 t)
+            (ap (outcome (more a) log′ masks′) p ∙ taken-more B out log′ masks′ y (settle sha256 entry (hearing s R (r .id)) R) a e))
 
 -- a blame that is heard emits at most one frame
-pub frames-few : (entry out log masks y : List ℕ) (s : State) (k i : ℕ) (a : Answer)
-    → outcome a log masks y ≡ heardAt entry out s k i → a .frames ≤ 1
-frames-few entry out log masks y s k i a e =
-    let n : a .frames ≡ heardAt entry out s k i .answer .frames = ap (λ (o : Outcome). o .answer .frames) e in
-    omega (arith, heard-few entry out s k i)
+pub frames-few : (entry out log masks y : List ℕ) (s : State) (k : ℕ) (a : Answer)
+    → outcome a log masks y ≡ taken (settle sha256 entry s k) out → a .frames ≤ 1
+unfolding taken
+frames-few entry out log masks y s k a e =
+    let n : a .frames ≡ length (settle sha256 entry s k .emitted) = ap (λ (o : Outcome). o .answer .frames) e in
+    omega (arith, settle-few entry s k)

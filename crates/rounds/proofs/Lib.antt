@@ -1,2 +1,2 @@
 mod Steps
-pub mod Fits
+pub mod Few

@@ -1,31 +1,36 @@
-// What a replica does without being refused: it enters a round, hears a blame, or counts a tick down. Every public function takes
-// any record, and slices of any length and content; rounds are 32-bit words, whose sums wrap, and a leader is told in a byte.
+// What a replica does without being refused: it enters a round, hears a blame, or counts a tick down.
 use apollo::Answer;
 use apollo::Replica;
 ghost use mathlib.Core.Path.{_≡_};
 ghost use mathlib.Core.Bool.{_&&_};
 ghost use mathlib.Core.List.{List};
-ghost use Prim.Native.Nat.{ℕ, _-_, _%_, _^_};
+ghost use Prim.Native.Nat.{ℕ, _-_, _≤_, _<_};
 ghost use lib.Dec.{eqb};
+ghost use Rattle.sha256.specs.Fips.{sha256};
 ghost use Rattle.apollo.specs.Setup.{setupOf};
 ghost use Rattle.apollo.specs.Masks as Masks;
 ghost use Rattle.apollo.specs.Replica.{withTimer};
+ghost use Rattle.apollo.specs.Enter.{hearing, enterRound, settle};
+ghost use Rattle.apollo.specs.Outcome as Outcome;
 ghost use Rattle.apollo.specs.Outcome.{nextLeader};
-ghost use Rattle.rounds.specs.Rounds.{state, outcome, told, enteredAt, heardAt};
+ghost use Rattle.tip.specs.Ready.{Ready};
+ghost use Rattle.rounds.specs.Rounds.{state, outcome, told};
 
 // The leader of R, 255 when R = T + 1.
 fn next_leader(r: Replica) -> u8
-    ensures { λ l. ⌜ l ≡ nextLeader r % 2 ^ 8 ⌝ }
+    requires { ⌜ r .f ≤ 7 ⌝ }
+    ensures { λ l. ⌜ l ≡ nextLeader r ⌝ }
 {
     let round = r.round.0;
     if r.last_round.0 < round {
         return 255;
     }
-    (frame::leader(r.f, round) % 256) as u8
+    frame::leader(r.f, round) as u8
 }
 
 // Taken, with some frames emitted.
 fn taken(r: Replica, frames: u8) -> Answer
+    requires { ⌜ r .f ≤ 7 ⌝ }
     ensures { λ a. ⌜ a ≡ told r frames ⌝ }
 {
     let leader = next_leader(r);
@@ -40,7 +45,8 @@ fn taken(r: Replica, frames: u8) -> Answer
 
 // R is entered: proposed where this replica leads it, else waited for.
 pub fn enter_round(r: Replica, log: &mut [u8], entry: &[u8], out: &mut [u8]) -> Answer
-    ensures { λ a. ⌜ ((masks : List ℕ) → outcome a (now (log .exit)) masks (now (out .exit)) ≡ enteredAt (now (entry .entry)) (now (out .entry)) (state r (now (log .entry)) masks)) ⌝ }
+    requires { ⌜ Ready r (now log) (now entry) (now out) ⌝ }
+    ensures { λ a. ⌜ ((masks : List ℕ) → outcome a (now (log .exit)) masks (now (out .exit)) ≡ Outcome.taken (enterRound sha256 (now (entry .entry)) (state r (now (log .entry)) masks)) (now (out .entry))) ⌝ }
 {
     if ranges::leads(r) {
         return taken(tip::propose(r, log, entry, out), 1);
@@ -68,18 +74,19 @@ pub fn hear(
     entry: &[u8],
     out: &mut [u8],
 ) -> Answer
-    ensures { λ a. ⌜ outcome a (now (log .exit)) (now (masks .exit)) (now (out .exit)) ≡ heardAt (now (entry .entry)) (now (out .entry)) (state r (now (log .entry)) (now (masks .entry))) round signer ⌝ }
+    requires { ⌜ Ready r (now log) (now entry) (now out) × (r .round .0 ≤ r .«last_round» .0) × (signer < 16) ⌝ }
+    ensures { λ a. ⌜ outcome a (now (log .exit)) (now (masks .exit)) (now (out .exit)) ≡ Outcome.taken (settle sha256 (now (entry .entry)) (hearing (state r (now (log .entry)) (now (masks .entry))) round signer) round) (now (out .entry)) ⌝ }
 {
     masks::add_blame(masks, round, signer);
     if !certifies(r, masks, round) {
         return taken(r, 0);
     }
-    let next = std::num::wrapping_add_u32(round, 1);
-    enter_round(record::with_round(r, next), log, entry, out)
+    enter_round(record::with_round(r, round + 1), log, entry, out)
 }
 
 // Ticks left lowered by 1; nothing where they are 0.
 pub fn count_down(r: Replica) -> Answer
+    requires { ⌜ r .f ≤ 7 ⌝ }
     ensures { λ a. ⌜ a ≡ told (withTimer r (r .timer .0 - 1)) 0 ⌝ }
 {
     let timer = r.timer.0;

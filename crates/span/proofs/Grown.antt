@@ -1,5 +1,4 @@
--- The log that taking a branch makes: frame by frame as the code stores them, and which of the committed slots it keeps.
--- Both are the definition's for an ordered branch. Assumes nothing.
+-- The log that taking a branch makes: which of the committed slots it keeps, for an ordered branch. Assumes nothing.
 use mathlib.Core.Path.{_≡_, refl, sym, ap, ap₂, _∙_}
 use mathlib.Core.Bool.{Bool, true, false, _&&_, cond, and-true, and-assoc}
 use mathlib.Core.List.{List, [], _∷_, _++_, append-assoc}
@@ -16,10 +15,9 @@ use Rattle.apollo.specs.Log.{store, clearAbove}
 use Rattle.apollo.specs.Branch.{storeAll, grown}
 use Rattle.apollo.proofs.Tests.{same-refl}
 use Rattle.apollo.proofs.Slots.{length-zeros, length-store, length-clear}
-use Rattle.log.specs.Slots.{slotPart, storeEach, taken}
+use Rattle.log.specs.Slots.{slotPart}
 use Rattle.chain.specs.Ordered.{Ordered}
 use Rattle.span.specs.Keeps.{keepsFrame, keepsAll}
-use Rattle.log.proofs.Slots.{store-fits}
 use Rattle.slices.proofs.Blank.{blank-none}
 
 -- equality of lists: both ways round, and of two parts each
@@ -88,23 +86,12 @@ module _ (log : List ℕ) (r : ℕ) (x : List ℕ) (g : 1 ≤ r) (h : 512 * r �
       rw (← (append-assoc (take (512 * (r - 1)) log) x (drop (512 * r) log)))
       (drop-at (take (512 * (r - 1)) log ++ x) (drop (512 * r) log) (512 * r) front-length)
 
--- the frames stored where they fit are those stored by the definition
 pub ordered-le : (t lo : ℕ) (xs : List (List ℕ)) → Ordered t lo xs → lo ≤ t
 unfolding Ordered
 ordered-le t lo [] o = o
 ordered-le t lo (x ∷ xs) o =
     let r : round x ≤ t = ordered-le t (round x) xs (o .2) in
     omega (arith, o .1)
-
-each-all : (t lo : ℕ) (log : List ℕ) (xs : List (List ℕ)) → length log ≡ 512 * t → Ordered t lo xs → storeEach log xs ≡ storeAll log xs
-unfolding Ordered storeEach storeAll
-each-all t lo log [] l o = refl
-each-all t lo log (x ∷ xs) l o =
-    let r : round x ≤ t = ordered-le t (round x) xs (o .2) in
-    let g : 1 ≤ round x = omega (arith, o .1) in
-    let h : 512 * round x ≤ length log = omega arith in
-    rw (store-fits log x (round x) g h (o .0))
-    (each-all t (round x) (store log (round x) x) xs (length-store log (round x) x g h (o .0) ∙ l) (o .2))
 
 clear-high : (log : List ℕ) (a : ℕ) → 512 * a ≤ length log → drop (512 * a) (clearAbove log a) ≡ zeros (length log - 512 * a)
 unfolding clearAbove
@@ -115,12 +102,6 @@ unfolding clearAbove
 clear-low log a k h f =
     take-append-le k (take (512 * a) log) (zeros (length log - 512 * a)) (rw (length-take-le (512 * a) log h) f)
     ∙ take-take k (512 * a) log f
-
-pub taken-grown : (t a : ℕ) (log : List ℕ) (xs : List (List ℕ)) → length log ≡ 512 * t → Ordered t a xs → taken log a xs ≡ grown log a xs
-unfolding taken grown
-taken-grown t a log xs l o =
-    let h : a ≤ t = ordered-le t a xs o in
-    each-all t a (clearAbove log a) xs (length-clear log a (omega arith) ∙ l) o
 
 -- the slots up to round c, of a log that is zero above round lo and of another
 module _ (t c : ℕ) (log : List ℕ) (l : length log ≡ 512 * t) (q : c ≤ t) where

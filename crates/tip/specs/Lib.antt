@@ -1,2 +1,2 @@
-pub mod Tip
 pub mod Ready
+pub mod State

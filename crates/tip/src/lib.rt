@@ -1,26 +1,34 @@
-// A new tip: the own block or a branch goes into the log, and the record follows. Every public function takes any record, and
-// slices of any length and content; rounds and heights are 32-bit words, whose sums wrap.
+// A new tip: the own block or a branch goes into the log, and the record follows.
 use apollo::Replica;
 ghost use mathlib.Core.Path.{_≡_};
-ghost use lib.ListN.{take};
+ghost use mathlib.Core.List.{List, _++_};
+ghost use Prim.Native.Nat.{ℕ, _+_, _*_, _≤_};
+ghost use lib.ListN.{length, drop};
+ghost use Rattle.sha256.specs.Fips.{sha256};
 ghost use Rattle.apollo.specs.Frame as Frame;
-ghost use Rattle.log.specs.Slots.{storeAt, taken};
+ghost use Rattle.apollo.specs.Log as Log;
+ghost use Rattle.apollo.specs.Branch.{grown};
+ghost use Rattle.apollo.specs.Enter.{tipped, holding, ownBlock, proposing};
+ghost use Rattle.log.specs.Slots.{Slotted};
 ghost use Rattle.branch.specs.Frames.{framesOf, lastFrame};
-ghost use Rattle.tip.specs.Tip.{next, tippedAt, putOwn};
+ghost use Rattle.tip.specs.Ready.{Ready};
+ghost use Rattle.tip.specs.State.{state};
 
 // The record with its tip in round t of the log, at height h: R follows it, and committed is renewed.
 fn tipped(r: Replica, log: &[u8], t: u32, h: u32) -> Replica
-    ensures { λ q. ⌜ q ≡ tippedAt r (now (log .entry)) t h ⌝ }
+    requires { ⌜ t ≤ 4096 ⌝ }
+    ensures { λ q. ⌜ q ≡ tipped r (now (log .entry)) t h ⌝ }
 {
     let a = record::with_tip(r, t, h);
-    let b = record::with_round(a, std::num::wrapping_add_u32(t, 1));
+    let b = record::with_round(a, t + 1);
     let c = record::with_timer(b, r.timeout.0);
     commit::commit(c, log)
 }
 
 // The block for R on the tip is written to the front of out.
 fn put_own_block(r: Replica, log: &[u8], height: u32, entry: &[u8], out: &mut [u8])
-    ensures { λ _. ⌜ now (out .exit) ≡ putOwn r (now (log .entry)) height (now (entry .entry)) (now (out .entry)) ⌝ }
+    requires { ⌜ (512 * r .«tip_round» .0 ≤ length (now log)) × (512 ≤ length (now out)) × (length (now entry) ≤ 400) ⌝ }
+    ensures { λ _. ⌜ now (out .exit) ≡ Frame.makeBlock sha256 (r .id) (r .round .0) height (Frame.digest (Log.slot (now (log .entry)) (r .«tip_round» .0))) (now (entry .entry)) ++ drop 512 (now (out .entry)) ⌝ }
 {
     let round = r.round.0;
     let tip = r.tip_round.0;
@@ -35,10 +43,11 @@ fn put_own_block(r: Replica, log: &[u8], height: u32, entry: &[u8], out: &mut [u
 
 // The block for R is written to the front of out, stored and made the tip.
 pub fn propose(r: Replica, log: &mut [u8], entry: &[u8], out: &mut [u8]) -> Replica
-    ensures { λ q. ⌜ (now (out .exit) ≡ putOwn r (now (log .entry)) (next (r .«tip_height» .0)) (now (entry .entry)) (now (out .entry))) × (now (log .exit) ≡ storeAt (now (log .entry)) (r .round .0) (take 512 (now (out .exit)))) × (q ≡ tippedAt r (now (log .exit)) (r .round .0) (next (r .«tip_height» .0))) ⌝ }
+    requires { ⌜ Ready r (now log) (now entry) (now out) × (r .round .0 ≤ r .«last_round» .0) ⌝ }
+    ensures { λ q. ⌜ ((masks : List ℕ) → (now (out .exit) ≡ ownBlock sha256 (now (entry .entry)) (state r (now (log .entry)) masks) ++ drop 512 (now (out .entry))) × (state q (now (log .exit)) masks ≡ proposing sha256 (now (entry .entry)) (state r (now (log .entry)) masks))) ⌝ }
 {
     let round = r.round.0;
-    let height = std::num::wrapping_add_u32(r.tip_height.0, 1);
+    let height = r.tip_height.0 + 1;
     put_own_block(r, log, height, entry, out);
     log::store(log, round, slices::part(out, 0, 512));
     tipped(r, log, round, height)
@@ -46,7 +55,8 @@ pub fn propose(r: Replica, log: &mut [u8], entry: &[u8], out: &mut [u8]) -> Repl
 
 // A branch is taken on a round: stored, its last frame the tip.
 pub fn adopt(r: Replica, log: &mut [u8], attach: u32, frames: &[u8]) -> Replica
-    ensures { λ q. ⌜ (now (log .exit) ≡ taken (now (log .entry)) attach (framesOf (now (frames .entry)))) × (q ≡ tippedAt r (now (log .exit)) (Frame.round (lastFrame (now (frames .entry)))) (Frame.height (lastFrame (now (frames .entry))))) ⌝ }
+    requires { ⌜ Slotted (length (now log)) (framesOf (now frames)) × (Frame.round (lastFrame (now frames)) ≤ 4096) ⌝ }
+    ensures { λ q. ⌜ ((masks : List ℕ) → state q (now (log .exit)) masks ≡ holding (state r (now (log .entry)) masks) (grown (now (log .entry)) attach (framesOf (now (frames .entry)))) (Frame.round (lastFrame (now (frames .entry)))) (Frame.height (lastFrame (now (frames .entry))))) ⌝ }
 {
     log::take_branch(log, attach, frames);
     let last = branch::last_frame(frames);

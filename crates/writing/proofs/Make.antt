@@ -1,16 +1,15 @@
 -- Laws of the frames that are made: their lengths, and a frame written piece by piece. Assumes nothing.
-use mathlib.Core.Path.{_≡_, refl, sym, ap, ap₂, _∙_}
+use mathlib.Core.Path.{_≡_, refl, ap, ap₂, _∙_}
 use mathlib.Core.List.{List, _∷_, _++_, append-assoc}
-use Prim.Native.Nat.{ℕ, _+_, _-_, _≤_, _<_}
+use Prim.Native.Nat.{ℕ, _+_, _-_, _≤_}
 use native.Mathlib.Omega.{arith}
-use borrow.Author.Tests.{eq-eqb, ne-eqb, le-leb, lt-leb}
 use lib.ListN.{length, take, drop, length-append}
 use lib.Seq.{take-at}
 use Rattle.sha256.specs.Fips.{sha256}
 use Rattle.sha256.proofs.Hash.{digest-length}
 use Rattle.apollo.specs.Bytes.{bytes2, bytes4, zeros}
 use Rattle.apollo.specs.Frame.{blockHead, blameHead, sealed, makeBlock, makeBlame}
-use Rattle.writing.specs.Put.{putBlock, putBlame, Written}
+use Rattle.writing.specs.Put.{Written}
 use Rattle.apollo.proofs.Slots.{length-zeros}
 use Rattle.writing.proofs.Writes.{Begun, begun-start, begun-more}
 
@@ -37,17 +36,6 @@ pub length-blame : (id r : ℕ) → length (makeBlame sha256 id r) ≡ 512
 unfolding makeBlame
 length-blame id r = length-sealed _ (length-blame-head id r)
 
--- For all later use: what is left in out where the frame fits.
-pub put-block-fits : (out : List ℕ) (id r h : ℕ) (parent entry : List ℕ) → 512 ≤ length out → length parent ≡ 32
-    → length entry ≤ 400 → putBlock out id r h parent entry ≡ makeBlock sha256 id r h parent entry ++ drop 512 out
-unfolding putBlock
-put-block-fits out id r h parent entry o p e =
-    rw (le-leb 512 (length out) o, eq-eqb (length parent) 32 p, le-leb (length entry) 400 e)
-
-pub put-blame-fits : (out : List ℕ) (id r : ℕ) → 512 ≤ length out → putBlame out id r ≡ makeBlame sha256 id r ++ drop 512 out
-unfolding putBlame
-put-blame-fits out id r o = rw (le-leb 512 (length out) o)
-
 -- the bytes before the check are written, then the check
 written-frame : (x out₀ out out′ : List ℕ) → length x ≡ 480 → Begun out₀ x out → Written out 480 (sha256 (take 480 out)) out′
     → out′ ≡ sealed sha256 x ++ drop 512 out₀
@@ -59,13 +47,13 @@ written-frame x out₀ out out′ l b w =
     g .bytes ∙ rw (t, n)
 
 -- the pieces of a block, and of a blame
-pub written-block : (id r h : ℕ) (parent entry start out₀ out₁ out₂ out₃ out₄ out₅ : List ℕ) → 512 ≤ length out₀
+pub written-block : (id r h : ℕ) (parent entry start out₀ out₁ out₂ out₃ out₄ out₅ : List ℕ)
     → length parent ≡ 32 → length entry ≤ 400 → start ≡ 1 ∷ id ∷ (bytes2 (length entry) ++ (bytes4 r ++ bytes4 h))
     → Written out₀ 0 start out₁ → Written out₁ 12 parent out₂ → Written out₂ 44 entry out₃
     → Written out₃ (44 + length entry) (zeros (480 - (44 + length entry))) out₄
-    → Written out₄ 480 (sha256 (take 480 out₄)) out₅ → out₅ ≡ putBlock out₀ id r h parent entry
+    → Written out₄ 480 (sha256 (take 480 out₄)) out₅ → out₅ ≡ makeBlock sha256 id r h parent entry ++ drop 512 out₀
 unfolding makeBlock blockHead
-written-block id r h parent entry start out₀ out₁ out₂ out₃ out₄ out₅ o p e s w₁ w₂ w₃ w₄ w₅ =
+written-block id r h parent entry start out₀ out₁ out₂ out₃ out₄ out₅ p e s w₁ w₂ w₃ w₄ w₅ =
     let z : List ℕ = zeros (480 - (44 + length entry)) in
     let q : 480 - (44 + length entry) ≡ 436 - length entry = omega arith in
     let l : length start ≡ 12 = ap length s in
@@ -78,35 +66,12 @@ written-block id r h parent entry start out₀ out₁ out₂ out₃ out₄ out�
     let x : ((start ++ parent) ++ entry) ++ z ≡ blockHead id r h parent entry =
     simp append-assoc (rw (s, q)) in
     written-frame (blockHead id r h parent entry) out₀ out₄ out₅ (length-block-head id r h parent entry p e) (rw x at b₄) w₅
-    ∙ sym (put-block-fits out₀ id r h parent entry o p e)
 
-pub written-blame : (id r : ℕ) (start out₀ out₁ out₂ out₃ : List ℕ) → 512 ≤ length out₀
+pub written-blame : (id r : ℕ) (start out₀ out₁ out₂ out₃ : List ℕ)
     → start ≡ 2 ∷ id ∷ 0 ∷ 0 ∷ bytes4 r → Written out₀ 0 start out₁ → Written out₁ 8 (zeros 472) out₂
-    → Written out₂ 480 (sha256 (take 480 out₂)) out₃ → out₃ ≡ putBlame out₀ id r
+    → Written out₂ 480 (sha256 (take 480 out₂)) out₃ → out₃ ≡ makeBlame sha256 id r ++ drop 512 out₀
 unfolding makeBlame blameHead
-written-blame id r start out₀ out₁ out₂ out₃ o s w₁ w₂ w₃ =
+written-blame id r start out₀ out₁ out₂ out₃ s w₁ w₂ w₃ =
     let b : Begun out₀ (start ++ zeros 472) out₂ = begun-more 8 (ap length s) (begun-more 0 refl (begun-start out₀) w₁) w₂ in
     let x : start ++ zeros 472 ≡ blameHead id r = rw s in
     written-frame (blameHead id r) out₀ out₂ out₃ (length-blame-head id r) (rw x at b) w₃
-    ∙ sym (put-blame-fits out₀ id r o)
-
--- the frame or a part of it does not fit
-pub block-short-out : (out : List ℕ) (id r h : ℕ) (parent entry : List ℕ) → length out < 512
-    → out ≡ putBlock out id r h parent entry
-unfolding putBlock
-block-short-out out id r h parent entry l = rw (lt-leb 512 (length out) l)
-
-pub block-parent : (out : List ℕ) (id r h : ℕ) (parent entry : List ℕ) → 512 ≤ length out → (length parent ≡ 32 → ⊥)
-    → out ≡ putBlock out id r h parent entry
-unfolding putBlock
-block-parent out id r h parent entry o n = rw (le-leb 512 (length out) o, ne-eqb (length parent) 32 n)
-
-pub block-long-entry : (out : List ℕ) (id r h : ℕ) (parent entry : List ℕ) → 512 ≤ length out → length parent ≡ 32
-    → 400 < length entry → out ≡ putBlock out id r h parent entry
-unfolding putBlock
-block-long-entry out id r h parent entry o p l =
-    rw (le-leb 512 (length out) o, eq-eqb (length parent) 32 p, lt-leb (length entry) 400 l)
-
-pub blame-short-out : (out : List ℕ) (id r : ℕ) → length out < 512 → out ≡ putBlame out id r
-unfolding putBlame
-blame-short-out out id r l = rw (lt-leb 512 (length out) l)

@@ -2,10 +2,11 @@
 ghost use mathlib.Core.Path.{_≡_};
 ghost use Prim.Native.Nat.{_+_, _-_, _≤_};
 ghost use mathlib.Core.List.{_∷_, _++_};
-ghost use lib.ListN.{length, take};
+ghost use lib.ListN.{length, take, drop};
 ghost use Rattle.apollo.specs.Bytes as Bytes;
+ghost use Rattle.apollo.specs.Frame as Frame;
 ghost use Rattle.sha256.specs.Fips.{sha256};
-ghost use Rattle.writing.specs.Put.{putBlock, putBlame, Written};
+ghost use Rattle.writing.specs.Put.{Written};
 
 // Writes x from `start` on.
 fn put(out: &mut [u8], start: usize, x: &[u8])
@@ -69,20 +70,12 @@ fn blame_start(id: u8, round: u32) -> [u8; 8]
     ]
 }
 
-// Writes the block that replica `id` makes to the front of out, where it and its parts fit; nothing else.
+// Writes the block that replica `id` makes to the front of out.
 pub fn put_block(out: &mut [u8], id: u8, round: u32, height: u32, parent: &[u8], entry: &[u8])
-    ensures { λ _. ⌜ now (out .exit) ≡ putBlock (now (out .entry)) id round height (now (parent .entry)) (now (entry .entry)) ⌝ }
+    requires { ⌜ (512 ≤ length (now out)) × (length (now parent) ≡ 32) × (length (now entry) ≤ 400) ⌝ }
+    ensures { λ _. ⌜ now (out .exit) ≡ Frame.makeBlock sha256 id round height (now (parent .entry)) (now (entry .entry)) ++ drop 512 (now (out .entry)) ⌝ }
 {
-    if out.len() < 512 {
-        return;
-    }
-    if parent.len() != 32 {
-        return;
-    }
     let n = entry.len();
-    if n > 400 {
-        return;
-    }
     let start = block_start(id, n, round, height);
     put(out, 0, &start);
     put(out, 12, parent);
@@ -91,13 +84,11 @@ pub fn put_block(out: &mut [u8], id: u8, round: u32, height: u32, parent: &[u8],
     seal(out);
 }
 
-// Writes the blame that replica `id` makes to the front of out, where it fits; nothing else.
+// Writes the blame that replica `id` makes to the front of out.
 pub fn put_blame(out: &mut [u8], id: u8, round: u32)
-    ensures { λ _. ⌜ now (out .exit) ≡ putBlame (now (out .entry)) id round ⌝ }
+    requires { ⌜ 512 ≤ length (now out) ⌝ }
+    ensures { λ _. ⌜ now (out .exit) ≡ Frame.makeBlame sha256 id round ++ drop 512 (now (out .entry)) ⌝ }
 {
-    if out.len() < 512 {
-        return;
-    }
     let start = blame_start(id, round);
     put(out, 0, &start);
     put_zeros(out, 8, 480);

@@ -9,13 +9,10 @@ use Rattle.heights.proofs.fetch_frames.Statement.{statement}
 use Rattle.heights.proofs.fetch_frames.Tie as tie
 
 abbrev Inv-loop : tie.InvT-loop
-Inv-loop log h last-round out₀ n room k₀ r₀ out k r = (r ≤ n) × (k ≤ r) × (length out ≡ length out₀) × Copied log h out₀ r k out
+Inv-loop log h last-round out₀ room k₀ r₀ out k r = (r ≤ last-round) × (k ≤ r) × (length out ≡ length out₀) × Copied log h out₀ r k out
 
 abbrev μ-loop : tie.MeasureT-loop
-μ-loop log h last-round out₀ n room k₀ r₀ out k r = n - r
-
-whole-slots-requires : tie.Need-whole-slots-requires Inv-loop μ-loop
-whole-slots-requires c κs = search needs
+μ-loop log h last-round out₀ room k₀ r₀ out k r = last-round - r
 
 loop-holds : tie.Need-loop-holds Inv-loop μ-loop
 loop-holds c = (search needs, search needs, refl, copied-none _ _ _)
@@ -30,7 +27,7 @@ same-length : tie.Need-same-length Inv-loop μ-loop
 same-length c = search needs
 
 returns : tie.Need-returns Inv-loop μ-loop
-returns c = copied-full (c .before .before .before .before .before .before .args .log .now) (c .before .before .before .before .before .before .args .h) (c .before .before .before .before .before .before .args .out .now) (c .before .before .loop .r) (c .before .before .loop .k) (c .before .before .loop .out) (c .before .before .loop .inv .3) (c .before .before .before .before .before .before .args .last-round) (c .before .before .before .whole-slots .result) (c .before .before .before .whole-slots .ensures) (omega arith) (c .if1 .taken)
+returns c = copied-full (c .before .before .before .before .before .args .log .now) (c .before .before .before .before .before .args .h) (c .before .before .before .before .before .args .out .now) (c .before .before .loop .r) (c .before .before .loop .k) (c .before .before .loop .out) (c .before .before .loop .inv .3) (c .before .before .before .before .before .args .last-round) (omega arith) (c .if1 .taken)
 
 add-r : tie.Need-add-r Inv-loop μ-loop
 add-r c = search needs
@@ -42,7 +39,7 @@ loop-less : tie.Need-loop-less Inv-loop μ-loop
 loop-less c = search needs
 
 loop-again : tie.Need-loop-again Inv-loop μ-loop
-loop-again c = (search needs, search needs, search needs, copied-more (c .before .before .before .before .before .before .before .before .before .before .args .log .now) (c .before .before .before .before .before .before .before .before .before .before .args .h) (c .before .before .before .before .before .before .before .before .before .before .args .out .now) (c .before .before .before .before .before .before .loop .r) (c .before .before .before .before .before .before .loop .k) (c .before .before .before .before .before .before .loop .out) (c .before .before .before .before .before .before .loop .inv .3) _ _ (omega arith) (omega arith) (c .before .before .fetch-slot .ensures .0 .0) (c .before .before .fetch-slot .ensures .1))
+loop-again c = (search needs, search needs, search needs, copied-more (c .before .before .before .before .before .before .before .before .before .args .log .now) (c .before .before .before .before .before .before .before .before .before .args .h) (c .before .before .before .before .before .before .before .before .before .args .out .now) (c .before .before .before .before .before .before .loop .r) (c .before .before .before .before .before .before .loop .k) (c .before .before .before .before .before .before .loop .out) (c .before .before .before .before .before .before .loop .inv .3) _ _ (omega arith) (omega arith) (c .before .before .fetch-slot .ensures .0 .0) (c .before .before .fetch-slot .ensures .1))
 
 cast-result-2 : tie.Need-cast-result-2 Inv-loop μ-loop
 cast-result-2 c = search needs
@@ -51,7 +48,7 @@ same-length-2 : tie.Need-same-length-2 Inv-loop μ-loop
 same-length-2 c = search needs
 
 returns-2 : tie.Need-returns-2 Inv-loop μ-loop
-returns-2 c = copied-all (c .before .before .before .before .before .args .log .now) (c .before .before .before .before .before .args .h) (c .before .before .before .before .before .args .out .now) (c .before .loop .r) (c .before .loop .k) (c .before .loop .out) (c .before .loop .inv .3) (c .before .before .before .before .before .args .last-round) (c .before .before .whole-slots .result) (c .before .before .whole-slots .ensures) (omega arith)
+returns-2 c = copied-all (c .before .before .before .before .args .log .now) (c .before .before .before .before .args .h) (c .before .before .before .before .args .out .now) (c .before .loop .r) (c .before .loop .k) (c .before .loop .out) (c .before .loop .inv .3) (c .before .before .before .before .args .last-round) (omega arith)
 
 pub fetch-frames-spec : {M : Type 1} → statement M
 fetch-frames-spec =
@@ -59,7 +56,6 @@ fetch-frames-spec =
     (tie.spec
     Inv-loop
     μ-loop
-    whole-slots-requires
     loop-holds
     cast-if1
     cast-result

@@ -1,29 +1,22 @@
 -- `heights::lowest` meets its contract. The loop's invariant: no slot up to `lo` is readable. Assumes nothing.
-use mathlib.Core.Path.{_≡_, sym, _∙_}
-use Prim.Native.Nat.{_*_, _≤_, _-_}
+use mathlib.Core.Path.{_≡_, refl, sym, _∙_}
+use Prim.Native.Nat.{_≤_, _-_}
+use native.Mathlib.Nat.{sub-zero}
 use native.Mathlib.Omega.{arith}
-use lib.ListN.{length}
 use borrow.Author.Needs.{needs}
 use Rattle.apollo.specs.Read as Read
-use Rattle.heights.specs.Read.{lowestWhole}
-use Rattle.heights.proofs.Search.{readable-slot, lowest-start, lowest-here, lowest-above, lowest-none}
+use Rattle.heights.proofs.Search.{readable-slot, lowest-here, lowest-above, lowest-none}
 use Rattle.heights.proofs.lowest.Statement.{statement}
 use Rattle.heights.proofs.lowest.Tie as tie
 
 abbrev Inv-loop : tie.InvT-loop
-Inv-loop log h committed n lo₀ lo =
-    (lo ≤ n) × (512 * n ≤ length log) × (Read.lowest log h lo (n - lo) ≡ lowestWhole log h committed)
+Inv-loop log h committed lo₀ lo = (lo ≤ committed) × (Read.lowest log h lo (committed - lo) ≡ Read.lowest log h 0 committed)
 
 abbrev μ-loop : tie.MeasureT-loop
-μ-loop log h committed n lo₀ lo = n - lo
-
-whole-slots-requires : tie.Need-whole-slots-requires Inv-loop μ-loop
-whole-slots-requires c κs = search needs
+μ-loop log h committed lo₀ lo = committed - lo
 
 loop-holds : tie.Need-loop-holds Inv-loop μ-loop
-loop-holds c =
-    let e = c .whole-slots .ensures in
-    (omega arith, omega (arith, e), lowest-start _ _ _ _ e)
+loop-holds c = (omega arith, rw sub-zero)
 
 cast-a : tie.Need-cast-a Inv-loop μ-loop
 cast-a c = search needs
@@ -54,7 +47,7 @@ returns c =
     let t = c .before .before .before in
     let l = t .before .loop in
     lowest-here _ _ (l .lo) _ (t .loop-test .taken) (sym (c .if1 .taken) ∙ readable-slot _ _ (l .lo) _ (c .before .is-readable .ensures))
-    ∙ l .inv .2
+    ∙ l .inv .1
 
 loop-less : tie.Need-loop-less Inv-loop μ-loop
 loop-less c = search needs
@@ -63,10 +56,10 @@ loop-again : tie.Need-loop-again Inv-loop μ-loop
 loop-again c =
     let t = c .before .before .before in
     let l = t .before .loop in
-    (search needs, l .inv .1, lowest-above _ _ (l .lo) _ (t .loop-test .taken) (sym (c .if1 .left) ∙ readable-slot _ _ (l .lo) _ (c .before .is-readable .ensures)) ∙ l .inv .2)
+    (search needs, lowest-above _ _ (l .lo) _ (t .loop-test .taken) (sym (c .if1 .left) ∙ readable-slot _ _ (l .lo) _ (c .before .is-readable .ensures)) ∙ l .inv .1)
 
 returns-2 : tie.Need-returns-2 Inv-loop μ-loop
-returns-2 c = lowest-none _ _ (c .before .loop .lo) _ (c .loop-test .left) ∙ c .before .loop .inv .2
+returns-2 c = lowest-none _ _ (c .before .loop .lo) _ (c .loop-test .left) ∙ c .before .loop .inv .1
 
 pub lowest-spec : {M : Type 1} → statement M
 lowest-spec =
@@ -74,7 +67,6 @@ lowest-spec =
     (tie.spec
     Inv-loop
     μ-loop
-    whole-slots-requires
     loop-holds
     cast-a
     mul-a

@@ -1,6 +1,6 @@
 -- `log::take_branch` meets its contract: what stands above the round is zeroed, then the frames are stored. Assumes nothing.
 use borrow.Author.Needs.{needs}
-use Rattle.log.specs.Slots.{taken}
+use Rattle.apollo.specs.Branch.{grown}
 use Rattle.log.proofs.take_branch.Statement.{statement}
 use Rattle.log.proofs.take_branch.Tie as tie
 
@@ -8,13 +8,15 @@ clear-above-requires : tie.Need-clear-above-requires
 clear-above-requires c κs = search needs
 
 store-each-requires : tie.Need-store-each-requires
-store-each-requires c κs = search needs
+store-each-requires c κs =
+    let k = c .before .before .before in
+    rw (k .clear-above .kept .0) (k .before .before .before .before .pre)
 
 same-length : tie.Need-same-length
 same-length c = search needs
 
 returns : tie.Need-returns
-unfolding taken
+unfolding grown
 returns c = cc
 
 pub take-branch-spec : {M : Type 1} → statement M

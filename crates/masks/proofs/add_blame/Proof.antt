@@ -1,6 +1,6 @@
 -- `masks::add_blame` meets its contract: the or with a power of two sets the bit. Assumes nothing.
 use borrow.Author.Needs.{needs}
-use Rattle.masks.proofs.Masks.{blame-added, blame-past, blame-high}
+use Rattle.masks.proofs.Masks.{blame-added, blame-past}
 use Rattle.masks.proofs.add_blame.Statement.{statement}
 use Rattle.masks.proofs.add_blame.Tie as tie
 
@@ -29,13 +29,16 @@ same-length : tie.Need-same-length
 same-length c = search needs
 
 returns : tie.Need-returns
-returns c = blame-added (c .before .before .before .before .before .args .masks .now) (c .before .before .before .before .before .args .r) (c .before .before .before .before .before .args .i) (c .before .before .before .previous .result) (c .before .before .before .previous .ensures) (c .before .before .if1 .taken)
+returns c =
+    let p = c .before .before in
+    let s = p .before .before in
+    blame-added (s .args .masks .now) (s .args .r) (s .args .i) (p .previous .result) (p .previous .ensures) (s .pre)
 
 returns-2 : tie.Need-returns-2
-returns-2 c = blame-past (c .before .before .before .before .args .masks .now) (c .before .before .before .before .args .r) (c .before .before .before .before .args .i) (c .before .before .previous .result) (c .before .before .previous .ensures) (c .before .if1 .taken) (c .if2 .left)
-
-returns-3 : tie.Need-returns-3
-returns-3 c = blame-high (c .before .before .before .args .masks .now) (c .before .before .before .args .r) (c .before .before .before .args .i) (c .if1 .left)
+returns-2 c =
+    let p = c .before in
+    let s = p .before .before in
+    blame-past (s .args .masks .now) (s .args .r) (s .args .i) (p .previous .result) (p .previous .ensures) (c .if1 .left)
 
 pub add-blame-spec : {M : Type 1} → statement M
 add-blame-spec =
@@ -50,5 +53,4 @@ add-blame-spec =
     slice-write-masks
     same-length
     returns
-    returns-2
-    returns-3)
+    returns-2)

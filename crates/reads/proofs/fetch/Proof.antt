@@ -1,6 +1,7 @@
 -- `reads::fetch` meets its contract: 2, 4, 15, and taken. Assumes nothing.
+use mathlib.Core.List.{[]}
 use borrow.Author.Tests.{not-true, not-false}
-use Rattle.reads.proofs.Fetching.{fetch-invalid, fetch-short, fetch-absent, fetch-copied}
+use Rattle.reads.proofs.Fetching.{fetch-invalid, fetch-short, last-fits, fetch-absent, fetch-copied}
 use borrow.Author.Needs.{needs}
 use Rattle.reads.proofs.fetch.Statement.{statement}
 use Rattle.reads.proofs.fetch.Tie as tie
@@ -21,7 +22,9 @@ returns-2 : tie.Need-returns-2
 returns-2 c = fetch-short _ _ _ _ (c .before .before .before .valid-replica .result) (c .before .before .before .valid-replica .ensures) (not-false _ (c .before .before .if1 .left)) _ (c .no-frames2 .ensures) (c .before .if2 .taken)
 
 fetch-frames-requires : tie.Need-fetch-frames-requires
-fetch-frames-requires c κs = search needs
+fetch-frames-requires c κs =
+    let i = c .before .before in
+    last-fits _ _ 0 [] (i .before .valid-replica .result) (i .before .valid-replica .ensures) (not-false _ (i .if1 .left))
 
 no-frames-requires-3 : tie.Need-no-frames-requires-3
 no-frames-requires-3 c κs = search needs

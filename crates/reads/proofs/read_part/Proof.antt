@@ -1,7 +1,7 @@
 -- `reads::read_part` meets its contract: 2, 15, and taken. Assumes nothing.
 use mathlib.Core.Path.{_∙_}
 use borrow.Author.Tests.{not-true, not-false}
-use Rattle.reads.proofs.Reading.{read-invalid, read-absent, read-found}
+use Rattle.reads.proofs.Reading.{read-invalid, committed-fits, read-absent, read-found}
 use borrow.Author.Needs.{needs}
 use Rattle.reads.proofs.read_part.Statement.{statement}
 use Rattle.reads.proofs.read_part.Tie as tie
@@ -16,7 +16,7 @@ returns : tie.Need-returns
 returns c = c .no-part .ensures ∙ read-invalid _ _ _ (c .before .before .valid-replica .result) (c .before .before .valid-replica .ensures) (not-true _ (c .before .if1 .taken))
 
 lowest-requires : tie.Need-lowest-requires
-lowest-requires c κs = search needs
+lowest-requires c κs = committed-fits _ _ 0 (c .before .valid-replica .result) (c .before .valid-replica .ensures) (not-false _ (c .if1 .left))
 
 no-part-requires-2 : tie.Need-no-part-requires-2
 no-part-requires-2 c κs = search needs

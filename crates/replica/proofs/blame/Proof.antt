@@ -1,6 +1,6 @@
 -- `replica::blame` meets its contract. Assumes nothing.
 use mathlib.Core.Path.{refl}
-use Rattle.replica.proofs.Calls.{blame-refused, blame-taken}
+use Rattle.replica.proofs.Calls.{blame-refused, blame-asks, blame-taken}
 use Rattle.replica.proofs.blame.Statement.{statement}
 use Rattle.replica.proofs.blame.Tie as tie
 
@@ -31,7 +31,14 @@ signer-requires : tie.Need-signer-requires
 signer-requires c κs = tt
 
 hear-requires : tie.Need-hear-requires
-hear-requires c κs = tt
+hear-requires c κs =
+    let g = c .before in
+    let r = g .before .before .before in
+    let i = r .before in
+    let j = i .before in
+    let s = j .before .before .before .before .before .before .before .before in
+    let a = s .args in
+    blame-asks (a .replica) (a .log .now) (a .masks .now) (a .entry .now) (a .out .now) (a .frame .now) _ (j .judge-blame .ensures) _ (i .if1 .left) (g .signer .ensures)
 
 same-length-3 : tie.Need-same-length-3
 same-length-3 c =

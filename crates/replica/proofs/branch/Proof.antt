@@ -1,6 +1,6 @@
 -- `replica::branch` meets its contract. Assumes nothing.
 use mathlib.Core.Path.{refl, _∙_}
-use Rattle.replica.proofs.Calls.{branch-refused, branch-taken}
+use Rattle.replica.proofs.Calls.{branch-refused, adopt-asks, adopt-ready, branch-taken}
 use Rattle.replica.proofs.branch.Statement.{statement}
 use Rattle.replica.proofs.branch.Tie as tie
 
@@ -22,10 +22,21 @@ returns c =
     branch-refused (a .replica) (a .log .now) (a .masks .now) (a .entry .now) (a .out .now) (a .frames .now) _ (j .judge-branch .ensures) _ (i .if1 .taken) (c .refused .ensures)
 
 adopt-requires : tie.Need-adopt-requires
-adopt-requires c κs = tt
+adopt-requires c κs =
+    let i = c .before in
+    let j = i .before .before in
+    let s = j .before .before .before .before .before .before .before in
+    let a = s .args in
+    adopt-asks (a .replica) (a .log .now) (a .masks .now) (a .entry .now) (a .out .now) (a .frames .now) _ (j .judge-branch .ensures) (i .if1 .left)
 
 enter-round-requires : tie.Need-enter-round-requires
-enter-round-requires c κs = tt
+enter-round-requires c κs =
+    let d = c .before .before .before .before in
+    let i = d .before .before in
+    let j = i .before .before in
+    let s = j .before .before .before .before .before .before .before in
+    let a = s .args in
+    adopt-ready (a .replica) (a .log .now) (a .masks .now) (a .entry .now) (a .out .now) (a .frames .now) _ (j .judge-branch .ensures) (i .if1 .left) _ _ (d .adopt .ensures) (d .adopt .kept .1 .0)
 
 same-length-2 : tie.Need-same-length-2
 same-length-2 c =
@@ -46,7 +57,7 @@ returns-2 c =
     let j = i .before .before in
     let s = j .before .before .before .before .before .before .before in
     let a = s .args in
-    branch-taken (a .replica) (a .log .now) (a .masks .now) (a .entry .now) (a .out .now) (a .frames .now) _ (j .judge-branch .ensures) (i .if1 .left) _ _ (d .adopt .ensures) (d .adopt .kept .1 .0) _ (e .enter-round .ensures _)
+    branch-taken (a .replica) (a .log .now) (a .masks .now) (a .entry .now) (a .out .now) (a .frames .now) _ (j .judge-branch .ensures) (i .if1 .left) _ _ (d .adopt .ensures) _ (e .enter-round .ensures _)
 
 pub branch-spec : {M : Type 1} → statement M
 branch-spec =

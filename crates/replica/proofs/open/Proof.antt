@@ -1,6 +1,6 @@
 -- `replica::open` meets its contract. Assumes nothing.
 use mathlib.Core.Path.{refl, _∙_}
-use Rattle.replica.proofs.Calls.{open-refused, open-taken}
+use Rattle.replica.proofs.Calls.{open-refused, open-ready, open-taken}
 use Rattle.replica.proofs.open.Statement.{statement}
 use Rattle.replica.proofs.open.Tie as tie
 
@@ -39,7 +39,15 @@ clear-masks-requires : tie.Need-clear-masks-requires
 clear-masks-requires c κs = tt
 
 enter-round-requires : tie.Need-enter-round-requires
-enter-round-requires c κs = tt
+enter-round-requires c κs =
+    let m = c .before .before .before .before in
+    let l = m .before .before .before .before in
+    let i = l .before .before in
+    let j = i .before in
+    let f = j .before .before .before in
+    let s = f .before .before .before .before .before in
+    let a = s .args in
+    open-ready (a .id) (a .f) (a .timeout .0) (a .last-round .0) (a .log .now) (a .masks .now) (a .entry .now) (a .out .now) _ (f .fresh .ensures) _ (j .judge-open .ensures) (i .if1 .left) _ (l .clear .ensures)
 
 same-length-3 : tie.Need-same-length-3
 same-length-3 c =

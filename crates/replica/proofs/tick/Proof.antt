@@ -5,7 +5,7 @@ use native.Mathlib.Omega.{arith}
 use lib.ListN.{length}
 use borrow.Author.Needs.{needs}
 use borrow.Rule.Slice.PartMut.{same-len-mid}
-use Rattle.replica.proofs.Calls.{tick-refused, tick-down, tick-room, tick-out, frames-few}
+use Rattle.replica.proofs.Calls.{tick-refused, tick-down, tick-passed, tick-asks, tick-out, frames-few}
 use Rattle.replica.proofs.tick.Statement.{statement}
 use Rattle.replica.proofs.tick.Tie as tie
 
@@ -30,7 +30,12 @@ returns c =
     tick-refused (a .replica) (a .log .now) (a .masks .now) (a .entry .now) (a .out .now) _ (g .guard .ensures) _ (i .if1 .taken) (c .refused .ensures)
 
 count-down-requires : tie.Need-count-down-requires
-count-down-requires c κs = tt
+count-down-requires c κs =
+    let i = c .before .before in
+    let g = i .before in
+    let s = g .before .before .before .before .before .before .before in
+    let a = s .args in
+    tick-passed (a .replica) (a .log .now) (a .masks .now) (a .entry .now) (a .out .now) _ (g .guard .ensures) (i .if1 .left) .valid .setup .f-most
 
 same-length-3 : tie.Need-same-length-3
 same-length-3 c = refl
@@ -48,7 +53,12 @@ returns-2 c =
     tick-down (a .replica) (a .log .now) (a .masks .now) (a .entry .now) (a .out .now) _ (g .guard .ensures) (i .if1 .left) _ (k .if2 .taken) (c .count-down .ensures)
 
 put-blame-requires : tie.Need-put-blame-requires
-put-blame-requires c κs = tt
+put-blame-requires c κs =
+    let i = c .before .before .before in
+    let g = i .before in
+    let s = g .before .before .before .before .before .before .before in
+    let a = s .args in
+    omega (arith, tick-passed (a .replica) (a .log .now) (a .masks .now) (a .entry .now) (a .out .now) _ (g .guard .ensures) (i .if1 .left) .out-least)
 
 with-timer-requires : tie.Need-with-timer-requires
 with-timer-requires c κs = tt
@@ -60,7 +70,7 @@ sub-hear c =
     let g = i .before in
     let s = g .before .before .before .before .before .before .before in
     let a = s .args in
-    omega (arith, u .put-blame .kept .0, tick-room (a .replica) (a .log .now) (a .masks .now) (a .entry .now) (a .out .now) _ (g .guard .ensures) (i .if1 .left))
+    omega (arith, u .put-blame .kept .0, tick-passed (a .replica) (a .log .now) (a .masks .now) (a .entry .now) (a .out .now) _ (g .guard .ensures) (i .if1 .left) .out-least)
 
 part-hear-start : tie.Need-part-hear-start
 part-hear-start c =
@@ -69,18 +79,25 @@ part-hear-start c =
     let g = i .before in
     let s = g .before .before .before .before .before .before .before in
     let a = s .args in
-    omega (arith, u .put-blame .kept .0, tick-room (a .replica) (a .log .now) (a .masks .now) (a .entry .now) (a .out .now) _ (g .guard .ensures) (i .if1 .left))
+    omega (arith, u .put-blame .kept .0, tick-passed (a .replica) (a .log .now) (a .masks .now) (a .entry .now) (a .out .now) _ (g .guard .ensures) (i .if1 .left) .out-least)
 
 part-hear-end : tie.Need-part-hear-end
 part-hear-end c = search needs
 
 hear-requires : tie.Need-hear-requires
-hear-requires c κs = tt
+hear-requires c κs =
+    let w = c .before .before .before in
+    let u = w .before .before .before in
+    let i = u .before .before .before .before in
+    let g = i .before in
+    let s = g .before .before .before .before .before .before .before in
+    let a = s .args in
+    tick-asks (a .replica) (a .log .now) (a .masks .now) (a .entry .now) (a .out .now) _ (g .guard .ensures) (i .if1 .left) _ (u .put-blame .ensures) _ (w .with-timer .ensures)
 
 add-a : tie.Need-add-a
 add-a c =
     let e = c .before .before .before .before .before .before .before in
-    omega (arith, frames-few _ _ _ _ _ _ _ _ _ (e .hear .ensures))
+    omega (arith, frames-few _ _ _ _ _ _ _ _ (e .hear .ensures))
 
 same-length-5 : tie.Need-same-length-5
 same-length-5 c =
@@ -108,7 +125,7 @@ returns-3 c =
     let g = i .before in
     let s = g .before .before .before .before .before .before .before in
     let a = s .args in
-    tick-out (a .replica) (a .log .now) (a .masks .now) (a .entry .now) (a .out .now) _ (g .guard .ensures) (i .if1 .left) _ _ _ _ _ _ (k .if2 .left) (u .put-blame .ensures) (w .with-timer .ensures) (e .hear .ensures)
+    tick-out (a .replica) (a .log .now) (a .masks .now) (a .entry .now) (a .out .now) _ (g .guard .ensures) (i .if1 .left) _ (u .put-blame .ensures) _ _ _ _ _ (k .if2 .left) (w .with-timer .ensures) (e .hear .ensures)
 
 pub tick-spec : {M : Type 1} → statement M
 tick-spec =

@@ -5,7 +5,7 @@ use Rattle.rounds.proofs.count_down.Statement.{statement}
 use Rattle.rounds.proofs.count_down.Tie as tie
 
 taken-requires : tie.Need-taken-requires
-taken-requires c κs = tt
+taken-requires c κs = search needs
 
 returns : tie.Need-returns
 returns c =
@@ -20,7 +20,9 @@ with-timer-requires : tie.Need-with-timer-requires
 with-timer-requires c κs = tt
 
 taken-requires-2 : tie.Need-taken-requires-2
-taken-requires-2 c κs = tt
+taken-requires-2 c κs =
+    let s = c .before .before in
+    rw (c .with-timer .ensures) (s .pre)
 
 returns-2 : tie.Need-returns-2
 returns-2 c =

@@ -1,5 +1,6 @@
 -- `rounds::enter_round` meets its contract. Assumes nothing.
-use Rattle.rounds.proofs.Steps.{entered-own, entered-other}
+use mathlib.Core.List.{[]}
+use Rattle.rounds.proofs.Steps.{leads-last, proposed-f, entered-own, entered-other}
 use Rattle.rounds.proofs.enter_round.Statement.{statement}
 use Rattle.rounds.proofs.enter_round.Tie as tie
 
@@ -7,10 +8,18 @@ leads-requires : tie.Need-leads-requires
 leads-requires c κs = tt
 
 propose-requires : tie.Need-propose-requires
-propose-requires c κs = tt
+propose-requires c κs =
+    let i = c .before .before in
+    let l = i .before in
+    let s = l .before .before .before .before in
+    (s .pre, leads-last (s .args .r) _ (l .leads .ensures) (i .if1 .taken))
 
 taken-requires : tie.Need-taken-requires
-taken-requires c κs = tt
+taken-requires c κs =
+    let p = c .before .before .before .before in
+    let s = p .before .before .before .before .before .before .before .before in
+    let a = s .args in
+    rw (proposed-f (a .r) (a .log .now) (a .entry .now) (a .out .now) [] _ _ _ (p .propose .ensures [])) (s .pre .f-most)
 
 same-length : tie.Need-same-length
 same-length c =
@@ -29,13 +38,15 @@ returns c =
     let l = i .before in
     let s = l .before .before .before .before in
     let a = s .args in
-    λ masks. entered-own (a .r) (a .log .now) (a .entry .now) (a .out .now) masks _ _ _ _ _ (l .leads .ensures) (i .if1 .taken) (p .propose .ensures) (c .taken .ensures)
+    λ masks. entered-own (a .r) (a .log .now) (a .entry .now) (a .out .now) masks _ _ _ (p .propose .ensures masks) _ _ (l .leads .ensures) (i .if1 .taken) (c .taken .ensures)
 
 with-timer-requires : tie.Need-with-timer-requires
 with-timer-requires c κs = tt
 
 taken-requires-2 : tie.Need-taken-requires-2
-taken-requires-2 c κs = tt
+taken-requires-2 c κs =
+    let s = c .before .before .before .before .before .before in
+    rw (c .with-timer .ensures) (s .pre .f-most)
 
 returns-2 : tie.Need-returns-2
 returns-2 c =

@@ -1,10 +1,11 @@
 -- `rounds::taken` meets its contract. Assumes nothing.
+use borrow.Author.Needs.{needs}
 use Rattle.rounds.proofs.Steps.{taken-told}
 use Rattle.rounds.proofs.taken.Statement.{statement}
 use Rattle.rounds.proofs.taken.Tie as tie
 
 next-leader-requires : tie.Need-next-leader-requires
-next-leader-requires c κs = tt
+next-leader-requires c κs = search needs
 
 returns : tie.Need-returns
 returns c =

@@ -1,10 +1,10 @@
 -- `tip::adopt` meets its contract. Assumes nothing.
-use Rattle.tip.proofs.Steps.{adopt-tip}
+use Rattle.tip.proofs.Steps.{adoption}
 use Rattle.tip.proofs.adopt.Statement.{statement}
 use Rattle.tip.proofs.adopt.Tie as tie
 
 take-branch-requires : tie.Need-take-branch-requires
-take-branch-requires c κs = tt
+take-branch-requires c κs = c .before .before .before .pre .0
 
 last-frame-requires : tie.Need-last-frame-requires
 last-frame-requires c κs = tt
@@ -16,7 +16,11 @@ height-requires : tie.Need-height-requires
 height-requires c κs = tt
 
 tipped-requires : tie.Need-tipped-requires
-tipped-requires c κs = tt
+tipped-requires c κs =
+    let r = c .before in
+    let l = r .before .before in
+    let s = l .before .before .before .before .before .before .before in
+    rw (r .round .ensures, l .last-frame .ensures) (s .pre .1)
 
 same-length : tie.Need-same-length
 same-length c =
@@ -30,7 +34,7 @@ returns c =
     let l = r .before .before in
     let k = l .before .before .before in
     let a = k .before .before .before .before .args in
-    (k .take-branch .ensures, adopt-tip (a .r) _ _ _ _ _ _ (l .last-frame .ensures) (r .round .ensures) (h .height .ensures) (c .tipped .ensures))
+    adoption (a .r) (a .log .now) _ _ _ _ _ _ _ (k .take-branch .ensures) (l .last-frame .ensures) (r .round .ensures) (h .height .ensures) (c .tipped .ensures)
 
 pub adopt-spec : {M : Type 1} → statement M
 adopt-spec =

@@ -1,22 +1,28 @@
 -- `tip::propose` meets its contract. Assumes nothing.
+use native.Mathlib.Omega.{arith}
+use borrow.Author.Needs.{needs}
+use lib.ListN.{length-take}
 use Rattle.tip.proofs.Steps.{proposal}
 use Rattle.tip.proofs.propose.Statement.{statement}
 use Rattle.tip.proofs.propose.Tie as tie
 
-wrapping-add-u32-requires : tie.Need-wrapping-add-u32-requires
-wrapping-add-u32-requires c κs = tt
+add-height : tie.Need-add-height
+add-height c = search needs
 
 put-own-block-requires : tie.Need-put-own-block-requires
-put-own-block-requires c κs = tt
+put-own-block-requires c κs = search needs
 
 part-requires : tie.Need-part-requires
 part-requires c κs = tt
 
 store-requires : tie.Need-store-requires
-store-requires c κs = tt
+store-requires c κs =
+    let u = c .before .before .before .before .before in
+    let g = u .before .before .before .before .before .before .before in
+    (omega arith, omega (arith, g .pre .0 .size), rw (c .part .ensures) (simp length-take (omega (arith, u .put-own-block .kept .1 .1 .1 .1 .0))))
 
 tipped-requires : tie.Need-tipped-requires
-tipped-requires c κs = tt
+tipped-requires c κs = search needs
 
 same-length : tie.Need-same-length
 same-length c =
@@ -33,15 +39,15 @@ returns c =
     let s = c .before .before .before .before in
     let p = s .before in
     let u = p .before .before .before .before .before in
-    let n = u .before .before .before in
-    let a = n .before .before .before .before .args in
-    proposal (a .r) (a .log .now) (a .entry .now) (a .out .now) _ _ _ _ _ (n .wrapping-add-u32 .ensures) (u .put-own-block .ensures) (p .part .ensures) (s .store .ensures) (c .tipped .ensures)
+    let g = u .before .before .before .before .before .before .before in
+    let a = g .args in
+    proposal (a .r) (a .log .now) (a .entry .now) (a .out .now) (g .pre .0) _ _ _ _ (u .put-own-block .ensures) (p .part .ensures) (s .store .ensures) (c .tipped .ensures)
 
 pub propose-spec : {M : Type 1} → statement M
 propose-spec =
     tie.close
     (tie.spec
-    wrapping-add-u32-requires
+    add-height
     put-own-block-requires
     part-requires
     store-requires

@@ -1,6 +1,8 @@
 -- `tip::put_own_block` meets its contract. Assumes nothing.
-use mathlib.Core.Path.{refl}
-use Rattle.tip.proofs.Steps.{on-genesis, on-slot}
+use mathlib.Core.Path.{refl, ap, _∙_}
+use native.Mathlib.Omega.{arith}
+use lib.ListN.{length}
+use Rattle.tip.proofs.Steps.{genesis-digest, slot-digest, digest-size}
 use Rattle.tip.proofs.put_own_block.Statement.{statement}
 use Rattle.tip.proofs.put_own_block.Tie as tie
 
@@ -8,7 +10,7 @@ slice-aggregate-put-block : tie.Need-slice-aggregate-put-block
 slice-aggregate-put-block c = refl
 
 put-block-requires : tie.Need-put-block-requires
-put-block-requires c κs = tt
+put-block-requires c κs = (omega arith, refl, omega arith)
 
 same-length : tie.Need-same-length
 same-length c =
@@ -20,7 +22,7 @@ returns c =
     let u = c .before .before in
     let i = u .before .before .before in
     let a = i .before .before .before .before .args in
-    on-genesis (a .r) (a .log .now) (a .height) (a .entry .now) (a .out .now) _ (i .if1 .taken) (u .put-block .ensures)
+    rw (genesis-digest (a .log .now) (a .r .«tip_round» .0) (i .if1 .taken)) at (u .put-block .ensures)
 
 slot-requires : tie.Need-slot-requires
 slot-requires c κs = tt
@@ -29,7 +31,14 @@ part-requires : tie.Need-part-requires
 part-requires c κs = tt
 
 put-block-requires-2 : tie.Need-put-block-requires-2
-put-block-requires-2 c κs = tt
+put-block-requires-2 c κs =
+    let p = c .before in
+    let l = p .before in
+    let i = l .before in
+    let s = i .before .before .before .before in
+    let a = s .args in
+    let e = slot-digest (a .log .now) _ _ (a .r .«tip_round» .0) (i .if1 .left) (l .slot .ensures) (p .part .ensures) in
+    (omega arith, ap length e ∙ digest-size (a .log .now) (a .r .«tip_round» .0) (omega arith), omega arith)
 
 same-length-2 : tie.Need-same-length-2
 same-length-2 c =
@@ -43,7 +52,7 @@ returns-2 c =
     let l = p .before in
     let i = l .before in
     let a = i .before .before .before .before .args in
-    on-slot (a .r) (a .log .now) (a .height) (a .entry .now) (a .out .now) _ _ _ (i .if1 .left) (l .slot .ensures) (p .part .ensures) (u .put-block2 .ensures)
+    rw (slot-digest (a .log .now) _ _ (a .r .«tip_round» .0) (i .if1 .left) (l .slot .ensures) (p .part .ensures)) at (u .put-block2 .ensures)
 
 pub put-own-block-spec : {M : Type 1} → statement M
 put-own-block-spec =

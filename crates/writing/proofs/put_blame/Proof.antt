@@ -1,11 +1,8 @@
 -- `writing::put_blame` meets its contract. Assumes nothing.
 use borrow.Author.Needs.{needs}
-use Rattle.writing.proofs.Make.{written-blame, blame-short-out}
+use Rattle.writing.proofs.Make.{written-blame}
 use Rattle.writing.proofs.put_blame.Statement.{statement}
 use Rattle.writing.proofs.put_blame.Tie as tie
-
-returns : tie.Need-returns
-returns c = blame-short-out _ _ _ (c .if1 .taken)
 
 blame-start-requires : tie.Need-blame-start-requires
 blame-start-requires c κs = search needs
@@ -25,23 +22,22 @@ seal-requires c κs = search needs
 same-length : tie.Need-same-length
 same-length c = search needs
 
-returns-2 : tie.Need-returns-2
-returns-2 c =
+returns : tie.Need-returns
+returns c =
     let s = c .before .before in
     let z = s .before .before .before .before in
     let p = z .before .before .before .before in
     let b = p .before .before .before in
-    written-blame _ _ _ _ _ _ _ (b .before .if1 .left) (b .blame-start .ensures) (p .put .ensures) (z .put-zeros .ensures) (s .seal .ensures)
+    written-blame _ _ _ _ _ _ _ (b .blame-start .ensures) (p .put .ensures) (z .put-zeros .ensures) (s .seal .ensures)
 
 pub put-blame-spec : {M : Type 1} → statement M
 put-blame-spec =
     tie.close
     (tie.spec
-    returns
     blame-start-requires
     slice-aggregate-put
     put-requires
     put-zeros-requires
     seal-requires
     same-length
-    returns-2)
+    returns)
