@@ -8,14 +8,8 @@ use borrow.Author.Needs.{needs}
 use Rattle.branch.proofs.is_stale.Statement.{statement}
 use Rattle.branch.proofs.is_stale.Tie as tie
 
-last-frame-requires : tie.Need-last-frame-requires
-last-frame-requires c κs = search needs
-
-round-requires : tie.Need-round-requires
-round-requires c κs = search needs
-
 returns : tie.Need-returns
 returns c = ap (λ (k : ℕ). ltb k (c .before .before .before .args .round)) (c .round .ensures ∙ ap (λ (x : List ℕ). round x) (c .before .last-frame .ensures))
 
 pub is-stale-spec : {M : Type 1} → statement M
-is-stale-spec = tie.close (tie.spec last-frame-requires round-requires returns)
+is-stale-spec = tie.close (tie.spec (λ c κs. search needs) (λ c κs. search needs) returns)

@@ -6,24 +6,6 @@ use borrow.Author.Needs.{needs}
 use Rattle.branch.proofs.judge_attached.Statement.{statement}
 use Rattle.branch.proofs.judge_attached.Tie as tie
 
-part-requires : tie.Need-part-requires
-part-requires c κs = search needs
-
-attach-requires : tie.Need-attach-requires
-attach-requires c κs = search needs
-
-enum-known-at : tie.Need-enum-known-at
-enum-known-at c = search needs
-
-judge-on-requires : tie.Need-judge-on-requires
-judge-on-requires c κs = search needs
-
-enum-told : tie.Need-enum-told
-enum-told c = search needs
-
-refusal-requires : tie.Need-refusal-requires
-refusal-requires c κs = search needs
-
 returns : tie.Need-returns
 returns c = c .judge-on .ensures ∙ attached-at _ _ _ _ (c .before .before .before .before .before .part .result .now) (attachOf (c .before .before .before .before .attach .result)) (c .before .before .before .before .before .part .ensures) (c .before .before .before .before .attach .ensures) _ (ap attachOf (c .before .before .at .given .1))
 
@@ -34,11 +16,11 @@ pub judge-attached-spec : {M : Type 1} → statement M
 judge-attached-spec =
     tie.close
     (tie.spec
-    part-requires
-    attach-requires
-    enum-known-at
-    judge-on-requires
-    enum-told
-    refusal-requires
+    (λ c κs. search needs)
+    (λ c κs. search needs)
+    (λ c. search needs)
+    (λ c κs. search needs)
+    (λ c. search needs)
+    (λ c κs. search needs)
     returns
     returns-2)

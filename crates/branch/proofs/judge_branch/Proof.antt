@@ -7,12 +7,6 @@ use borrow.Author.Needs.{needs}
 use Rattle.branch.proofs.judge_branch.Statement.{statement}
 use Rattle.branch.proofs.judge_branch.Tie as tie
 
-is-whole-requires : tie.Need-is-whole-requires
-is-whole-requires c κs = search needs
-
-refusal-requires : tie.Need-refusal-requires
-refusal-requires c κs = search needs
-
 returns : tie.Need-returns
 returns c = c .refusal .ensures ∙ branch-cut _ _ _ _ (c .before .before .is-whole .result) (c .before .before .is-whole .ensures) (not-true _ (c .before .if1 .taken))
 
@@ -24,4 +18,4 @@ returns-2 c = c .judge-whole .ensures ∙ branch-whole _ _ _ _ (c .before .befor
 
 pub judge-branch-spec : {M : Type 1} → statement M
 judge-branch-spec =
-    tie.close (tie.spec is-whole-requires refusal-requires returns judge-whole-requires returns-2)
+    tie.close (tie.spec (λ c κs. search needs) (λ c κs. search needs) returns judge-whole-requires returns-2)

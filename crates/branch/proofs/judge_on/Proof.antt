@@ -6,23 +6,8 @@ use borrow.Author.Needs.{needs}
 use Rattle.branch.proofs.judge_on.Statement.{statement}
 use Rattle.branch.proofs.judge_on.Tie as tie
 
-first-uncertified-requires : tie.Need-first-uncertified-requires
-first-uncertified-requires c κs = search needs
-
-gap-place-requires : tie.Need-gap-place-requires
-gap-place-requires c κs = search needs
-
-refusal-requires : tie.Need-refusal-requires
-refusal-requires c κs = search needs
-
 returns : tie.Need-returns
 returns c = c .refusal .ensures ∙ on-gap _ _ _ _ _ (c .before .before .gap-place .result) (c .before .before .gap-place .ensures ∙ c .before .before .before .first-uncertified .ensures (c .before .before .before .before .before .before .before .args .r .«last_round» .0)) (c .before .if1 .taken)
-
-keeps-requires : tie.Need-keeps-requires
-keeps-requires c κs = search needs
-
-refusal-requires-2 : tie.Need-refusal-requires-2
-refusal-requires-2 c κs = search needs
 
 returns-2 : tie.Need-returns-2
 returns-2 c = c .refusal2 .ensures ∙ on-reverted _ _ _ _ _ (c .before .before .before .before .gap-place .result) (c .before .before .before .before .gap-place .ensures ∙ c .before .before .before .before .before .first-uncertified .ensures (c .before .before .before .before .before .before .before .before .before .args .r .«last_round» .0)) (c .before .before .before .if1 .left) (c .before .before .keeps .result) (c .before .before .keeps .ensures) (not-true _ (c .before .if2 .taken))
@@ -34,11 +19,11 @@ pub judge-on-spec : {M : Type 1} → statement M
 judge-on-spec =
     tie.close
     (tie.spec
-    first-uncertified-requires
-    gap-place-requires
-    refusal-requires
+    (λ c κs. search needs)
+    (λ c κs. search needs)
+    (λ c κs. search needs)
     returns
-    keeps-requires
-    refusal-requires-2
+    (λ c κs. search needs)
+    (λ c κs. search needs)
     returns-2
     returns-3)

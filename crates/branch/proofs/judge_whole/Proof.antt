@@ -12,9 +12,6 @@ use borrow.Author.Needs.{needs}
 use Rattle.branch.proofs.judge_whole.Statement.{statement}
 use Rattle.branch.proofs.judge_whole.Tie as tie
 
-judge-requires : tie.Need-judge-requires
-judge-requires c κs = search needs
-
 cast-refusal : tie.Need-cast-refusal
 cast-refusal c =
     let s = c .before .before .before .before .before .before .before in
@@ -24,23 +21,11 @@ cast-refusal c =
       ap (λ (v : Verdict). v .place) (c .before .before .before .judge .ensures),
     )
 
-refusal-requires : tie.Need-refusal-requires
-refusal-requires c κs = search needs
-
 returns : tie.Need-returns
 returns c = c .refusal .ensures ∙ whole-faulty _ _ _ _ (verdictOf (c .before .before .before .before .judge .result)) (c .before .before .before .before .judge .ensures) (c .before .before .if1 .taken)
 
-is-stale-requires : tie.Need-is-stale-requires
-is-stale-requires c κs = search needs
-
-refusal-requires-2 : tie.Need-refusal-requires-2
-refusal-requires-2 c κs = search needs
-
 returns-2 : tie.Need-returns-2
 returns-2 c = c .refusal2 .ensures ∙ whole-stale _ _ _ _ (verdictOf (c .before .before .before .before .before .judge .result)) (c .before .before .before .before .before .judge .ensures) (c .before .before .before .if1 .left) (c .before .before .is-stale .result) (c .before .before .is-stale .ensures) (c .before .if2 .taken)
-
-judge-attached-requires : tie.Need-judge-attached-requires
-judge-attached-requires c κs = search needs
 
 returns-3 : tie.Need-returns-3
 returns-3 c = c .judge-attached .ensures ∙ whole-fresh _ _ _ _ (verdictOf (c .before .before .before .before .before .judge .result)) (c .before .before .before .before .before .judge .ensures) (c .before .before .before .if1 .left) (c .before .before .is-stale .result) (c .before .before .is-stale .ensures) (c .before .if2 .left)
@@ -49,12 +34,12 @@ pub judge-whole-spec : {M : Type 1} → statement M
 judge-whole-spec =
     tie.close
     (tie.spec
-    judge-requires
+    (λ c κs. search needs)
     cast-refusal
-    refusal-requires
+    (λ c κs. search needs)
     returns
-    is-stale-requires
-    refusal-requires-2
+    (λ c κs. search needs)
+    (λ c κs. search needs)
     returns-2
-    judge-attached-requires
+    (λ c κs. search needs)
     returns-3)

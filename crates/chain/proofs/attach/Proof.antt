@@ -15,33 +15,15 @@ Inv-loop log x r₀ r = (r ≤ Frame.round x - 1) × (Log.attach log x r ≡ Log
 abbrev μ-loop : tie.MeasureT-loop
 μ-loop log x r₀ r = r
 
-round-requires : tie.Need-round-requires Inv-loop μ-loop
-round-requires c κs = search needs
-
-previous-requires : tie.Need-previous-requires Inv-loop μ-loop
-previous-requires c κs = search needs
-
 loop-holds : tie.Need-loop-holds Inv-loop μ-loop
 loop-holds c = let e : c .previous .result ≡ Frame.round (c .before .before .before .before .args .x .now) - 1 = c .previous .ensures ∙ ap (λ (k : ℕ). k - 1) (c .before .round .ensures) in
     (omega arith, ap (Log.attach (c .before .before .before .before .args .log .now) (c .before .before .before .before .args .x .now)) e)
 
-attaches-requires : tie.Need-attaches-requires Inv-loop μ-loop
-attaches-requires c κs = search needs
-
 returns : tie.Need-returns Inv-loop μ-loop
 returns c = attach-here (c .before .before .before .before .before .before .before .before .args .log .now) (c .before .before .before .before .before .before .before .before .args .x .now) (c .before .before .before .loop .r) (c .before .before .loop-test .taken) (sym (c .if1 .taken) ∙ c .before .attaches .ensures) ∙ c .before .before .before .loop .inv .1
 
-sub-r : tie.Need-sub-r Inv-loop μ-loop
-sub-r c = search needs
-
-loop-less : tie.Need-loop-less Inv-loop μ-loop
-loop-less c = search needs
-
 loop-again : tie.Need-loop-again Inv-loop μ-loop
 loop-again c = (search needs, attach-below (c .before .before .before .before .before .before .before .before .args .log .now) (c .before .before .before .before .before .before .before .before .args .x .now) (c .before .before .before .loop .r) (c .before .before .loop-test .taken) (sym (c .if1 .left) ∙ c .before .attaches .ensures) ∙ c .before .before .before .loop .inv .1)
-
-attaches-genesis-requires : tie.Need-attaches-genesis-requires Inv-loop μ-loop
-attaches-genesis-requires c κs = search needs
 
 returns-2 : tie.Need-returns-2 Inv-loop μ-loop
 returns-2 c = (rw (c .if2 .taken) at (attach-last (c .before .before .before .before .before .before .before .before .args .log .now) (c .before .before .before .before .before .before .before .before .args .x .now) (c .before .before .before .loop .r) (c .before .attaches-genesis .result) (c .before .before .loop-test .left) (c .before .attaches-genesis .ensures))) ∙ c .before .before .before .loop .inv .1
@@ -55,14 +37,14 @@ attach-spec =
     (tie.spec
     Inv-loop
     μ-loop
-    round-requires
-    previous-requires
+    (λ c κs. search needs)
+    (λ c κs. search needs)
     loop-holds
-    attaches-requires
+    (λ c κs. search needs)
     returns
-    sub-r
-    loop-less
+    (λ c. search needs)
+    (λ c. search needs)
     loop-again
-    attaches-genesis-requires
+    (λ c κs. search needs)
     returns-2
     returns-3)

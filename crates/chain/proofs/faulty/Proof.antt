@@ -5,14 +5,8 @@ use Rattle.chain.proofs.Judged.{bad-digest, bad-form, no-fault}
 use Rattle.chain.proofs.faulty.Statement.{statement}
 use Rattle.chain.proofs.faulty.Tie as tie
 
-checked-requires : tie.Need-checked-requires
-checked-requires c κs = search needs
-
 returns : tie.Need-returns
 returns c = bad-digest _ (c .before .before .before .args .x .now) (c .before .checked .result) (c .before .checked .ensures) (not-true _ (c .if1 .taken))
-
-block-form-requires : tie.Need-block-form-requires
-block-form-requires c κs = search needs
 
 returns-2 : tie.Need-returns-2
 returns-2 c = bad-form _ (c .before .before .before .before .before .args .x .now) (c .before .before .before .checked .result) (c .before .before .before .checked .ensures) (not-false _ (c .before .before .if1 .left)) (c .before .block-form .result) (c .before .block-form .ensures) (not-true _ (c .if2 .taken))
@@ -21,4 +15,4 @@ returns-3 : tie.Need-returns-3
 returns-3 c = no-fault _ (c .before .before .before .before .before .args .x .now) (c .before .before .before .checked .result) (c .before .before .before .checked .ensures) (not-false _ (c .before .before .if1 .left)) (c .before .block-form .result) (c .before .block-form .ensures) (not-false _ (c .if2 .left))
 
 pub faulty-spec : {M : Type 1} → statement M
-faulty-spec = tie.close (tie.spec checked-requires returns block-form-requires returns-2 returns-3)
+faulty-spec = tie.close (tie.spec (λ c κs. search needs) returns (λ c κs. search needs) returns-2 returns-3)

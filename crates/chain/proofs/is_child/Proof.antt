@@ -5,21 +5,12 @@ use Rattle.chain.proofs.Judged.{no-child, child}
 use Rattle.chain.proofs.is_child.Statement.{statement}
 use Rattle.chain.proofs.is_child.Tie as tie
 
-linked-requires : tie.Need-linked-requires
-linked-requires c κs = search needs
-
 returns : tie.Need-returns
 returns c = no-child (c .before .before .before .before .args .p .now) (c .before .before .before .before .args .x .now) (c .before .linked .result) (c .before .linked .ensures) (not-true _ (c .if1 .taken))
-
-round-requires : tie.Need-round-requires
-round-requires c κs = search needs
-
-round-requires-2 : tie.Need-round-requires-2
-round-requires-2 c κs = search needs
 
 returns-2 : tie.Need-returns-2
 returns-2 c = child (c .before .before .before .before .before .before .args .p .now) (c .before .before .before .before .before .before .args .x .now) (c .before .before .before .linked .result) (c .before .before .before .linked .ensures) (c .before .round .result) (c .round2 .result) (not-false _ (c .before .before .if1 .left)) (c .before .round .ensures) (c .round2 .ensures)
 
 pub is-child-spec : {M : Type 1} → statement M
 is-child-spec =
-    tie.close (tie.spec linked-requires returns round-requires round-requires-2 returns-2)
+    tie.close (tie.spec (λ c κs. search needs) returns (λ c κs. search needs) (λ c κs. search needs) returns-2)

@@ -27,53 +27,14 @@ returns c = judge-none _ (c .before .before .args .frames .now) _ (c .if1 .taken
 slice-aggregate-faulty : tie.Need-slice-aggregate-faulty Inv-loop μ-loop
 slice-aggregate-faulty c = sym (length-take-le 512 (c .before .before .before .args .frames .now) (omega arith))
 
-faulty-requires : tie.Need-faulty-requires Inv-loop μ-loop
-faulty-requires c κs = search needs
-
 returns-2 : tie.Need-returns-2 Inv-loop μ-loop
 returns-2 c = judge-first _ (c .before .before .before .before .before .args .frames .now) _ (omega arith) (c .before .faulty .result) (c .before .faulty .ensures) (c .if2 .taken)
 
 loop-holds : tie.Need-loop-holds Inv-loop μ-loop
 loop-holds c = (search needs, search needs, judge-start _ (c .before .before .before .before .before .args .frames .now) _ (omega arith) (c .before .faulty .result) (c .before .faulty .ensures) (c .if2 .left))
 
-mul-a : tie.Need-mul-a Inv-loop μ-loop
-mul-a c = search needs
-
-sub-p : tie.Need-sub-p Inv-loop μ-loop
-sub-p c = search needs
-
-add-e : tie.Need-add-e Inv-loop μ-loop
-add-e c = search needs
-
-sub-judge-next : tie.Need-sub-judge-next Inv-loop μ-loop
-sub-judge-next c = search needs
-
-part-judge-next-start : tie.Need-part-judge-next-start Inv-loop μ-loop
-part-judge-next-start c = search needs
-
-part-judge-next-end : tie.Need-part-judge-next-end Inv-loop μ-loop
-part-judge-next-end c = search needs
-
-sub-judge-next-2 : tie.Need-sub-judge-next-2 Inv-loop μ-loop
-sub-judge-next-2 c = search needs
-
-part-judge-next-start-2 : tie.Need-part-judge-next-start-2 Inv-loop μ-loop
-part-judge-next-start-2 c = search needs
-
-part-judge-next-end-2 : tie.Need-part-judge-next-end-2 Inv-loop μ-loop
-part-judge-next-end-2 c = search needs
-
-judge-next-requires : tie.Need-judge-next-requires Inv-loop μ-loop
-judge-next-requires c κs = search needs
-
 returns-3 : tie.Need-returns-3 Inv-loop μ-loop
 returns-3 c = judge-stop _ (c .before .before .before .before .before .before .before .before .before .before .before .args .frames .now) _ (c .before .before .before .before .before .loop .i) (c .before .judge-next .result) _ (omega arith) (omega arith) (c .before .judge-next .ensures) (c .before .before .before .before .before .loop .inv .2) (c .if3 .taken)
-
-add-i : tie.Need-add-i Inv-loop μ-loop
-add-i c = search needs
-
-loop-less : tie.Need-loop-less Inv-loop μ-loop
-loop-less c = search needs
 
 loop-again : tie.Need-loop-again Inv-loop μ-loop
 loop-again c = (search needs, search needs, judge-more _ (c .before .before .before .before .before .before .before .before .before .before .before .args .frames .now) _ (c .before .before .before .before .before .loop .i) (c .before .judge-next .result) _ (omega arith) (omega arith) (c .before .judge-next .ensures) (c .before .before .before .before .before .loop .inv .2) (c .if3 .left))
@@ -89,21 +50,21 @@ judge-spec =
     μ-loop
     returns
     slice-aggregate-faulty
-    faulty-requires
+    (λ c κs. search needs)
     returns-2
     loop-holds
-    mul-a
-    sub-p
-    add-e
-    sub-judge-next
-    part-judge-next-start
-    part-judge-next-end
-    sub-judge-next-2
-    part-judge-next-start-2
-    part-judge-next-end-2
-    judge-next-requires
+    (λ c. search needs)
+    (λ c. search needs)
+    (λ c. search needs)
+    (λ c. search needs)
+    (λ c. search needs)
+    (λ c. search needs)
+    (λ c. search needs)
+    (λ c. search needs)
+    (λ c. search needs)
+    (λ c κs. search needs)
     returns-3
-    add-i
-    loop-less
+    (λ c. search needs)
+    (λ c. search needs)
     loop-again
     returns-4)

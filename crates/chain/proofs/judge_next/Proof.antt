@@ -4,14 +4,8 @@ use Rattle.chain.proofs.Judged.{next-faulty, next-child}
 use Rattle.chain.proofs.judge_next.Statement.{statement}
 use Rattle.chain.proofs.judge_next.Tie as tie
 
-faulty-requires : tie.Need-faulty-requires
-faulty-requires c κs = search needs
-
 returns : tie.Need-returns
 returns c = next-faulty _ (c .before .before .before .before .args .p .now) (c .before .before .before .before .args .x .now) (c .before .faulty .result) (c .before .faulty .ensures) (c .if1 .taken)
-
-is-child-requires : tie.Need-is-child-requires
-is-child-requires c κs = search needs
 
 returns-2 : tie.Need-returns-2
 returns-2 c = rw (c .if2 .taken) at (next-child _ (c .before .before .before .before .before .before .args .p .now) (c .before .before .before .before .before .before .args .x .now) (c .before .before .before .faulty .result) (c .before .before .before .faulty .ensures) (c .before .is-child .result) (c .before .before .if1 .left) (c .before .is-child .ensures))
@@ -21,4 +15,4 @@ returns-3 c = rw (c .if2 .left) at (next-child _ (c .before .before .before .bef
 
 pub judge-next-spec : {M : Type 1} → statement M
 judge-next-spec =
-    tie.close (tie.spec faulty-requires returns is-child-requires returns-2 returns-3)
+    tie.close (tie.spec (λ c κs. search needs) returns (λ c κs. search needs) returns-2 returns-3)

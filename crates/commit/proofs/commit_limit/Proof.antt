@@ -5,9 +5,6 @@ use Rattle.apollo.specs.Enter.{commitLimit}
 use Rattle.commit.proofs.commit_limit.Statement.{statement}
 use Rattle.commit.proofs.commit_limit.Tie as tie
 
-cast-f : tie.Need-cast-f
-cast-f c = search needs
-
 returns : tie.Need-returns
 unfolding commitLimit
 returns c = omega arith
@@ -17,4 +14,4 @@ unfolding commitLimit
 returns-2 c = omega arith
 
 pub commit-limit-spec : {M : Type 1} → statement M
-commit-limit-spec = tie.close (tie.spec cast-f returns returns-2)
+commit-limit-spec = tie.close (tie.spec (λ c. search needs) returns returns-2)

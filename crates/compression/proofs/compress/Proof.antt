@@ -15,27 +15,9 @@ Inv-loop k s b w₀ v₀ t₀ w v t = (16 ≤ t) × (t ≤ 64) × (t % 16 ≡ 0)
 abbrev μ-loop : tie.MeasureT-loop
 μ-loop k s b w₀ v₀ t₀ w v t = 64 - t
 
-first-rounds-requires : tie.Need-first-rounds-requires Inv-loop μ-loop
-first-rounds-requires c κs = search needs
-
-loop-holds : tie.Need-loop-holds Inv-loop μ-loop
-loop-holds c = search needs
-
-next-rounds-requires : tie.Need-next-rounds-requires Inv-loop μ-loop
-next-rounds-requires c κs = search needs
-
-add-t : tie.Need-add-t Inv-loop μ-loop
-add-t c = search needs
-
-loop-less : tie.Need-loop-less Inv-loop μ-loop
-loop-less c = search needs
-
 loop-again : tie.Need-loop-again Inv-loop μ-loop
 loop-again c =
     (search needs, search needs, search needs, c .next-rounds .ensures _ _ (c .before .before .before .loop .inv .3))
-
-plus-requires : tie.Need-plus-requires Inv-loop μ-loop
-plus-requires c κs = tt
 
 returns : tie.Need-returns Inv-loop μ-loop
 returns c = compress-end _ _ (omega arith) (omega arith) (c .before .before .loop .inv .3) (c .plus .ensures)
@@ -46,11 +28,11 @@ compress-spec =
     (tie.spec
     Inv-loop
     μ-loop
-    first-rounds-requires
-    loop-holds
-    next-rounds-requires
-    add-t
-    loop-less
+    (λ c κs. search needs)
+    (λ c. search needs)
+    (λ c κs. search needs)
+    (λ c. search needs)
+    (λ c. search needs)
     loop-again
-    plus-requires
+    (λ c κs. tt)
     returns)

@@ -19,30 +19,9 @@ loop-holds : tie.Need-loop-holds Inv-loop μ-loop
 unfolding hash
 loop-holds c = (search needs, refl)
 
-mul-a : tie.Need-mul-a Inv-loop μ-loop
-mul-a c = search needs
-
-add-e : tie.Need-add-e Inv-loop μ-loop
-add-e c = search needs
-
-sub-compress : tie.Need-sub-compress Inv-loop μ-loop
-sub-compress c = search needs
-
-part-compress-start : tie.Need-part-compress-start Inv-loop μ-loop
-part-compress-start c = search needs
-
-part-compress-end : tie.Need-part-compress-end Inv-loop μ-loop
-part-compress-end c = search needs
-
 compress-requires : tie.Need-compress-requires Inv-loop μ-loop
 unfolding K
 compress-requires c κs = (refl, simp (length-take, length-drop) (omega arith))
-
-add-i : tie.Need-add-i Inv-loop μ-loop
-add-i c = search needs
-
-loop-less : tie.Need-loop-less Inv-loop μ-loop
-loop-less c = search needs
 
 loop-again : tie.Need-loop-again Inv-loop μ-loop
 loop-again c =
@@ -58,13 +37,13 @@ hash-spec =
     Inv-loop
     μ-loop
     loop-holds
-    mul-a
-    add-e
-    sub-compress
-    part-compress-start
-    part-compress-end
+    (λ c. search needs)
+    (λ c. search needs)
+    (λ c. search needs)
+    (λ c. search needs)
+    (λ c. search needs)
     compress-requires
-    add-i
-    loop-less
+    (λ c. search needs)
+    (λ c. search needs)
     loop-again
     returns)

@@ -6,46 +6,19 @@ use Rattle.forms.proofs.Forms.{blame-kind, blame-signer, blame-head, bl
 use Rattle.forms.proofs.blame_form.Statement.{statement}
 use Rattle.forms.proofs.blame_form.Tie as tie
 
-kind-requires : tie.Need-kind-requires
-kind-requires c κs = search needs
-
 returns : tie.Need-returns
 returns c = blame-kind _ _ _ (c .before .kind .ensures) (c .if1 .taken)
-
-mul-if2 : tie.Need-mul-if2
-mul-if2 c = search needs
-
-add-if2 : tie.Need-add-if2
-add-if2 c = search needs
-
-signer-requires : tie.Need-signer-requires
-signer-requires c κs = search needs
-
-cast-if2 : tie.Need-cast-if2
-cast-if2 c = search needs
 
 returns-2 : tie.Need-returns-2
 returns-2 c =
     let a = c .before .before .before .before .before .args in
     blame-signer (setup (a .f) (a .last-round)) (a .x .now) (c .before .signer .result) (c .before .signer .ensures) (omega arith)
 
-is-blank-requires : tie.Need-is-blank-requires
-is-blank-requires c κs = search needs
-
 returns-3 : tie.Need-returns-3
 returns-3 c = blame-head _ _ _ (c .before .is-blank .ensures) (c .if3 .taken)
 
-round-requires : tie.Need-round-requires
-round-requires c κs = search needs
-
-within-requires : tie.Need-within-requires
-within-requires c κs = search needs
-
 returns-4 : tie.Need-returns-4
 returns-4 c = blame-round _ _ _ _ (c .before .before .round .ensures) (c .before .within .ensures) (c .if4 .taken)
-
-is-blank-requires-2 : tie.Need-is-blank-requires-2
-is-blank-requires-2 c κs = search needs
 
 returns-5 : tie.Need-returns-5
 returns-5 c =
@@ -60,17 +33,17 @@ pub blame-form-spec : {M : Type 1} → statement M
 blame-form-spec =
     tie.close
     (tie.spec
-    kind-requires
+    (λ c κs. search needs)
     returns
-    mul-if2
-    add-if2
-    signer-requires
-    cast-if2
+    (λ c. search needs)
+    (λ c. search needs)
+    (λ c κs. search needs)
+    (λ c. search needs)
     returns-2
-    is-blank-requires
+    (λ c κs. search needs)
     returns-3
-    round-requires
-    within-requires
+    (λ c κs. search needs)
+    (λ c κs. search needs)
     returns-4
-    is-blank-requires-2
+    (λ c κs. search needs)
     returns-5)

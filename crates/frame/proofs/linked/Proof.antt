@@ -4,34 +4,16 @@ use Rattle.frame.proofs.Fields.{link-name, link-zero, link-height}
 use Rattle.frame.proofs.linked.Statement.{statement}
 use Rattle.frame.proofs.linked.Tie as tie
 
-part-requires : tie.Need-part-requires
-part-requires c κs = search needs
-
-part-requires-2 : tie.Need-part-requires-2
-part-requires-2 c κs = search needs
-
-same-bytes-requires : tie.Need-same-bytes-requires
-same-bytes-requires c κs = search needs
-
 returns : tie.Need-returns
 returns c =
     let s = c .before in
     link-name _ _ _ _ _ (s .before .before .part .ensures) (s .before .part2 .ensures) (s .same-bytes .ensures) (c .if1 .taken)
-
-height-requires : tie.Need-height-requires
-height-requires c κs = search needs
 
 returns-2 : tie.Need-returns-2
 returns-2 c =
     let h = c .before in
     let s = h .before .before in
     link-zero _ _ _ _ _ (s .before .before .part .ensures) (s .before .part2 .ensures) (s .same-bytes .ensures) _ (h .height .ensures) (c .if2 .taken)
-
-height-requires-2 : tie.Need-height-requires-2
-height-requires-2 c κs = search needs
-
-sub-result : tie.Need-sub-result
-sub-result c = search needs
 
 returns-3 : tie.Need-returns-3
 returns-3 c =
@@ -43,12 +25,12 @@ pub linked-spec : {M : Type 1} → statement M
 linked-spec =
     tie.close
     (tie.spec
-    part-requires
-    part-requires-2
-    same-bytes-requires
+    (λ c κs. search needs)
+    (λ c κs. search needs)
+    (λ c κs. search needs)
     returns
-    height-requires
+    (λ c κs. search needs)
     returns-2
-    height-requires-2
-    sub-result
+    (λ c κs. search needs)
+    (λ c. search needs)
     returns-3)

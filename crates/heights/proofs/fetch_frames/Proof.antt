@@ -17,35 +17,11 @@ abbrev μ-loop : tie.MeasureT-loop
 loop-holds : tie.Need-loop-holds Inv-loop μ-loop
 loop-holds c = (search needs, search needs, refl, copied-none _ _ _)
 
-cast-if1 : tie.Need-cast-if1 Inv-loop μ-loop
-cast-if1 c = search needs
-
-cast-result : tie.Need-cast-result Inv-loop μ-loop
-cast-result c = search needs
-
-same-length : tie.Need-same-length Inv-loop μ-loop
-same-length c = search needs
-
 returns : tie.Need-returns Inv-loop μ-loop
 returns c = copied-full (c .before .before .before .before .before .args .log .now) (c .before .before .before .before .before .args .h) (c .before .before .before .before .before .args .out .now) (c .before .before .loop .r) (c .before .before .loop .k) (c .before .before .loop .out) (c .before .before .loop .inv .3) (c .before .before .before .before .before .args .last-round) (omega arith) (c .if1 .taken)
 
-add-r : tie.Need-add-r Inv-loop μ-loop
-add-r c = search needs
-
-fetch-slot-requires : tie.Need-fetch-slot-requires Inv-loop μ-loop
-fetch-slot-requires c κs = search needs
-
-loop-less : tie.Need-loop-less Inv-loop μ-loop
-loop-less c = search needs
-
 loop-again : tie.Need-loop-again Inv-loop μ-loop
 loop-again c = (search needs, search needs, search needs, copied-more (c .before .before .before .before .before .before .before .before .before .args .log .now) (c .before .before .before .before .before .before .before .before .before .args .h) (c .before .before .before .before .before .before .before .before .before .args .out .now) (c .before .before .before .before .before .before .loop .r) (c .before .before .before .before .before .before .loop .k) (c .before .before .before .before .before .before .loop .out) (c .before .before .before .before .before .before .loop .inv .3) _ _ (omega arith) (omega arith) (c .before .before .fetch-slot .ensures .0 .0) (c .before .before .fetch-slot .ensures .1))
-
-cast-result-2 : tie.Need-cast-result-2 Inv-loop μ-loop
-cast-result-2 c = search needs
-
-same-length-2 : tie.Need-same-length-2 Inv-loop μ-loop
-same-length-2 c = search needs
 
 returns-2 : tie.Need-returns-2 Inv-loop μ-loop
 returns-2 c = copied-all (c .before .before .before .before .args .log .now) (c .before .before .before .before .args .h) (c .before .before .before .before .args .out .now) (c .before .loop .r) (c .before .loop .k) (c .before .loop .out) (c .before .loop .inv .3) (c .before .before .before .before .args .last-round) (omega arith)
@@ -57,14 +33,14 @@ fetch-frames-spec =
     Inv-loop
     μ-loop
     loop-holds
-    cast-if1
-    cast-result
-    same-length
+    (λ c. search needs)
+    (λ c. search needs)
+    (λ c. search needs)
     returns
-    add-r
-    fetch-slot-requires
-    loop-less
+    (λ c. search needs)
+    (λ c κs. search needs)
+    (λ c. search needs)
     loop-again
-    cast-result-2
-    same-length-2
+    (λ c. search needs)
+    (λ c. search needs)
     returns-2)

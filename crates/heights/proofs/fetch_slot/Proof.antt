@@ -10,29 +10,14 @@ use Rattle.heights.proofs.Fetched.{slot-size, slot-copied}
 use Rattle.heights.proofs.fetch_slot.Statement.{statement}
 use Rattle.heights.proofs.fetch_slot.Tie as tie
 
-is-tall-requires : tie.Need-is-tall-requires
-is-tall-requires c κs = search needs
-
 returns : tie.Need-returns
 returns c = let e : isTall (c .before .before .before .before .args .log .now) (c .before .before .before .before .args .h) (c .before .before .before .before .args .r) ≡ false = sym (c .before .is-tall .ensures) ∙ not-true _ (c .if1 .taken) in
     ((rw e, search needs), rw e)
-
-add-store : tie.Need-add-store
-add-store c = search needs
-
-slot-requires : tie.Need-slot-requires
-slot-requires c κs = search needs
 
 store-requires : tie.Need-store-requires
 store-requires c κs =
     let s = c .before .before .before .before .before .before in
     (search needs, omega arith, ap length (c .slot .ensures) ∙ slot-size (s .args .log .now) (s .args .r) (omega arith) (omega arith))
-
-add-result : tie.Need-add-result
-add-result c = search needs
-
-same-length : tie.Need-same-length
-same-length c = search needs
 
 returns-2 : tie.Need-returns-2
 returns-2 c = let e : isTall (c .before .before .before .before .before .before .before .before .before .args .log .now) (c .before .before .before .before .before .before .before .before .before .args .h) (c .before .before .before .before .before .before .before .before .before .args .r) ≡ true = sym (c .before .before .before .before .before .before .is-tall .ensures) ∙ not-false _ (c .before .before .before .before .before .if1 .left) in
@@ -42,11 +27,11 @@ pub fetch-slot-spec : {M : Type 1} → statement M
 fetch-slot-spec =
     tie.close
     (tie.spec
-    is-tall-requires
+    (λ c κs. search needs)
     returns
-    add-store
-    slot-requires
+    (λ c. search needs)
+    (λ c κs. search needs)
     store-requires
-    add-result
-    same-length
+    (λ c. search needs)
+    (λ c. search needs)
     returns-2)

@@ -4,22 +4,13 @@ use Rattle.heights.proofs.Search.{unfilled, another, judged}
 use Rattle.heights.proofs.is_readable.Statement.{statement}
 use Rattle.heights.proofs.is_readable.Tie as tie
 
-kind-requires : tie.Need-kind-requires
-kind-requires c κs = search needs
-
 returns : tie.Need-returns
 returns c = unfilled _ _ _ (c .before .kind .ensures) (c .if1 .taken)
-
-height-requires : tie.Need-height-requires
-height-requires c κs = search needs
 
 returns-2 : tie.Need-returns-2
 returns-2 c =
     let k = c .before .before .before in
     another _ _ _ (k .kind .ensures) _ (c .before .height .ensures) (c .before .before .if1 .left) (c .if2 .taken)
-
-entry-length-requires : tie.Need-entry-length-requires
-entry-length-requires c κs = search needs
 
 returns-3 : tie.Need-returns-3
 returns-3 c =
@@ -28,4 +19,4 @@ returns-3 c =
     judged _ _ _ (k .kind .ensures) _ (g .height .ensures) (g .before .if1 .left) _ (c .before .if2 .left) (c .entry-length .ensures .0)
 
 pub is-readable-spec : {M : Type 1} → statement M
-is-readable-spec = tie.close (tie.spec kind-requires returns height-requires returns-2 entry-length-requires returns-3)
+is-readable-spec = tie.close (tie.spec (λ c κs. search needs) returns (λ c κs. search needs) returns-2 (λ c κs. search needs) returns-3)

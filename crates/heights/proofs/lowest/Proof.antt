@@ -18,39 +18,12 @@ abbrev μ-loop : tie.MeasureT-loop
 loop-holds : tie.Need-loop-holds Inv-loop μ-loop
 loop-holds c = (omega arith, rw sub-zero)
 
-cast-a : tie.Need-cast-a Inv-loop μ-loop
-cast-a c = search needs
-
-mul-a : tie.Need-mul-a Inv-loop μ-loop
-mul-a c = search needs
-
-add-e : tie.Need-add-e Inv-loop μ-loop
-add-e c = search needs
-
-add-r : tie.Need-add-r Inv-loop μ-loop
-add-r c = search needs
-
-sub-is-readable : tie.Need-sub-is-readable Inv-loop μ-loop
-sub-is-readable c = search needs
-
-part-is-readable-start : tie.Need-part-is-readable-start Inv-loop μ-loop
-part-is-readable-start c = search needs
-
-part-is-readable-end : tie.Need-part-is-readable-end Inv-loop μ-loop
-part-is-readable-end c = search needs
-
-is-readable-requires : tie.Need-is-readable-requires Inv-loop μ-loop
-is-readable-requires c κs = search needs
-
 returns : tie.Need-returns Inv-loop μ-loop
 returns c =
     let t = c .before .before .before in
     let l = t .before .loop in
     lowest-here _ _ (l .lo) _ (t .loop-test .taken) (sym (c .if1 .taken) ∙ readable-slot _ _ (l .lo) _ (c .before .is-readable .ensures))
     ∙ l .inv .1
-
-loop-less : tie.Need-loop-less Inv-loop μ-loop
-loop-less c = search needs
 
 loop-again : tie.Need-loop-again Inv-loop μ-loop
 loop-again c =
@@ -68,15 +41,15 @@ lowest-spec =
     Inv-loop
     μ-loop
     loop-holds
-    cast-a
-    mul-a
-    add-e
-    add-r
-    sub-is-readable
-    part-is-readable-start
-    part-is-readable-end
-    is-readable-requires
+    (λ c. search needs)
+    (λ c. search needs)
+    (λ c. search needs)
+    (λ c. search needs)
+    (λ c. search needs)
+    (λ c. search needs)
+    (λ c. search needs)
+    (λ c κs. search needs)
     returns
-    loop-less
+    (λ c. search needs)
     loop-again
     returns-2)

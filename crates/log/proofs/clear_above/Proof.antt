@@ -5,24 +5,6 @@ use Rattle.log.proofs.Slots.{cleared, nothing-above}
 use Rattle.log.proofs.clear_above.Statement.{statement}
 use Rattle.log.proofs.clear_above.Tie as tie
 
-mul-a : tie.Need-mul-a
-mul-a c = search needs
-
-sub-clear : tie.Need-sub-clear
-sub-clear c = search needs
-
-part-clear-start : tie.Need-part-clear-start
-part-clear-start c = search needs
-
-part-clear-end : tie.Need-part-clear-end
-part-clear-end c = search needs
-
-clear-requires : tie.Need-clear-requires
-clear-requires c κs = search needs
-
-same-length : tie.Need-same-length
-same-length c = search needs
-
 returns : tie.Need-returns
 returns c = cleared (c .before .before .before .before .before .before .args .log .now) (c .before .before .clear .last .0) (c .before .before .before .before .before .before .args .r) (omega arith) (c .before .before .clear .ensures)
 
@@ -33,11 +15,11 @@ pub clear-above-spec : {M : Type 1} → statement M
 clear-above-spec =
     tie.close
     (tie.spec
-    mul-a
-    sub-clear
-    part-clear-start
-    part-clear-end
-    clear-requires
-    same-length
+    (λ c. search needs)
+    (λ c. search needs)
+    (λ c. search needs)
+    (λ c. search needs)
+    (λ c κs. search needs)
+    (λ c. search needs)
     returns
     returns-2)

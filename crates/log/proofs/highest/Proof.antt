@@ -16,17 +16,8 @@ abbrev μ-loop : tie.MeasureT-loop
 loop-holds : tie.Need-loop-holds Inv-loop μ-loop
 loop-holds c = (search needs, refl)
 
-is-filled-requires : tie.Need-is-filled-requires Inv-loop μ-loop
-is-filled-requires c κs = search needs
-
 returns : tie.Need-returns Inv-loop μ-loop
 returns c = highest-here (c .before .before .before .before .before .args .log .now) (c .before .before .before .loop .r) (c .before .before .loop-test .taken) (sym (c .if1 .taken) ∙ c .before .is-filled .ensures) ∙ c .before .before .before .loop .inv .1
-
-sub-r : tie.Need-sub-r Inv-loop μ-loop
-sub-r c = search needs
-
-loop-less : tie.Need-loop-less Inv-loop μ-loop
-loop-less c = search needs
 
 loop-again : tie.Need-loop-again Inv-loop μ-loop
 loop-again c = (search needs, highest-below (c .before .before .before .before .before .args .log .now) (c .before .before .before .loop .r) (c .before .before .loop-test .taken) (sym (c .if1 .left) ∙ c .before .is-filled .ensures) ∙ c .before .before .before .loop .inv .1)
@@ -41,9 +32,9 @@ highest-spec =
     Inv-loop
     μ-loop
     loop-holds
-    is-filled-requires
+    (λ c κs. search needs)
     returns
-    sub-r
-    loop-less
+    (λ c. search needs)
+    (λ c. search needs)
     loop-again
     returns-2)

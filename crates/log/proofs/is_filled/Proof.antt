@@ -8,14 +8,8 @@ use Rattle.log.proofs.is_filled.Tie as tie
 returns : tie.Need-returns
 returns c = genesis-empty (c .before .before .args .log .now) (c .before .before .args .r) (c .if1 .taken)
 
-slot-requires : tie.Need-slot-requires
-slot-requires c κs = search needs
-
-kind-requires : tie.Need-kind-requires
-kind-requires c κs = search needs
-
 returns-2 : tie.Need-returns-2
 returns-2 c = filled-read (c .before .before .before .before .args .log .now) (c .before .slot .result .now) (c .before .before .before .before .args .r) (omega arith) (c .before .slot .ensures) (c .kind .result) (c .kind .ensures)
 
 pub is-filled-spec : {M : Type 1} → statement M
-is-filled-spec = tie.close (tie.spec returns slot-requires kind-requires returns-2)
+is-filled-spec = tie.close (tie.spec returns (λ c κs. search needs) (λ c κs. search needs) returns-2)

@@ -6,20 +6,8 @@ use Rattle.apollo.specs.Bytes.{part}
 use Rattle.log.proofs.slot.Statement.{statement}
 use Rattle.log.proofs.slot.Tie as tie
 
-previous-requires : tie.Need-previous-requires
-previous-requires c κs = search needs
-
-cast-part : tie.Need-cast-part
-cast-part c = search needs
-
-mul-part : tie.Need-mul-part
-mul-part c = search needs
-
-part-requires : tie.Need-part-requires
-part-requires c κs = search needs
-
 returns : tie.Need-returns
 returns c = c .part .ensures ∙ ap (λ (i : ℕ). part (c .before .before .before .args .log .now) (512 * i) 512) (c .before .previous .ensures)
 
 pub slot-spec : {M : Type 1} → statement M
-slot-spec = tie.close (tie.spec previous-requires cast-part mul-part part-requires returns)
+slot-spec = tie.close (tie.spec (λ c κs. search needs) (λ c. search needs) (λ c. search needs) (λ c κs. search needs) returns)

@@ -8,14 +8,8 @@ use Rattle.log.proofs.slot_height.Tie as tie
 returns : tie.Need-returns
 returns c = genesis-height (c .before .before .args .log .now) (c .before .before .args .r) (c .if1 .taken)
 
-slot-requires : tie.Need-slot-requires
-slot-requires c κs = search needs
-
-height-requires : tie.Need-height-requires
-height-requires c κs = search needs
-
 returns-2 : tie.Need-returns-2
 returns-2 c = height-read (c .before .before .before .before .args .log .now) (c .before .slot .result .now) (c .before .before .before .before .args .r) (omega arith) (c .before .slot .ensures) (c .height .result) (c .height .ensures)
 
 pub slot-height-spec : {M : Type 1} → statement M
-slot-height-spec = tie.close (tie.spec returns slot-requires height-requires returns-2)
+slot-height-spec = tie.close (tie.spec returns (λ c κs. search needs) (λ c κs. search needs) returns-2)

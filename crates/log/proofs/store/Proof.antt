@@ -5,27 +5,6 @@ use Rattle.log.proofs.Slots.{stored}
 use Rattle.log.proofs.store.Statement.{statement}
 use Rattle.log.proofs.store.Tie as tie
 
-mul-e : tie.Need-mul-e
-mul-e c = search needs
-
-sub-a : tie.Need-sub-a
-sub-a c = search needs
-
-sub-copy : tie.Need-sub-copy
-sub-copy c = search needs
-
-part-copy-start : tie.Need-part-copy-start
-part-copy-start c = search needs
-
-part-copy-end : tie.Need-part-copy-end
-part-copy-end c = search needs
-
-copy-requires : tie.Need-copy-requires
-copy-requires c κs = search needs
-
-same-length : tie.Need-same-length
-same-length c = search needs
-
 returns : tie.Need-returns
 returns c =
     let k = c .before .before in
@@ -34,4 +13,4 @@ returns c =
 pub store-spec : {M : Type 1} → statement M
 store-spec =
     tie.close
-    (tie.spec mul-e sub-a sub-copy part-copy-start part-copy-end copy-requires same-length returns)
+    (tie.spec (λ c. search needs) (λ c. search needs) (λ c. search needs) (λ c. search needs) (λ c. search needs) (λ c κs. search needs) (λ c. search needs) returns)

@@ -21,38 +21,14 @@ abbrev μ-loop : tie.MeasureT-loop
 loop-holds : tie.Need-loop-holds Inv-loop μ-loop
 loop-holds c = (search needs, refl, ap (storeAll _) (rest-start _ _), rw (rest-start _ _) (c .before .before .pre))
 
-mul-start : tie.Need-mul-start Inv-loop μ-loop
-mul-start c = search needs
-
-add-end : tie.Need-add-end Inv-loop μ-loop
-add-end c = search needs
-
-sub-store-frame : tie.Need-sub-store-frame Inv-loop μ-loop
-sub-store-frame c = search needs
-
-part-store-frame-start : tie.Need-part-store-frame-start Inv-loop μ-loop
-part-store-frame-start c = search needs
-
-part-store-frame-end : tie.Need-part-store-frame-end Inv-loop μ-loop
-part-store-frame-end c = search needs
-
 store-frame-requires : tie.Need-store-frame-requires Inv-loop μ-loop
 store-frame-requires c κs =
     let l = c .before .before .before in
     let b = l .before .before .before .args .frames .now in
     rw (l .loop .inv .1) (next-slot _ b (length b / 512) (l .loop .i) (c .before .before .loop-test .taken) (omega arith) (l .loop .inv .3))
 
-add-i : tie.Need-add-i Inv-loop μ-loop
-add-i c = search needs
-
-loop-less : tie.Need-loop-less Inv-loop μ-loop
-loop-less c = search needs
-
 loop-again : tie.Need-loop-again Inv-loop μ-loop
 loop-again c = (search needs, search needs, each-more (c .before .before .before .before .before .before .loop .log) (c .before .before .store-frame .last .0) (c .before .before .before .before .before .before .before .before .before .args .frames .now) _ _ (c .before .before .before .before .before .before .loop .i) (c .before .before .before .before .before .loop-test .taken) (c .before .before .store-frame .ensures) (c .before .before .before .before .before .before .loop .inv .2), slotted-next _ _ _ (c .before .before .before .before .before .before .loop .i) (c .before .before .before .before .before .loop-test .taken) (c .before .before .before .before .before .before .loop .inv .3) .2)
-
-same-length : tie.Need-same-length Inv-loop μ-loop
-same-length c = search needs
 
 returns : tie.Need-returns Inv-loop μ-loop
 returns c = each-end (c .before .loop .log) (c .before .before .before .before .args .frames .now) _ _ (c .before .loop .i) (c .loop-test .left) (c .before .loop .inv .2)
@@ -64,14 +40,14 @@ store-each-spec =
     Inv-loop
     μ-loop
     loop-holds
-    mul-start
-    add-end
-    sub-store-frame
-    part-store-frame-start
-    part-store-frame-end
+    (λ c. search needs)
+    (λ c. search needs)
+    (λ c. search needs)
+    (λ c. search needs)
+    (λ c. search needs)
     store-frame-requires
-    add-i
-    loop-less
+    (λ c. search needs)
+    (λ c. search needs)
     loop-again
-    same-length
+    (λ c. search needs)
     returns)

@@ -4,16 +4,10 @@ use Rattle.apollo.specs.Branch.{grown}
 use Rattle.log.proofs.take_branch.Statement.{statement}
 use Rattle.log.proofs.take_branch.Tie as tie
 
-clear-above-requires : tie.Need-clear-above-requires
-clear-above-requires c κs = search needs
-
 store-each-requires : tie.Need-store-each-requires
 store-each-requires c κs =
     let k = c .before .before .before in
     rw (k .clear-above .kept .0) (k .before .before .before .before .pre)
-
-same-length : tie.Need-same-length
-same-length c = search needs
 
 returns : tie.Need-returns
 unfolding grown
@@ -21,4 +15,4 @@ returns c = cc
 
 pub take-branch-spec : {M : Type 1} → statement M
 take-branch-spec =
-    tie.close (tie.spec clear-above-requires store-each-requires same-length returns)
+    tie.close (tie.spec (λ c κs. search needs) store-each-requires (λ c. search needs) returns)

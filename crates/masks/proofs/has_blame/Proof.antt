@@ -5,12 +5,6 @@ use Rattle.masks.proofs.Masks.{bit-read, bit-high}
 use Rattle.masks.proofs.has_blame.Statement.{statement}
 use Rattle.masks.proofs.has_blame.Tie as tie
 
-mask-requires : tie.Need-mask-requires
-mask-requires c κs = search needs
-
-shr-result : tie.Need-shr-result
-shr-result c = search needs
-
 returns : tie.Need-returns
 returns c = bit-read (c .before .before .before .args .masks .now) (c .before .before .before .args .r) (c .before .before .before .args .i) (c .before .mask .result) (c .before .mask .ensures)
 
@@ -18,4 +12,4 @@ returns-2 : tie.Need-returns-2
 returns-2 c = bit-high (c .before .before .before .args .masks .now) (c .before .before .before .args .r) (c .before .before .before .args .i) (c .before .mask .result) (c .before .mask .ensures) (omega arith) (c .if1 .left)
 
 pub has-blame-spec : {M : Type 1} → statement M
-has-blame-spec = tie.close (tie.spec mask-requires shr-result returns returns-2)
+has-blame-spec = tie.close (tie.spec (λ c κs. search needs) (λ c. search needs) returns returns-2)

@@ -5,18 +5,6 @@ use borrow.Author.Needs.{needs}
 use Rattle.masks.proofs.mask.Statement.{statement}
 use Rattle.masks.proofs.mask.Tie as tie
 
-previous-requires : tie.Need-previous-requires
-previous-requires c κs = search needs
-
-cast-i : tie.Need-cast-i
-cast-i c = search needs
-
-mul-result : tie.Need-mul-result
-mul-result c = search needs
-
-shared-slice-read-result : tie.Need-shared-slice-read-result
-shared-slice-read-result c = search needs
-
 returns : tie.Need-returns
 returns c = ap (λ i. getD (c .before .before .before .before .args .masks .now) i 0) (c .before .before .previous .ensures)
 
@@ -25,4 +13,4 @@ returns-2 c = rw (← c .before .previous .ensures) (sym (List·getD-eq-default 
 
 pub mask-spec : {M : Type 1} → statement M
 mask-spec =
-    tie.close (tie.spec previous-requires cast-i mul-result shared-slice-read-result returns returns-2)
+    tie.close (tie.spec (λ c κs. search needs) (λ c. search needs) (λ c. search needs) (λ c. search needs) returns returns-2)

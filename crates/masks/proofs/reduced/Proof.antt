@@ -5,9 +5,6 @@ use Rattle.masks.proofs.Masks.{one-bit, one-bit-pos, reduced-whole}
 use Rattle.masks.proofs.reduced.Statement.{statement}
 use Rattle.masks.proofs.reduced.Tie as tie
 
-shl-result : tie.Need-shl-result
-shl-result c = search needs
-
 rem-result : tie.Need-rem-result
 rem-result c = one-bit-pos 32 (c .before .args .n) (omega arith)
 
@@ -18,4 +15,4 @@ returns-2 : tie.Need-returns-2
 returns-2 c = reduced-whole (c .before .args .m) (c .before .args .n) (omega arith) (c .if1 .left)
 
 pub reduced-spec : {M : Type 1} → statement M
-reduced-spec = tie.close (tie.spec shl-result rem-result returns returns-2)
+reduced-spec = tie.close (tie.spec (λ c. search needs) rem-result returns returns-2)

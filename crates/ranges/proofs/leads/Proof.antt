@@ -4,14 +4,8 @@ use Rattle.ranges.proofs.Valid.{leads-test}
 use Rattle.ranges.proofs.leads.Statement.{statement}
 use Rattle.ranges.proofs.leads.Tie as tie
 
-leader-requires : tie.Need-leader-requires
-leader-requires c κs = search needs
-
-cast-result : tie.Need-cast-result
-cast-result c = search needs
-
 returns : tie.Need-returns
 returns c = leads-test (c .before .before .before .args .r) _ (c .before .before .leader .ensures .0 _)
 
 pub leads-spec : {M : Type 1} → statement M
-leads-spec = tie.close (tie.spec leader-requires cast-result returns)
+leads-spec = tie.close (tie.spec (λ c κs. search needs) (λ c. search needs) returns)

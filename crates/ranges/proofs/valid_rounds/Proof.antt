@@ -10,15 +10,6 @@ use Rattle.ranges.specs.Rounds.{validRounds}
 use Rattle.ranges.proofs.valid_rounds.Statement.{statement}
 use Rattle.ranges.proofs.valid_rounds.Tie as tie
 
-cast-last : tie.Need-cast-last
-cast-last c = search needs
-
-cast-round : tie.Need-cast-round
-cast-round c = search needs
-
-add-running : tie.Need-add-running
-add-running c = search needs
-
 returns : tie.Need-returns
 unfolding validRounds
 returns c =
@@ -36,4 +27,4 @@ unfolding validRounds
 returns-2 c = refl
 
 pub valid-rounds-spec : {M : Type 1} → statement M
-valid-rounds-spec = tie.close (tie.spec cast-last cast-round add-running returns returns-2)
+valid-rounds-spec = tie.close (tie.spec (λ c. search needs) (λ c. search needs) (λ c. search needs) returns returns-2)

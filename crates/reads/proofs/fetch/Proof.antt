@@ -6,17 +6,8 @@ use borrow.Author.Needs.{needs}
 use Rattle.reads.proofs.fetch.Statement.{statement}
 use Rattle.reads.proofs.fetch.Tie as tie
 
-valid-replica-requires : tie.Need-valid-replica-requires
-valid-replica-requires c κs = search needs
-
-no-frames-requires : tie.Need-no-frames-requires
-no-frames-requires c κs = search needs
-
 returns : tie.Need-returns
 returns c = fetch-invalid _ _ _ _ (c .before .before .valid-replica .result) (c .before .before .valid-replica .ensures) _ (c .no-frames .ensures) (not-true _ (c .before .if1 .taken))
-
-no-frames-requires-2 : tie.Need-no-frames-requires-2
-no-frames-requires-2 c κs = search needs
 
 returns-2 : tie.Need-returns-2
 returns-2 c = fetch-short _ _ _ _ (c .before .before .before .valid-replica .result) (c .before .before .before .valid-replica .ensures) (not-false _ (c .before .before .if1 .left)) _ (c .no-frames2 .ensures) (c .before .if2 .taken)
@@ -26,17 +17,8 @@ fetch-frames-requires c κs =
     let i = c .before .before in
     last-fits _ _ 0 [] (i .before .valid-replica .result) (i .before .valid-replica .ensures) (not-false _ (i .if1 .left))
 
-no-frames-requires-3 : tie.Need-no-frames-requires-3
-no-frames-requires-3 c κs = search needs
-
-same-length : tie.Need-same-length
-same-length c = search needs
-
 returns-3 : tie.Need-returns-3
 returns-3 c = fetch-absent _ _ _ _ (c .before .before .before .before .before .before .before .before .valid-replica .result) (c .before .before .before .before .before .before .before .before .valid-replica .ensures) (not-false _ (c .before .before .before .before .before .before .before .if1 .left)) (c .before .before .before .before .before .before .if2 .left) (c .before .before .before .before .fetch-frames .result) _ (c .before .before .before .before .fetch-frames .ensures .0) (c .before .before .before .before .fetch-frames .ensures .1) _ (c .no-frames3 .ensures) (c .before .if3 .taken)
-
-same-length-2 : tie.Need-same-length-2
-same-length-2 c = search needs
 
 returns-4 : tie.Need-returns-4
 returns-4 c = fetch-copied _ _ _ _ (c .before .before .before .before .before .before .before .valid-replica .result) (c .before .before .before .before .before .before .before .valid-replica .ensures) (not-false _ (c .before .before .before .before .before .before .if1 .left)) (c .before .before .before .before .before .if2 .left) (c .before .before .before .fetch-frames .result) _ (c .before .before .before .fetch-frames .ensures .0) (c .before .before .before .fetch-frames .ensures .1) (c .if3 .left)
@@ -45,14 +27,14 @@ pub fetch-spec : {M : Type 1} → statement M
 fetch-spec =
     tie.close
     (tie.spec
-    valid-replica-requires
-    no-frames-requires
+    (λ c κs. search needs)
+    (λ c κs. search needs)
     returns
-    no-frames-requires-2
+    (λ c κs. search needs)
     returns-2
     fetch-frames-requires
-    no-frames-requires-3
-    same-length
+    (λ c κs. search needs)
+    (λ c. search needs)
     returns-3
-    same-length-2
+    (λ c. search needs)
     returns-4)

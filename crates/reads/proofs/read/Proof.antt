@@ -7,14 +7,8 @@ use borrow.Author.Needs.{needs}
 use Rattle.reads.proofs.read.Statement.{statement}
 use Rattle.reads.proofs.read.Tie as tie
 
-read-part-requires : tie.Need-read-part-requires
-read-part-requires c κs = search needs
-
-part-requires : tie.Need-part-requires
-part-requires c κs = search needs
-
 returns : tie.Need-returns
 returns c = (c .part .ensures ∙ (ap (λ (p : Part). part (c .before .before .before .args .log .now) (p .start) (p .length)) (c .before .read-part .ensures) ∙ read-bytes _ _ _), ap (λ (p : Part). p .number) (c .before .read-part .ensures))
 
 pub read-spec : {M : Type 1} → statement M
-read-spec = tie.close (tie.spec read-part-requires part-requires returns)
+read-spec = tie.close (tie.spec (λ c κs. search needs) (λ c κs. search needs) returns)

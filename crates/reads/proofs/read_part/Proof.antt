@@ -6,26 +6,14 @@ use borrow.Author.Needs.{needs}
 use Rattle.reads.proofs.read_part.Statement.{statement}
 use Rattle.reads.proofs.read_part.Tie as tie
 
-valid-replica-requires : tie.Need-valid-replica-requires
-valid-replica-requires c κs = search needs
-
-no-part-requires : tie.Need-no-part-requires
-no-part-requires c κs = search needs
-
 returns : tie.Need-returns
 returns c = c .no-part .ensures ∙ read-invalid _ _ _ (c .before .before .valid-replica .result) (c .before .before .valid-replica .ensures) (not-true _ (c .before .if1 .taken))
 
 lowest-requires : tie.Need-lowest-requires
 lowest-requires c κs = committed-fits _ _ 0 (c .before .valid-replica .result) (c .before .valid-replica .ensures) (not-false _ (c .if1 .left))
 
-no-part-requires-2 : tie.Need-no-part-requires-2
-no-part-requires-2 c κs = search needs
-
 returns-2 : tie.Need-returns-2
 returns-2 c = c .no-part2 .ensures ∙ read-absent _ _ _ (c .before .before .before .before .valid-replica .result) (c .before .before .before .before .valid-replica .ensures) (not-false _ (c .before .before .before .if1 .left)) (c .before .before .lowest .result) (c .before .before .lowest .ensures) (c .before .if2 .taken)
-
-entry-part-requires : tie.Need-entry-part-requires
-entry-part-requires c κs = search needs
 
 returns-3 : tie.Need-returns-3
 returns-3 c = c .entry-part .ensures ∙ read-found _ _ _ (c .before .before .before .before .valid-replica .result) (c .before .before .before .before .valid-replica .ensures) (not-false _ (c .before .before .before .if1 .left)) (c .before .before .lowest .result) (c .before .before .lowest .ensures) (c .before .if2 .left)
@@ -34,11 +22,11 @@ pub read-part-spec : {M : Type 1} → statement M
 read-part-spec =
     tie.close
     (tie.spec
-    valid-replica-requires
-    no-part-requires
+    (λ c κs. search needs)
+    (λ c κs. search needs)
     returns
     lowest-requires
-    no-part-requires-2
+    (λ c κs. search needs)
     returns-2
-    entry-part-requires
+    (λ c κs. search needs)
     returns-3)

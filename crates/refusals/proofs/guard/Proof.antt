@@ -4,27 +4,12 @@ use Rattle.refusals.proofs.Number.{guard-record, guard-over, guard-room
 use Rattle.refusals.proofs.guard.Statement.{statement}
 use Rattle.refusals.proofs.guard.Tie as tie
 
-valid-replica-requires : tie.Need-valid-replica-requires
-valid-replica-requires c κs = tt
-
-valid-masks-requires : tie.Need-valid-masks-requires
-valid-masks-requires c κs = tt
-
 returns : tie.Need-returns
 returns c =
     let l = c .before in
     let i = l .before in
     let a = i .before .before .before .args in
     guard-record (a .r) (a .log .now) (a .masks .now) (a .entry) (a .out) _ _ (i .valid-replica .ensures) (l .valid-masks .ensures) (c .if1 .taken)
-
-cast-round : tie.Need-cast-round
-cast-round c = search needs
-
-cast-end : tie.Need-cast-end
-cast-end c = search needs
-
-add-end : tie.Need-add-end
-add-end c = search needs
 
 returns-2 : tie.Need-returns-2
 returns-2 c =
@@ -33,9 +18,6 @@ returns-2 c =
     let d = l .before in
     let a = d .before .before .before .args in
     guard-over (a .r) (a .log .now) (a .masks .now) (a .entry) (a .out) _ _ (d .valid-replica .ensures) (l .valid-masks .ensures) (i .if1 .left) (c .if2 .taken)
-
-judge-room-requires : tie.Need-judge-room-requires
-judge-room-requires c κs = tt
 
 returns-3 : tie.Need-returns-3
 returns-3 c =
@@ -50,12 +32,12 @@ pub guard-spec : {M : Type 1} → statement M
 guard-spec =
     tie.close
     (tie.spec
-    valid-replica-requires
-    valid-masks-requires
+    (λ c κs. tt)
+    (λ c κs. tt)
     returns
-    cast-round
-    cast-end
-    add-end
+    (λ c. search needs)
+    (λ c. search needs)
+    (λ c. search needs)
     returns-2
-    judge-room-requires
+    (λ c κs. tt)
     returns-3)

@@ -3,17 +3,11 @@ use Rattle.refusals.proofs.Number.{blame-guarded, blame-judged}
 use Rattle.refusals.proofs.judge_blame.Statement.{statement}
 use Rattle.refusals.proofs.judge_blame.Tie as tie
 
-guard-requires : tie.Need-guard-requires
-guard-requires c κs = tt
-
 returns : tie.Need-returns
 returns c =
     let g = c .before in
     let a = g .before .before .before .before .args in
     blame-guarded (a .r) (a .log .now) (a .masks .now) (a .entry) (a .out) _ (g .guard .ensures) (a .x .now) (c .if1 .taken)
-
-judge-frame-requires : tie.Need-judge-frame-requires
-judge-frame-requires c κs = tt
 
 returns-2 : tie.Need-returns-2
 returns-2 c =
@@ -23,4 +17,4 @@ returns-2 c =
     blame-judged (a .r) (a .log .now) (a .masks .now) (a .entry) (a .out) _ (g .guard .ensures) (a .x .now) _ (i .if1 .left) (c .judge-frame .ensures)
 
 pub judge-blame-spec : {M : Type 1} → statement M
-judge-blame-spec = tie.close (tie.spec guard-requires returns judge-frame-requires returns-2)
+judge-blame-spec = tie.close (tie.spec (λ c κs. tt) returns (λ c κs. tt) returns-2)

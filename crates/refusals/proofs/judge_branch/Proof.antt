@@ -3,17 +3,11 @@ use Rattle.refusals.proofs.Number.{branch-guarded, branch-judged}
 use Rattle.refusals.proofs.judge_branch.Statement.{statement}
 use Rattle.refusals.proofs.judge_branch.Tie as tie
 
-guard-requires : tie.Need-guard-requires
-guard-requires c κs = tt
-
 returns : tie.Need-returns
 returns c =
     let g = c .before in
     let a = g .before .before .before .before .args in
     branch-guarded (a .r) (a .log .now) (a .masks .now) (a .entry) (a .out) _ (g .guard .ensures) (a .frames .now) (c .if1 .taken)
-
-judge-branch-requires : tie.Need-judge-branch-requires
-judge-branch-requires c κs = tt
 
 returns-2 : tie.Need-returns-2
 returns-2 c =
@@ -23,4 +17,4 @@ returns-2 c =
     branch-judged (a .r) (a .log .now) (a .masks .now) (a .entry) (a .out) _ (g .guard .ensures) (a .frames .now) _ (i .if1 .left) (c .judge-branch .ensures)
 
 pub judge-branch-spec : {M : Type 1} → statement M
-judge-branch-spec = tie.close (tie.spec guard-requires returns judge-branch-requires returns-2)
+judge-branch-spec = tie.close (tie.spec (λ c κs. tt) returns (λ c κs. tt) returns-2)

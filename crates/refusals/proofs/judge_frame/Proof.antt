@@ -10,18 +10,12 @@ returns c =
     let a = c .before .before .before .args in
     frame-cut (a .r) (a .masks .now) (a .x .now) (c .if1 .taken)
 
-checked-requires : tie.Need-checked-requires
-checked-requires c κs = tt
-
 returns-2 : tie.Need-returns-2
 returns-2 c =
     let h = c .before in
     let i = h .before in
     let a = i .before .before .before .args in
     frame-digest (a .r) (a .masks .now) (a .x .now) (i .if1 .left) (sym (h .checked .ensures) ∙ not-true _ (c .if2 .taken))
-
-blame-form-requires : tie.Need-blame-form-requires
-blame-form-requires c κs = tt
 
 returns-3 : tie.Need-returns-3
 returns-3 c =
@@ -31,9 +25,6 @@ returns-3 c =
     let f = h .before in
     let a = f .before .before .before .args in
     frame-form (a .r) (a .masks .now) (a .x .now) (f .if1 .left) (sym (h .checked .ensures) ∙ not-false _ (i .if2 .left)) (sym (b .blame-form .ensures) ∙ not-true _ (c .if3 .taken))
-
-round-requires : tie.Need-round-requires
-round-requires c κs = tt
 
 returns-4 : tie.Need-returns-4
 returns-4 c =
@@ -45,12 +36,6 @@ returns-4 c =
     let d = h .before in
     let a = d .before .before .before .args in
     frame-early (a .r) (a .masks .now) (a .x .now) (d .if1 .left) (sym (h .checked .ensures) ∙ not-false _ (f .if2 .left)) (sym (b .blame-form .ensures) ∙ not-false _ (i .if3 .left)) (rw (r .round .ensures) at (c .if4 .taken))
-
-signer-requires : tie.Need-signer-requires
-signer-requires c κs = tt
-
-has-blame-requires : tie.Need-has-blame-requires
-has-blame-requires c κs = tt
 
 returns-5 : tie.Need-returns-5
 returns-5 c =
@@ -85,13 +70,13 @@ judge-frame-spec =
     tie.close
     (tie.spec
     returns
-    checked-requires
+    (λ c κs. tt)
     returns-2
-    blame-form-requires
+    (λ c κs. tt)
     returns-3
-    round-requires
+    (λ c κs. tt)
     returns-4
-    signer-requires
-    has-blame-requires
+    (λ c κs. tt)
+    (λ c κs. tt)
     returns-5
     returns-6)

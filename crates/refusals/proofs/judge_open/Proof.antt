@@ -3,21 +3,12 @@ use Rattle.refusals.proofs.Number.{open-setup, open-room}
 use Rattle.refusals.proofs.judge_open.Statement.{statement}
 use Rattle.refusals.proofs.judge_open.Tie as tie
 
-valid-setup-requires : tie.Need-valid-setup-requires
-valid-setup-requires c κs = tt
-
-valid-masks-requires : tie.Need-valid-masks-requires
-valid-masks-requires c κs = tt
-
 returns : tie.Need-returns
 returns c =
     let l = c .before in
     let i = l .before in
     let a = i .before .before .before .args in
     open-setup (a .r) (a .log .now) (a .masks .now) (a .entry) (a .out) _ _ (i .valid-setup .ensures) (l .valid-masks .ensures) (c .if1 .taken)
-
-judge-room-requires : tie.Need-judge-room-requires
-judge-room-requires c κs = tt
 
 returns-2 : tie.Need-returns-2
 returns-2 c =
@@ -30,4 +21,4 @@ returns-2 c =
 pub judge-open-spec : {M : Type 1} → statement M
 judge-open-spec =
     tie.close
-    (tie.spec valid-setup-requires valid-masks-requires returns judge-room-requires returns-2)
+    (tie.spec (λ c κs. tt) (λ c κs. tt) returns (λ c κs. tt) returns-2)

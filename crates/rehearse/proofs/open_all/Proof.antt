@@ -10,37 +10,16 @@ Inv-loop logs₀ masks₀ sent₀ next₀ i₀ logs masks sent next i = Unit {0}
 abbrev μ-loop : tie.MeasureT-loop
 μ-loop logs₀ masks₀ sent₀ next₀ i₀ logs masks sent next i = 3 - i
 
-closed-requires : tie.Need-closed-requires Inv-loop μ-loop
-closed-requires c κs = search needs
-
-loop-holds : tie.Need-loop-holds Inv-loop μ-loop
-loop-holds c = search needs
-
-act-requires : tie.Need-act-requires Inv-loop μ-loop
-act-requires c κs = search needs
-
-add-i : tie.Need-add-i Inv-loop μ-loop
-add-i c = search needs
-
-loop-less : tie.Need-loop-less Inv-loop μ-loop
-loop-less c = search needs
-
-loop-again : tie.Need-loop-again Inv-loop μ-loop
-loop-again c = search needs
-
-returns : tie.Need-returns Inv-loop μ-loop
-returns c = search needs
-
 pub open-all-spec : {M : Type 1} → statement M
 open-all-spec =
     tie.close
     (tie.spec
     Inv-loop
     μ-loop
-    closed-requires
-    loop-holds
-    act-requires
-    add-i
-    loop-less
-    loop-again
-    returns)
+    (λ c κs. search needs)
+    (λ c. search needs)
+    (λ c κs. search needs)
+    (λ c. search needs)
+    (λ c. search needs)
+    (λ c. search needs)
+    (λ c. search needs))

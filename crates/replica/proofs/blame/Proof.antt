@@ -4,18 +4,6 @@ use Rattle.replica.proofs.Calls.{blame-refused, blame-asks, blame-taken
 use Rattle.replica.proofs.blame.Statement.{statement}
 use Rattle.replica.proofs.blame.Tie as tie
 
-judge-blame-requires : tie.Need-judge-blame-requires
-judge-blame-requires c κs = tt
-
-refused-requires : tie.Need-refused-requires
-refused-requires c κs = tt
-
-same-length : tie.Need-same-length
-same-length c = refl
-
-same-length-2 : tie.Need-same-length-2
-same-length-2 c = refl
-
 returns : tie.Need-returns
 returns c =
     let i = c .before in
@@ -23,12 +11,6 @@ returns c =
     let s = j .before .before .before .before .before .before .before .before in
     let a = s .args in
     blame-refused (a .replica) (a .log .now) (a .masks .now) (a .entry .now) (a .out .now) (a .frame .now) _ (j .judge-blame .ensures) _ (i .if1 .taken) (c .refused .ensures)
-
-round-requires : tie.Need-round-requires
-round-requires c κs = tt
-
-signer-requires : tie.Need-signer-requires
-signer-requires c κs = tt
 
 hear-requires : tie.Need-hear-requires
 hear-requires c κs =
@@ -70,13 +52,13 @@ pub blame-spec : {M : Type 1} → statement M
 blame-spec =
     tie.close
     (tie.spec
-    judge-blame-requires
-    refused-requires
-    same-length
-    same-length-2
+    (λ c κs. tt)
+    (λ c κs. tt)
+    (λ c. refl)
+    (λ c. refl)
     returns
-    round-requires
-    signer-requires
+    (λ c κs. tt)
+    (λ c κs. tt)
     hear-requires
     same-length-3
     same-length-4

@@ -4,15 +4,6 @@ use Rattle.replica.proofs.Calls.{branch-refused, adopt-asks, adopt-read
 use Rattle.replica.proofs.branch.Statement.{statement}
 use Rattle.replica.proofs.branch.Tie as tie
 
-judge-branch-requires : tie.Need-judge-branch-requires
-judge-branch-requires c κs = tt
-
-refused-requires : tie.Need-refused-requires
-refused-requires c κs = tt
-
-same-length : tie.Need-same-length
-same-length c = refl
-
 returns : tie.Need-returns
 returns c =
     let i = c .before in
@@ -63,9 +54,9 @@ pub branch-spec : {M : Type 1} → statement M
 branch-spec =
     tie.close
     (tie.spec
-    judge-branch-requires
-    refused-requires
-    same-length
+    (λ c κs. tt)
+    (λ c κs. tt)
+    (λ c. refl)
     returns
     adopt-requires
     enter-round-requires

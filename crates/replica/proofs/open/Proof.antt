@@ -4,24 +4,6 @@ use Rattle.replica.proofs.Calls.{open-refused, open-ready, open-taken}
 use Rattle.replica.proofs.open.Statement.{statement}
 use Rattle.replica.proofs.open.Tie as tie
 
-fresh-requires : tie.Need-fresh-requires
-fresh-requires c κs = tt
-
-judge-open-requires : tie.Need-judge-open-requires
-judge-open-requires c κs = tt
-
-zero-replica-requires : tie.Need-zero-replica-requires
-zero-replica-requires c κs = tt
-
-refused-requires : tie.Need-refused-requires
-refused-requires c κs = tt
-
-same-length : tie.Need-same-length
-same-length c = refl
-
-same-length-2 : tie.Need-same-length-2
-same-length-2 c = refl
-
 returns : tie.Need-returns
 returns c =
     let z = c .before in
@@ -31,12 +13,6 @@ returns c =
     let s = f .before .before .before .before .before in
     let a = s .args in
     open-refused (a .id) (a .f) (a .timeout .0) (a .last-round .0) (a .log .now) (a .masks .now) (a .entry .now) (a .out .now) _ (f .fresh .ensures) _ (j .judge-open .ensures) _ _ (i .if1 .taken) (z .zero-replica .ensures) (c .refused .ensures)
-
-clear-requires : tie.Need-clear-requires
-clear-requires c κs = tt
-
-clear-masks-requires : tie.Need-clear-masks-requires
-clear-masks-requires c κs = tt
 
 enter-round-requires : tie.Need-enter-round-requires
 enter-round-requires c κs =
@@ -81,15 +57,15 @@ pub open-spec : {M : Type 1} → statement M
 open-spec =
     tie.close
     (tie.spec
-    fresh-requires
-    judge-open-requires
-    zero-replica-requires
-    refused-requires
-    same-length
-    same-length-2
+    (λ c κs. tt)
+    (λ c κs. tt)
+    (λ c κs. tt)
+    (λ c κs. tt)
+    (λ c. refl)
+    (λ c. refl)
     returns
-    clear-requires
-    clear-masks-requires
+    (λ c κs. tt)
+    (λ c κs. tt)
     enter-round-requires
     same-length-3
     same-length-4

@@ -9,18 +9,6 @@ use Rattle.replica.proofs.Calls.{tick-refused, tick-down, tick-passed, 
 use Rattle.replica.proofs.tick.Statement.{statement}
 use Rattle.replica.proofs.tick.Tie as tie
 
-guard-requires : tie.Need-guard-requires
-guard-requires c κs = tt
-
-refused-requires : tie.Need-refused-requires
-refused-requires c κs = tt
-
-same-length : tie.Need-same-length
-same-length c = refl
-
-same-length-2 : tie.Need-same-length-2
-same-length-2 c = refl
-
 returns : tie.Need-returns
 returns c =
     let i = c .before in
@@ -36,12 +24,6 @@ count-down-requires c κs =
     let s = g .before .before .before .before .before .before .before in
     let a = s .args in
     tick-passed (a .replica) (a .log .now) (a .masks .now) (a .entry .now) (a .out .now) _ (g .guard .ensures) (i .if1 .left) .valid .setup .f-most
-
-same-length-3 : tie.Need-same-length-3
-same-length-3 c = refl
-
-same-length-4 : tie.Need-same-length-4
-same-length-4 c = refl
 
 returns-2 : tie.Need-returns-2
 returns-2 c =
@@ -60,9 +42,6 @@ put-blame-requires c κs =
     let a = s .args in
     omega (arith, tick-passed (a .replica) (a .log .now) (a .masks .now) (a .entry .now) (a .out .now) _ (g .guard .ensures) (i .if1 .left) .out-least)
 
-with-timer-requires : tie.Need-with-timer-requires
-with-timer-requires c κs = tt
-
 sub-hear : tie.Need-sub-hear
 sub-hear c =
     let u = c .before .before .before .before .before in
@@ -80,9 +59,6 @@ part-hear-start c =
     let s = g .before .before .before .before .before .before .before in
     let a = s .args in
     omega (arith, u .put-blame .kept .0, tick-passed (a .replica) (a .log .now) (a .masks .now) (a .entry .now) (a .out .now) _ (g .guard .ensures) (i .if1 .left) .out-least)
-
-part-hear-end : tie.Need-part-hear-end
-part-hear-end c = search needs
 
 hear-requires : tie.Need-hear-requires
 hear-requires c κs =
@@ -131,20 +107,20 @@ pub tick-spec : {M : Type 1} → statement M
 tick-spec =
     tie.close
     (tie.spec
-    guard-requires
-    refused-requires
-    same-length
-    same-length-2
+    (λ c κs. tt)
+    (λ c κs. tt)
+    (λ c. refl)
+    (λ c. refl)
     returns
     count-down-requires
-    same-length-3
-    same-length-4
+    (λ c. refl)
+    (λ c. refl)
     returns-2
     put-blame-requires
-    with-timer-requires
+    (λ c κs. tt)
     sub-hear
     part-hear-start
-    part-hear-end
+    (λ c. search needs)
     hear-requires
     add-a
     same-length-5

@@ -4,20 +4,11 @@ use Rattle.rounds.proofs.Steps.{none-left, one-less}
 use Rattle.rounds.proofs.count_down.Statement.{statement}
 use Rattle.rounds.proofs.count_down.Tie as tie
 
-taken-requires : tie.Need-taken-requires
-taken-requires c κs = search needs
-
 returns : tie.Need-returns
 returns c =
     let i = c .before in
     let s = i .before in
     none-left (s .args .r) _ (i .if1 .taken) (c .taken .ensures)
-
-sub-with-timer : tie.Need-sub-with-timer
-sub-with-timer c = search needs
-
-with-timer-requires : tie.Need-with-timer-requires
-with-timer-requires c κs = tt
 
 taken-requires-2 : tie.Need-taken-requires-2
 taken-requires-2 c κs =
@@ -33,4 +24,4 @@ returns-2 c =
 pub count-down-spec : {M : Type 1} → statement M
 count-down-spec =
     tie.close
-    (tie.spec taken-requires returns sub-with-timer with-timer-requires taken-requires-2 returns-2)
+    (tie.spec (λ c κs. search needs) returns (λ c. search needs) (λ c κs. tt) taken-requires-2 returns-2)

@@ -4,9 +4,6 @@ use Rattle.rounds.proofs.Steps.{leads-last, proposed-f, entered-own, en
 use Rattle.rounds.proofs.enter_round.Statement.{statement}
 use Rattle.rounds.proofs.enter_round.Tie as tie
 
-leads-requires : tie.Need-leads-requires
-leads-requires c κs = tt
-
 propose-requires : tie.Need-propose-requires
 propose-requires c κs =
     let i = c .before .before in
@@ -40,9 +37,6 @@ returns c =
     let a = s .args in
     λ masks. entered-own (a .r) (a .log .now) (a .entry .now) (a .out .now) masks _ _ _ (p .propose .ensures masks) _ _ (l .leads .ensures) (i .if1 .taken) (c .taken .ensures)
 
-with-timer-requires : tie.Need-with-timer-requires
-with-timer-requires c κs = tt
-
 taken-requires-2 : tie.Need-taken-requires-2
 taken-requires-2 c κs =
     let s = c .before .before .before .before .before .before in
@@ -61,12 +55,12 @@ pub enter-round-spec : {M : Type 1} → statement M
 enter-round-spec =
     tie.close
     (tie.spec
-    leads-requires
+    (λ c κs. tt)
     propose-requires
     taken-requires
     same-length
     same-length-2
     returns
-    with-timer-requires
+    (λ c κs. tt)
     taken-requires-2
     returns-2)

@@ -8,9 +8,6 @@ use Rattle.rounds.proofs.hear.Tie as tie
 add-blame-requires : tie.Need-add-blame-requires
 add-blame-requires c κs = c .before .before .before .before .before .pre .2
 
-certifies-requires : tie.Need-certifies-requires
-certifies-requires c κs = tt
-
 taken-requires : tie.Need-taken-requires
 taken-requires c κs = c .before .before .before .before .before .before .before .before .before .before .before .pre .0 .f-most
 
@@ -37,9 +34,6 @@ add-with-round c =
     let a = s .args in
     let h = heard-round (a .r) (a .log .now) (a .masks .now) _ (a .entry .now) (a .out .now) (a .round) (a .signer) (m .add-blame .ensures) _ (e .certifies .ensures) (not-false _ (i .if1 .left)) in
     record { fits = omega (arith, h, s .pre .1, s .pre .0 .last-most) }
-
-with-round-requires : tie.Need-with-round-requires
-with-round-requires c κs = tt
 
 enter-round-requires : tie.Need-enter-round-requires
 enter-round-requires c κs =
@@ -83,12 +77,12 @@ hear-spec =
     tie.close
     (tie.spec
     add-blame-requires
-    certifies-requires
+    (λ c κs. tt)
     taken-requires
     same-length
     returns
     add-with-round
-    with-round-requires
+    (λ c κs. tt)
     enter-round-requires
     same-length-2
     same-length-3

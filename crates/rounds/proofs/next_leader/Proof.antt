@@ -9,12 +9,6 @@ returns c =
     let s = c .before .before in
     no-leader (s .args .r) (c .if1 .taken)
 
-leader-requires : tie.Need-leader-requires
-leader-requires c κs = tt
-
-cast-result : tie.Need-cast-result
-cast-result c = search needs
-
 returns-2 : tie.Need-returns-2
 returns-2 c =
     let i = c .before in
@@ -22,4 +16,4 @@ returns-2 c =
     some-leader (s .args .r) _ (i .if1 .left) (c .leader .ensures .0 _)
 
 pub next-leader-spec : {M : Type 1} → statement M
-next-leader-spec = tie.close (tie.spec returns leader-requires cast-result returns-2)
+next-leader-spec = tie.close (tie.spec returns (λ c κs. tt) (λ c. search needs) returns-2)

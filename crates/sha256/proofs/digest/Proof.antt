@@ -15,12 +15,6 @@ Inv-loop s h₀ n total i₀ h i = (i ≤ total) × (h ≡ hash H0 (padded s) i)
 abbrev μ-loop : tie.MeasureT-loop
 μ-loop s h₀ n total i₀ h i = total - i
 
-hash-requires : tie.Need-hash-requires Inv-loop μ-loop
-hash-requires c κs = tt
-
-blocks-requires : tie.Need-blocks-requires Inv-loop μ-loop
-blocks-requires c κs = search needs
-
 loop-holds : tie.Need-loop-holds Inv-loop μ-loop
 loop-holds c = (omega arith, digest-whole (c .before .before .before .args .s .now) _ (c .before .hash .ensures))
 
@@ -28,24 +22,9 @@ padded-block-requires : tie.Need-padded-block-requires Inv-loop μ-loop
 padded-block-requires c κs =
     omega (arith, length-padded (c .before .before .before .before .before .args .s .now))
 
-slice-aggregate-hash : tie.Need-slice-aggregate-hash Inv-loop μ-loop
-slice-aggregate-hash c = search needs
-
-hash-requires-2 : tie.Need-hash-requires-2 Inv-loop μ-loop
-hash-requires-2 c κs = tt
-
-add-i : tie.Need-add-i Inv-loop μ-loop
-add-i c = search needs
-
-loop-less : tie.Need-loop-less Inv-loop μ-loop
-loop-less c = search needs
-
 loop-again : tie.Need-loop-again Inv-loop μ-loop
 loop-again c =
     (search needs, digest-step _ _ _ _ (c .before .before .before .before .loop .i) (search needs) (search needs) (c .before .before .padded-block .ensures) (c .hash2 .ensures))
-
-bytes-of-requires : tie.Need-bytes-of-requires Inv-loop μ-loop
-bytes-of-requires c κs = tt
 
 returns : tie.Need-returns Inv-loop μ-loop
 returns c =
@@ -57,14 +36,14 @@ digest-spec =
     (tie.spec
     Inv-loop
     μ-loop
-    hash-requires
-    blocks-requires
+    (λ c κs. tt)
+    (λ c κs. search needs)
     loop-holds
     padded-block-requires
-    slice-aggregate-hash
-    hash-requires-2
-    add-i
-    loop-less
+    (λ c. search needs)
+    (λ c κs. tt)
+    (λ c. search needs)
+    (λ c. search needs)
     loop-again
-    bytes-of-requires
+    (λ c κs. tt)
     returns)

@@ -15,26 +15,11 @@ Inv-loop s k b₀ t₀ b t = (t ≤ 64) × (length b ≡ 64) × (take t b ≡ ta
 abbrev μ-loop : tie.MeasureT-loop
 μ-loop s k b₀ t₀ b t = 64 - t
 
-loop-holds : tie.Need-loop-holds Inv-loop μ-loop
-loop-holds c = search needs
-
 mul-padded-byte : tie.Need-mul-padded-byte Inv-loop μ-loop
 mul-padded-byte c = omega (arith, length-padded (c .before .before .before .args .s .now))
 
 add-padded-byte : tie.Need-add-padded-byte Inv-loop μ-loop
 add-padded-byte c = omega (arith, length-padded (c .before .before .before .args .s .now))
-
-padded-byte-requires : tie.Need-padded-byte-requires Inv-loop μ-loop
-padded-byte-requires c κs = search needs
-
-array-write-b : tie.Need-array-write-b Inv-loop μ-loop
-array-write-b c = search needs
-
-add-t : tie.Need-add-t Inv-loop μ-loop
-add-t c = search needs
-
-loop-less : tie.Need-loop-less Inv-loop μ-loop
-loop-less c = search needs
 
 loop-again : tie.Need-loop-again Inv-loop μ-loop
 loop-again c = (search needs, search needs, block-step (padded (c .before .before .before .before .args .s .now)) (c .before .before .loop .b) (64 * c .before .before .before .before .args .k) (c .before .before .loop .t) _ (omega arith) (omega arith) (search needs) (c .padded-byte .ensures))
@@ -48,12 +33,12 @@ padded-block-spec =
     (tie.spec
     Inv-loop
     μ-loop
-    loop-holds
+    (λ c. search needs)
     mul-padded-byte
     add-padded-byte
-    padded-byte-requires
-    array-write-b
-    add-t
-    loop-less
+    (λ c κs. search needs)
+    (λ c. search needs)
+    (λ c. search needs)
+    (λ c. search needs)
     loop-again
     returns)

@@ -5,41 +5,14 @@ use Rattle.sha256.proofs.Padding.{padded-front, padded-mark, padded-zer
 use Rattle.sha256.proofs.padded_byte.Statement.{statement}
 use Rattle.sha256.proofs.padded_byte.Tie as tie
 
-shared-slice-read-result : tie.Need-shared-slice-read-result
-shared-slice-read-result c = search needs
-
 returns : tie.Need-returns
 returns c = search (needs, padded-front)
 
 returns-2 : tie.Need-returns-2
 returns-2 c = search (needs, padded-mark)
 
-add-e : tie.Need-add-e
-add-e c = search needs
-
-sub-e : tie.Need-sub-e
-sub-e c = search needs
-
-add-e-2 : tie.Need-add-e-2
-add-e-2 c = search needs
-
 returns-3 : tie.Need-returns-3
 returns-3 c = padded-zero _ _ (omega arith) (omega arith)
-
-mul-bits : tie.Need-mul-bits
-mul-bits c = search needs
-
-mul-result : tie.Need-mul-result
-mul-result c = search needs
-
-sub-result : tie.Need-sub-result
-sub-result c = search needs
-
-shr-result : tie.Need-shr-result
-shr-result c = search needs
-
-cast-result : tie.Need-cast-result
-cast-result c = search needs
 
 returns-4 : tie.Need-returns-4
 returns-4 c =
@@ -53,17 +26,17 @@ pub padded-byte-spec : {M : Type 1} → statement M
 padded-byte-spec =
     tie.close
     (tie.spec
-    shared-slice-read-result
+    (λ c. search needs)
     returns
     returns-2
-    add-e
-    sub-e
-    add-e-2
+    (λ c. search needs)
+    (λ c. search needs)
+    (λ c. search needs)
     returns-3
-    mul-bits
-    mul-result
-    sub-result
-    shr-result
-    cast-result
+    (λ c. search needs)
+    (λ c. search needs)
+    (λ c. search needs)
+    (λ c. search needs)
+    (λ c. search needs)
     returns-4
     returns-5)

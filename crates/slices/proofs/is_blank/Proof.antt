@@ -11,18 +11,6 @@ returns c = blank-none (c .before .before .args .x .now) (c .before .before .arg
 returns-2 : tie.Need-returns-2
 returns-2 c = blank-past (c .before .before .before .args .x .now) (c .before .before .before .args .a) (c .before .before .before .args .e) (omega arith) (c .if2 .taken)
 
-sub-is-zero : tie.Need-sub-is-zero
-sub-is-zero c = search needs
-
-part-is-zero-start : tie.Need-part-is-zero-start
-part-is-zero-start c = search needs
-
-part-is-zero-end : tie.Need-part-is-zero-end
-part-is-zero-end c = search needs
-
-is-zero-requires : tie.Need-is-zero-requires
-is-zero-requires c κs = search needs
-
 returns-3 : tie.Need-returns-3
 returns-3 c = blank-read (c .before .before .before .before .before .args .x .now) (c .before .before .before .before .before .args .a) (c .before .before .before .before .before .args .e) (c .is-zero .result) (omega arith) (omega arith) (c .is-zero .ensures)
 
@@ -32,8 +20,8 @@ is-blank-spec =
     (tie.spec
     returns
     returns-2
-    sub-is-zero
-    part-is-zero-start
-    part-is-zero-end
-    is-zero-requires
+    (λ c. search needs)
+    (λ c. search needs)
+    (λ c. search needs)
+    (λ c κs. search needs)
     returns-3)

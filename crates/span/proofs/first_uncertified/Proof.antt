@@ -27,59 +27,11 @@ abbrev μ-walk : tie.MeasureT-walk
 walk-holds : tie.Need-walk-holds Inv-loop μ-loop Inv-walk μ-walk
 walk-holds c = (search needs, search needs, ap (Branch.firstUncertified _ _ _) (rest-start _ _))
 
-mul-s : tie.Need-mul-s Inv-loop μ-loop Inv-walk μ-walk
-mul-s c = search needs
-
-add-e : tie.Need-add-e Inv-loop μ-loop Inv-walk μ-walk
-add-e c = search needs
-
-sub-round : tie.Need-sub-round Inv-loop μ-loop Inv-walk μ-walk
-sub-round c = search needs
-
-part-round-start : tie.Need-part-round-start Inv-loop μ-loop Inv-walk μ-walk
-part-round-start c = search needs
-
-part-round-end : tie.Need-part-round-end Inv-loop μ-loop Inv-walk μ-walk
-part-round-end c = search needs
-
-round-requires : tie.Need-round-requires Inv-loop μ-loop Inv-walk μ-walk
-round-requires c κs = search needs
-
-cast-end : tie.Need-cast-end Inv-loop μ-loop Inv-walk μ-walk
-cast-end c = search needs
-
-cast-p : tie.Need-cast-p Inv-loop μ-loop Inv-walk μ-walk
-cast-p c = search needs
-
 loop-holds : tie.Need-loop-holds Inv-loop μ-loop Inv-walk μ-walk
 loop-holds c = (search needs, enter _ (c .before .before .before .before .before .before .args .masks .now) (c .before .before .before .before .before .before .args .frames .now) (c .before .before .before .walk .lo) _ (c .before .before .before .walk .i) (c .round .result) (omega arith) (c .round .ensures) ∙ c .before .before .before .walk .inv .2)
 
-add-loop : tie.Need-add-loop Inv-loop μ-loop Inv-walk μ-walk
-add-loop c = search needs
-
-add-place : tie.Need-add-place Inv-loop μ-loop Inv-walk μ-walk
-add-place c = search needs
-
-cast-place : tie.Need-cast-place Inv-loop μ-loop Inv-walk μ-walk
-cast-place c = search needs
-
-certified-requires : tie.Need-certified-requires Inv-loop μ-loop Inv-walk μ-walk
-certified-requires c κs = search needs
-
-add-p : tie.Need-add-p Inv-loop μ-loop Inv-walk μ-walk
-add-p c = search needs
-
-loop-less : tie.Need-loop-less Inv-loop μ-loop Inv-walk μ-walk
-loop-less c = search needs
-
 loop-again : tie.Need-loop-again Inv-loop μ-loop Inv-walk μ-walk
 loop-again c = (search needs, pass _ (c .before .before .before .before .before .before .before .before .before .before .args .masks .now) (c .before .before .before .loop .p) (c .before .before .before .before .round .result) _ (c .before .before .loop-test .taken) (sym (c .before .certified .ensures 0) ∙ not-false _ (c .if2 .left)) ∙ c .before .before .before .loop .inv .1)
-
-add-i : tie.Need-add-i Inv-loop μ-loop Inv-walk μ-walk
-add-i c = search needs
-
-walk-less : tie.Need-walk-less Inv-loop μ-loop Inv-walk μ-walk
-walk-less c = search needs
 
 walk-again : tie.Need-walk-again Inv-loop μ-loop Inv-walk μ-walk
 walk-again c = (search needs, search needs, leave _ (c .before .before .before .before .before .before .before .before .args .masks .now) (c .before .loop .p) (c .before .before .round .result) _ (c .loop-test .left) ∙ c .before .loop .inv .1)
@@ -99,24 +51,24 @@ first-uncertified-spec =
     Inv-walk
     μ-walk
     walk-holds
-    mul-s
-    add-e
-    sub-round
-    part-round-start
-    part-round-end
-    round-requires
-    cast-end
-    cast-p
+    (λ c. search needs)
+    (λ c. search needs)
+    (λ c. search needs)
+    (λ c. search needs)
+    (λ c. search needs)
+    (λ c κs. search needs)
+    (λ c. search needs)
+    (λ c. search needs)
     loop-holds
-    add-loop
-    add-place
-    cast-place
-    certified-requires
-    add-p
-    loop-less
+    (λ c. search needs)
+    (λ c. search needs)
+    (λ c. search needs)
+    (λ c κs. search needs)
+    (λ c. search needs)
+    (λ c. search needs)
     loop-again
-    add-i
-    walk-less
+    (λ c. search needs)
+    (λ c. search needs)
     walk-again
     returns
     returns-2)

@@ -21,50 +21,11 @@ abbrev μ-loop : tie.MeasureT-loop
 loop-holds : tie.Need-loop-holds Inv-loop μ-loop
 loop-holds c = (search needs, search needs, rw sub-zero)
 
-mul-s : tie.Need-mul-s Inv-loop μ-loop
-mul-s c = search needs
-
-add-e : tie.Need-add-e Inv-loop μ-loop
-add-e c = search needs
-
-sub-x : tie.Need-sub-x Inv-loop μ-loop
-sub-x c = search needs
-
-part-x-start : tie.Need-part-x-start Inv-loop μ-loop
-part-x-start c = search needs
-
-part-x-end : tie.Need-part-x-end Inv-loop μ-loop
-part-x-end c = search needs
-
-keeps-frame-requires : tie.Need-keeps-frame-requires Inv-loop μ-loop
-keeps-frame-requires c κs = search needs
-
 returns : tie.Need-returns Inv-loop μ-loop
 returns c = keeps-stop (c .before .before .before .before .before .before .before .args .log .now) (c .before .before .before .before .before .before .before .args .frames .now) (c .before .before .before .before .loop .lo) _ (c .before .before .before .before .loop .i) (c .before .before .before .before .before .before .before .args .committed) (c .before .keeps-frame .result) _ (omega arith) (c .before .keeps-frame .ensures) (c .before .before .before .before .loop .inv .2) (not-true _ (c .if1 .taken))
 
-round-requires : tie.Need-round-requires Inv-loop μ-loop
-round-requires c κs = search needs
-
-add-i : tie.Need-add-i Inv-loop μ-loop
-add-i c = search needs
-
-loop-less : tie.Need-loop-less Inv-loop μ-loop
-loop-less c = search needs
-
 loop-again : tie.Need-loop-again Inv-loop μ-loop
 loop-again c = (search needs, search needs, keeps-next (c .before .before .before .before .before .before .before .before .args .log .now) (c .before .before .before .before .before .before .before .before .args .frames .now) (c .before .before .before .before .before .loop .lo) _ (c .before .before .before .before .before .loop .i) (c .before .before .before .before .before .before .before .before .args .committed) (c .before .before .keeps-frame .result) _ (c .before .before .before .before .loop-test .taken) (c .before .before .keeps-frame .ensures) (c .before .before .before .before .before .loop .inv .2) (c .round .result) (not-false _ (c .before .if1 .left)) (c .round .ensures))
-
-cast-is-blank : tie.Need-cast-is-blank Inv-loop μ-loop
-cast-is-blank c = search needs
-
-mul-is-blank : tie.Need-mul-is-blank Inv-loop μ-loop
-mul-is-blank c = search needs
-
-mul-is-blank-2 : tie.Need-mul-is-blank-2 Inv-loop μ-loop
-mul-is-blank-2 c = search needs
-
-is-blank-requires : tie.Need-is-blank-requires Inv-loop μ-loop
-is-blank-requires c κs = search needs
 
 returns-2 : tie.Need-returns-2 Inv-loop μ-loop
 returns-2 c = keeps-end (c .before .before .before .before .before .args .log .now) (c .before .before .before .before .before .args .frames .now) (c .before .before .loop .lo) _ (c .before .before .loop .i) (c .before .before .before .before .before .args .committed) (c .is-blank .result) _ (c .before .loop-test .left) (c .is-blank .ensures) (c .before .before .loop .inv .2)
@@ -76,19 +37,19 @@ keeps-spec =
     Inv-loop
     μ-loop
     loop-holds
-    mul-s
-    add-e
-    sub-x
-    part-x-start
-    part-x-end
-    keeps-frame-requires
+    (λ c. search needs)
+    (λ c. search needs)
+    (λ c. search needs)
+    (λ c. search needs)
+    (λ c. search needs)
+    (λ c κs. search needs)
     returns
-    round-requires
-    add-i
-    loop-less
+    (λ c κs. search needs)
+    (λ c. search needs)
+    (λ c. search needs)
     loop-again
-    cast-is-blank
-    mul-is-blank
-    mul-is-blank-2
-    is-blank-requires
+    (λ c. search needs)
+    (λ c. search needs)
+    (λ c. search needs)
+    (λ c κs. search needs)
     returns-2)

@@ -5,41 +5,11 @@ use Rattle.span.proofs.Kept.{keeps-past, keeps-not, keeps-same}
 use Rattle.span.proofs.keeps_frame.Statement.{statement}
 use Rattle.span.proofs.keeps_frame.Tie as tie
 
-round-requires : tie.Need-round-requires
-round-requires c κs = search needs
-
-mul-a : tie.Need-mul-a
-mul-a c = search needs
-
-mul-is-blank : tie.Need-mul-is-blank
-mul-is-blank c = search needs
-
-is-blank-requires : tie.Need-is-blank-requires
-is-blank-requires c κs = search needs
-
 returns : tie.Need-returns
 returns c = keeps-past (c .before .before .before .before .before .args .log .now) (c .before .before .before .before .before .args .lo) (c .before .before .before .before .before .args .x .now) (c .before .before .before .before .before .args .committed) (c .before .before .round .result) (c .is-blank .result) (c .before .before .round .ensures) (c .before .if1 .taken) (c .is-blank .ensures)
 
-previous-requires : tie.Need-previous-requires
-previous-requires c κs = search needs
-
-cast-is-blank : tie.Need-cast-is-blank
-cast-is-blank c = search needs
-
-mul-is-blank-2 : tie.Need-mul-is-blank-2
-mul-is-blank-2 c = search needs
-
-is-blank-requires-2 : tie.Need-is-blank-requires-2
-is-blank-requires-2 c κs = search needs
-
 returns-2 : tie.Need-returns-2
 returns-2 c = keeps-not (c .before .before .before .before .before .before .before .args .log .now) (c .before .before .before .before .before .before .before .args .lo) (c .before .before .before .before .before .before .before .args .x .now) (c .before .before .before .before .before .before .before .args .committed) (c .before .before .before .before .round .result) (c .before .is-blank2 .result) (c .before .before .before .before .round .ensures) (c .before .before .before .if1 .left) (c .before .before .previous .result) (c .before .before .previous .ensures) (c .before .is-blank2 .ensures) (not-true _ (c .if2 .taken))
-
-slot-requires : tie.Need-slot-requires
-slot-requires c κs = search needs
-
-same-bytes-requires : tie.Need-same-bytes-requires
-same-bytes-requires c κs = search needs
 
 returns-3 : tie.Need-returns-3
 returns-3 c = keeps-same (c .before .before .before .before .before .before .before .before .before .args .log .now) (c .before .before .before .before .before .before .before .before .before .args .lo) (c .before .before .before .before .before .before .before .before .before .args .x .now) (c .before .before .before .before .before .before .before .before .before .args .committed) (c .before .before .before .before .before .before .round .result) (c .before .before .before .is-blank2 .result) (c .before .before .before .before .before .before .round .ensures) (c .before .before .before .before .before .if1 .left) (c .before .before .before .before .previous .result) (c .before .before .before .before .previous .ensures) (c .before .before .before .is-blank2 .ensures) (c .before .slot .result .now) (c .same-bytes .result) (not-false _ (c .before .before .if2 .left)) (c .before .slot .ensures) (c .same-bytes .ensures)
@@ -48,16 +18,16 @@ pub keeps-frame-spec : {M : Type 1} → statement M
 keeps-frame-spec =
     tie.close
     (tie.spec
-    round-requires
-    mul-a
-    mul-is-blank
-    is-blank-requires
+    (λ c κs. search needs)
+    (λ c. search needs)
+    (λ c. search needs)
+    (λ c κs. search needs)
     returns
-    previous-requires
-    cast-is-blank
-    mul-is-blank-2
-    is-blank-requires-2
+    (λ c κs. search needs)
+    (λ c. search needs)
+    (λ c. search needs)
+    (λ c κs. search needs)
     returns-2
-    slot-requires
-    same-bytes-requires
+    (λ c κs. search needs)
+    (λ c κs. search needs)
     returns-3)

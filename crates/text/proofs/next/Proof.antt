@@ -21,19 +21,10 @@ taken-end : (xs : List ℕ) (r : Reader) → taken xs r .end ≡ r .end
 unfolding taken
 taken-end xs r = either (ltb (r .at) (min (r .end) (length xs))) _ _ (r .end) refl refl
 
-take-requires : tie.Need-take-requires
-take-requires c κs = search needs
-
 returns : tie.Need-returns
 returns c =
     let r = c .before .before .before .before .before .args .r in
     record { kept = λ _. refl; byte = rw (lt-ltb (r .at) (r .end) (omega arith)) (c .take .ensures) }
-
-fill-requires : tie.Need-fill-requires
-fill-requires c κs = search needs
-
-take-requires-2 : tie.Need-take-requires-2
-take-requires-2 c κs = search needs
 
 returns-2 : tie.Need-returns-2
 returns-2 c =
@@ -50,8 +41,8 @@ pub next-spec : {M : Type 1} → statement M
 next-spec =
     tie.close
     (tie.spec
-    take-requires
+    (λ c κs. search needs)
     returns
-    fill-requires
-    take-requires-2
+    (λ c κs. search needs)
+    (λ c κs. search needs)
     returns-2)

@@ -24,9 +24,6 @@ returns c =
     let e : min (a .at) (length (a .line .now)) ≡ length (a .line .now) = omega arith in
     (ap (written (a .line .now)) (sym e) ∙ put-not (a .line .now) (a .s .now) (a .at) (omega arith), omega arith)
 
-sub-if2 : tie.Need-sub-if2 Inv-loop μ-loop
-sub-if2 c = search needs
-
 returns-2 : tie.Need-returns-2 Inv-loop μ-loop
 returns-2 c =
     let a = c .before .before .args in
@@ -38,21 +35,6 @@ loop-holds c =
     let a = c .before .before .args in
     (search needs, search needs, paste-zero (a .line .now) (a .at) (a .s .now))
 
-shared-slice-read-line : tie.Need-shared-slice-read-line Inv-loop μ-loop
-shared-slice-read-line c = search needs
-
-add-line : tie.Need-add-line Inv-loop μ-loop
-add-line c = search needs
-
-slice-write-line : tie.Need-slice-write-line Inv-loop μ-loop
-slice-write-line c = search needs
-
-add-i : tie.Need-add-i Inv-loop μ-loop
-add-i c = search needs
-
-loop-less : tie.Need-loop-less Inv-loop μ-loop
-loop-less c = search needs
-
 loop-again : tie.Need-loop-again Inv-loop μ-loop
 loop-again c =
     let l = c .before .before in
@@ -61,12 +43,6 @@ loop-again c =
       search needs,
       rw (l .loop .inv .2, add-one) (paste-suc (a .line .now) (a .at) (a .s .now) (l .loop .i) 0 (omega arith) (omega arith)),
     )
-
-add-result : tie.Need-add-result Inv-loop μ-loop
-add-result c = search needs
-
-same-length : tie.Need-same-length Inv-loop μ-loop
-same-length c = search needs
 
 returns-3 : tie.Need-returns-3 Inv-loop μ-loop
 returns-3 c =
@@ -82,15 +58,15 @@ put-bytes-spec =
     Inv-loop
     μ-loop
     returns
-    sub-if2
+    (λ c. search needs)
     returns-2
     loop-holds
-    shared-slice-read-line
-    add-line
-    slice-write-line
-    add-i
-    loop-less
+    (λ c. search needs)
+    (λ c. search needs)
+    (λ c. search needs)
+    (λ c. search needs)
+    (λ c. search needs)
     loop-again
-    add-result
-    same-length
+    (λ c. search needs)
+    (λ c. search needs)
     returns-3)

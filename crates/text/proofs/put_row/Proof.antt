@@ -21,21 +21,6 @@ abbrev μ-loop : tie.MeasureT-loop
 loop-holds : tie.Need-loop-holds Inv-loop μ-loop
 loop-holds c = (search needs, search needs, refl)
 
-mul-put-number : tie.Need-mul-put-number Inv-loop μ-loop
-mul-put-number c = search needs
-
-shared-slice-read-put-number : tie.Need-shared-slice-read-put-number Inv-loop μ-loop
-shared-slice-read-put-number c = search needs
-
-put-number-requires : tie.Need-put-number-requires Inv-loop μ-loop
-put-number-requires c κs = search needs
-
-add-i : tie.Need-add-i Inv-loop μ-loop
-add-i c = search needs
-
-loop-less : tie.Need-loop-less Inv-loop μ-loop
-loop-less c = search needs
-
 loop-again : tie.Need-loop-again Inv-loop μ-loop
 loop-again c =
     let n = c .before .before in
@@ -47,12 +32,6 @@ loop-again c =
           ∙ from-next (written (l .loop .line) (l .loop .e)) (l .loop .i) (a .ns .now) (omega arith)
           ∙ ap (λ w. putFrom w (l .loop .i + 1) (drop (l .loop .i + 1) (a .ns .now))) (sym (n .put-number .ensures)),
     )
-
-put-bytes-requires : tie.Need-put-bytes-requires Inv-loop μ-loop
-put-bytes-requires c κs = search needs
-
-same-length : tie.Need-same-length Inv-loop μ-loop
-same-length c = search needs
 
 returns : tie.Need-returns Inv-loop μ-loop
 unfolding putRow
@@ -72,12 +51,12 @@ put-row-spec =
     Inv-loop
     μ-loop
     loop-holds
-    mul-put-number
-    shared-slice-read-put-number
-    put-number-requires
-    add-i
-    loop-less
+    (λ c. search needs)
+    (λ c. search needs)
+    (λ c κs. search needs)
+    (λ c. search needs)
+    (λ c. search needs)
     loop-again
-    put-bytes-requires
-    same-length
+    (λ c κs. search needs)
+    (λ c. search needs)
     returns)

@@ -20,12 +20,6 @@ returns-2 c =
     let a = c .before .before .before .args in
     rw (le-ltb (a .r .at) (min (a .r .end) (length (a .buf .now))) (omega arith))
 
-shared-slice-read-next : tie.Need-shared-slice-read-next
-shared-slice-read-next c = search needs
-
-add-next : tie.Need-add-next
-add-next c = search needs
-
 returns-3 : tie.Need-returns-3
 unfolding taken
 returns-3 c =
@@ -33,4 +27,4 @@ returns-3 c =
     rw (lt-ltb (a .r .at) (min (a .r .end) (length (a .buf .now))) (omega arith))
 
 pub take-spec : {M : Type 1} → statement M
-take-spec = tie.close (tie.spec returns returns-2 shared-slice-read-next add-next returns-3)
+take-spec = tie.close (tie.spec returns returns-2 (λ c. search needs) (λ c. search needs) returns-3)

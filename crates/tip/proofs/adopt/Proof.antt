@@ -6,15 +6,6 @@ use Rattle.tip.proofs.adopt.Tie as tie
 take-branch-requires : tie.Need-take-branch-requires
 take-branch-requires c κs = c .before .before .before .pre .0
 
-last-frame-requires : tie.Need-last-frame-requires
-last-frame-requires c κs = tt
-
-round-requires : tie.Need-round-requires
-round-requires c κs = tt
-
-height-requires : tie.Need-height-requires
-height-requires c κs = tt
-
 tipped-requires : tie.Need-tipped-requires
 tipped-requires c κs =
     let r = c .before in
@@ -41,9 +32,9 @@ adopt-spec =
     tie.close
     (tie.spec
     take-branch-requires
-    last-frame-requires
-    round-requires
-    height-requires
+    (λ c κs. tt)
+    (λ c κs. tt)
+    (λ c κs. tt)
     tipped-requires
     same-length
     returns)

@@ -6,23 +6,11 @@ use Rattle.tip.proofs.Steps.{proposal}
 use Rattle.tip.proofs.propose.Statement.{statement}
 use Rattle.tip.proofs.propose.Tie as tie
 
-add-height : tie.Need-add-height
-add-height c = search needs
-
-put-own-block-requires : tie.Need-put-own-block-requires
-put-own-block-requires c κs = search needs
-
-part-requires : tie.Need-part-requires
-part-requires c κs = tt
-
 store-requires : tie.Need-store-requires
 store-requires c κs =
     let u = c .before .before .before .before .before in
     let g = u .before .before .before .before .before .before .before in
     (omega arith, omega (arith, g .pre .0 .size), rw (c .part .ensures) (simp length-take (omega (arith, u .put-own-block .kept .1 .1 .1 .1 .0))))
-
-tipped-requires : tie.Need-tipped-requires
-tipped-requires c κs = search needs
 
 same-length : tie.Need-same-length
 same-length c =
@@ -47,11 +35,11 @@ pub propose-spec : {M : Type 1} → statement M
 propose-spec =
     tie.close
     (tie.spec
-    add-height
-    put-own-block-requires
-    part-requires
+    (λ c. search needs)
+    (λ c κs. search needs)
+    (λ c κs. tt)
     store-requires
-    tipped-requires
+    (λ c κs. search needs)
     same-length
     same-length-2
     returns)

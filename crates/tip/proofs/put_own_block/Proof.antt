@@ -6,9 +6,6 @@ use Rattle.tip.proofs.Steps.{genesis-digest, slot-digest, digest-size}
 use Rattle.tip.proofs.put_own_block.Statement.{statement}
 use Rattle.tip.proofs.put_own_block.Tie as tie
 
-slice-aggregate-put-block : tie.Need-slice-aggregate-put-block
-slice-aggregate-put-block c = refl
-
 put-block-requires : tie.Need-put-block-requires
 put-block-requires c κs = (omega arith, refl, omega arith)
 
@@ -23,12 +20,6 @@ returns c =
     let i = u .before .before .before in
     let a = i .before .before .before .before .args in
     rw (genesis-digest (a .log .now) (a .r .«tip_round» .0) (i .if1 .taken)) at (u .put-block .ensures)
-
-slot-requires : tie.Need-slot-requires
-slot-requires c κs = tt
-
-part-requires : tie.Need-part-requires
-part-requires c κs = tt
 
 put-block-requires-2 : tie.Need-put-block-requires-2
 put-block-requires-2 c κs =
@@ -58,12 +49,12 @@ pub put-own-block-spec : {M : Type 1} → statement M
 put-own-block-spec =
     tie.close
     (tie.spec
-    slice-aggregate-put-block
+    (λ c. refl)
     put-block-requires
     same-length
     returns
-    slot-requires
-    part-requires
+    (λ c κs. tt)
+    (λ c κs. tt)
     put-block-requires-2
     same-length-2
     returns-2)

@@ -4,21 +4,6 @@ use Rattle.tip.proofs.Steps.{tipped-steps}
 use Rattle.tip.proofs.tipped.Statement.{statement}
 use Rattle.tip.proofs.tipped.Tie as tie
 
-with-tip-requires : tie.Need-with-tip-requires
-with-tip-requires c κs = tt
-
-add-with-round : tie.Need-add-with-round
-add-with-round c = search needs
-
-with-round-requires : tie.Need-with-round-requires
-with-round-requires c κs = tt
-
-with-timer-requires : tie.Need-with-timer-requires
-with-timer-requires c κs = tt
-
-commit-requires : tie.Need-commit-requires
-commit-requires c κs = tt
-
 returns : tie.Need-returns
 returns c =
     let i = c .before in
@@ -31,9 +16,9 @@ pub tipped-spec : {M : Type 1} → statement M
 tipped-spec =
     tie.close
     (tie.spec
-    with-tip-requires
-    add-with-round
-    with-round-requires
-    with-timer-requires
-    commit-requires
+    (λ c κs. tt)
+    (λ c. search needs)
+    (λ c κs. tt)
+    (λ c κs. tt)
+    (λ c κs. tt)
     returns)

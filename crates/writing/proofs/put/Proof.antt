@@ -4,24 +4,6 @@ use Rattle.writing.proofs.Writes.{written-copy}
 use Rattle.writing.proofs.put.Statement.{statement}
 use Rattle.writing.proofs.put.Tie as tie
 
-add-end : tie.Need-add-end
-add-end c = search needs
-
-sub-copy : tie.Need-sub-copy
-sub-copy c = search needs
-
-part-copy-start : tie.Need-part-copy-start
-part-copy-start c = search needs
-
-part-copy-end : tie.Need-part-copy-end
-part-copy-end c = search needs
-
-copy-requires : tie.Need-copy-requires
-copy-requires c κs = search needs
-
-same-length : tie.Need-same-length
-same-length c = search needs
-
 returns : tie.Need-returns
 returns c =
     let a = c .before .before .before .before .before .before in
@@ -30,4 +12,4 @@ returns c =
 pub put-spec : {M : Type 1} → statement M
 put-spec =
     tie.close
-    (tie.spec add-end sub-copy part-copy-start part-copy-end copy-requires same-length returns)
+    (tie.spec (λ c. search needs) (λ c. search needs) (λ c. search needs) (λ c. search needs) (λ c κs. search needs) (λ c. search needs) returns)
