@@ -9,7 +9,8 @@ use native.Mathlib.Omega.{arith}
 use lib.ListN.{length}
 use lib.Dec.{eqb}
 use borrow.Author.Tests.{eqb-true, eqb-false, leb-true, ltb-true, not-false}
-use Rattle.apollo.specs.Setup.{Setup, leader}
+use Rattle.apollo.specs.declared.Setup.{Setup}
+use Rattle.apollo.specs.Setup.{leader}
 use Rattle.apollo.specs.Bytes.{same}
 use Rattle.apollo.specs.Frame.{kind, signer, round, height, digest, parent, blockForm, linked, checked}
 use Rattle.apollo.specs.Log.{genesis, slot, filled, store, clearAbove, attach}
@@ -64,7 +65,7 @@ module _ (s : Setup) (hash : List ℕ → List ℕ) where
     pub kind-is : kind x ≡ 1
     pub signed : signer x ≡ leader s (round x)
     pub lowest : 1 ≤ round x
-    pub highest : round x ≤ s .lastRound
+    pub highest : round x ≤ s .«last_round» .0
 
   formed : (x : List ℕ) → checked hash x ≡ true → blockForm s x ≡ true → Block x
   unfolding blockForm
@@ -153,7 +154,7 @@ module _ (s : Setup) (hash : List ℕ → List ℕ) where
     unfolding grown
     grown-stored log tip h a x xs st e b r k w u =
         let t : Attached log x (round x - 1) a = attach-at log x (round x - 1) a e in
-        let l : a ≤ tip = within (s .lastRound) _ _ (slot log) tip (st .chain) a (t .1) in
+        let l : a ≤ tip = within (s .«last_round» .0) _ _ (slot log) tip (st .chain) a (t .1) in
         store-row xs (clearAbove log a) a _ x (clear-stored s past masks log tip h st a (t .1)) b r k w
         (subst (λ z. Joins z x) (sym (clear-low log a a (omega (arith, st .size, st .chain .low)) (omega arith))) (t .2))
         (omega (arith, t .0, b .lowest)) u

@@ -9,7 +9,8 @@ use native.Mathlib.Omega.{arith}
 use lib.Dec.{leb, eqb}
 use borrow.Author.Tests.{leb-true, leb-false}
 use Rattle.sha256.specs.Fips.{sha256}
-use Rattle.apollo.specs.Setup.{Setup, replicas}
+use Rattle.apollo.specs.declared.Setup.{Setup}
+use Rattle.apollo.specs.Setup.{replicas}
 use Rattle.apollo.specs.Frame.{signer, checked}
 use Rattle.apollo.specs.Log.{slot, chain}
 use Rattle.apollo.specs.Enter.{State}

@@ -6,7 +6,8 @@ use mathlib.Core.Bool.{true, false, not}
 use lib.ListN.{length}
 use lib.Dec.{eqb, ltb}
 use borrow.Author.Tests.{eqb-true, leb-true, not-false}
-use Rattle.apollo.specs.Setup.{Setup, setupOf}
+use Rattle.apollo.specs.declared.Setup.{Setup}
+use Rattle.apollo.specs.Setup.{setupOf}
 use Rattle.apollo.specs.Frame.{kind, signer, round, blameForm, checked}
 use Rattle.apollo.specs.Masks.{bit, mask}
 use Rattle.apollo.specs.Replica.{leads}
@@ -19,7 +20,7 @@ use Rattle.agreement.proofs.Effects.{Standing, Kept, kept-trans, hear-s
 use Rattle.agreement.proofs.Outcomes.{Fine, taken-fine, refused-plain, guarded-fine}
 
 -- what the form of a blame says
-blame-parts : (s : Setup) (x : List ℕ) → blameForm s x ≡ true → (kind x ≡ 2) × (1 ≤ round x) × (round x ≤ s .lastRound)
+blame-parts : (s : Setup) (x : List ℕ) → blameForm s x ≡ true → (kind x ≡ 2) × (1 ≤ round x) × (round x ≤ s .«last_round» .0)
 unfolding blameForm
 blame-parts s x g =
     let p = and-true _ _ (and-true _ _ g .0) in
@@ -33,7 +34,7 @@ module _ (s : Setup) (hash : List ℕ → List ℕ) (wide : (xs : List ℕ) → 
     heard-kept : checked hash x ≡ true → blameForm s x ≡ true
         → Kept s past i c (settle hash entry (hearing c (round x) (signer x)) (round x))
     heard-kept r g =
-        let p : (kind x ≡ 2) × (1 ≤ round x) × (round x ≤ s .lastRound) = blame-parts s x g in
+        let p : (kind x ≡ 2) × (1 ≤ round x) × (round x ≤ s .«last_round» .0) = blame-parts s x g in
         kept-trans s past i c (hearing c (round x) (signer x)) _ (hear-extends c (round x) (signer x))
         (settle-kept s hash wide entry fits past i (hearing c (round x) (signer x)) (round x) (p .2) (unfold hearing in rests)
         (hear-standing s past i c st (round x) (signer x) (p .1) (x, known r, p .0, refl, refl)))

@@ -8,7 +8,8 @@ use native.Mathlib.Omega.{arith}
 use lib.ListN.{length, take}
 use lib.Dec.{eqb, ltb}
 use borrow.Author.Tests.{eqb-true, ltb-false}
-use Rattle.apollo.specs.Setup.{Setup, setupOf}
+use Rattle.apollo.specs.declared.Setup.{Setup}
+use Rattle.apollo.specs.Setup.{setupOf}
 use Rattle.apollo.specs.Bytes.{same, within}
 use Rattle.apollo.specs.Frame.{round, height, frames, blockForm, checked}
 use Rattle.apollo.specs.Log.{attach}
@@ -67,7 +68,7 @@ module _ (s : Setup) (hash : List ℕ → List ℕ) (wide : (xs : List ℕ) → 
         let log : List ℕ = grown (c .log) a (x ∷ xs) in
         let t : ℕ = round (lastOf x xs) in
         let h : ℕ = height (lastOf x xs) in
-        let fit : 512 * done ≤ 512 * s .lastRound =
+        let fit : 512 * done ≤ 512 * s .«last_round» .0 =
         omega (arith, committed-low s past i c (st .good), limit-tip s past i c (st .good), st .good .stored .chain .low) in
         let slots = slots-take log (c .log) done (omega (arith, new .size)) (omega (arith, st .good .stored .size)) keep in
         taken-fine s past i c _ out

@@ -8,7 +8,8 @@ use native.Mathlib.Omega.{arith}
 use lib.ListN.{length}
 use lib.Dec.{eqb, leb}
 use borrow.Author.Tests.{eqb-true, leb-true}
-use Rattle.apollo.specs.Setup.{Setup, setupOf, leader}
+use Rattle.apollo.specs.declared.Setup.{Setup}
+use Rattle.apollo.specs.Setup.{setupOf, leader}
 use Rattle.apollo.specs.Frame.{kind, signer, round, height, parent, digest}
 use Rattle.apollo.specs.Log.{slot, store}
 use Rattle.apollo.specs.Masks.{certified}
@@ -43,7 +44,7 @@ module _ (s : Setup) where
   standing-later past i c d st g l = record { good = g; mine = λ x p k. omega (arith, st .mine x p k); tidy = st .tidy }
 
   pub wait-standing : (past : List Event) (i : ℕ) (c : State) → Standing past i c → (R timer : ℕ) → c .replica .round .0 ≤ R
-      → R ≤ suc (s .lastRound) → timer ≤ c .replica .timeout .0
+      → R ≤ suc (s .«last_round» .0) → timer ≤ c .replica .timeout .0
       → ((q : ℕ) → c .replica .round .0 ≤ q → q < R → certified s (c .masks) q ≡ true) → Standing past i (waiting c R timer)
   wait-standing past i c st R timer up low short pass =
       standing-later past i c (waiting c R timer) st (wait-good s past i c (st .good) R timer up low short pass)
@@ -84,7 +85,7 @@ module _ (s : Setup) where
 
   -- a replica that leads R
   pub leads-parts : (past : List Event) (i : ℕ) (c : State) → Good s past i c → leads (c .replica) ≡ true
-      → (c .replica .round .0 ≤ s .lastRound) × (leader s (c .replica .round .0) ≡ i)
+      → (c .replica .round .0 ≤ s .«last_round» .0) × (leader s (c .replica .round .0) ≡ i)
   unfolding leads
   leads-parts past i c g e =
       let p : (leb (c .replica .round .0) (c .replica .«last_round» .0) ≡ true)
@@ -110,7 +111,7 @@ module _ (s : Setup) (hash : List ℕ → List ℕ) (wide : (xs : List ℕ) → 
     abbrev g : Good s past i c
     g = st .good
 
-    R-low : R ≤ s .lastRound
+    R-low : R ≤ s .«last_round» .0
     R-low = leads-parts s past i c g led .0
 
     R-led : leader s R ≡ i
@@ -119,7 +120,7 @@ module _ (s : Setup) (hash : List ℕ → List ℕ) (wide : (xs : List ℕ) → 
     one : 1 ≤ R
     one = omega (arith, g .tip-below)
 
-    short : s .lastRound ≤ 4096
+    short : s .«last_round» .0 ≤ 4096
     short = omega (arith, g .fixed .last-is, g .fixed .last-top)
 
     up-length : length (digest (slot (c .log) (c .replica .«tip_round» .0))) ≡ 32
@@ -250,7 +251,7 @@ module _ (s : Setup) (hash : List ℕ → List ℕ) (wide : (xs : List ℕ) → 
       (wait-extends c (c .replica .round .0) (c .replica .timeout .0)))
 
   -- after a blame for round r
-  pub settle-kept : (past : List Event) (i : ℕ) (c : State) (r : ℕ) → r ≤ s .lastRound → leads (c .replica) ≡ false → Standing s past i c
+  pub settle-kept : (past : List Event) (i : ℕ) (c : State) (r : ℕ) → r ≤ s .«last_round» .0 → leads (c .replica) ≡ false → Standing s past i c
       → Kept s past i c (settle hash entry c r)
   unfolding settle
   settle-kept past i c r low rests st =

@@ -9,7 +9,8 @@ use lib.ListN.{length}
 use lib.Dec.{leb}
 use borrow.Author.Tests.{leb-true, leb-false}
 use Rattle.apollo.specs.declared.Replica.{Replica}
-use Rattle.apollo.specs.Setup.{Setup, setupOf, replicas}
+use Rattle.apollo.specs.declared.Setup.{Setup}
+use Rattle.apollo.specs.Setup.{setupOf, replicas}
 use Rattle.apollo.specs.Frame.{kind, signer, round, height}
 use Rattle.apollo.specs.Log.{slot, filled, highest}
 use Rattle.apollo.specs.Masks.{bit, mask, certified}
@@ -52,7 +53,7 @@ module _ (s : Setup) where
   pub record Fixed (i id f timeout last : ℕ) : Type 0 where
     pub id-is : id ≡ i
     pub f-is : f ≡ s .f
-    pub last-is : last ≡ s .lastRound
+    pub last-is : last ≡ s .«last_round» .0
     pub id-low : id < 2 * f + 1
     pub f-one : 1 ≤ f
     pub f-top : f ≤ 7
@@ -62,15 +63,15 @@ module _ (s : Setup) where
     pub last-top : last ≤ 4096
 
   pub setup-is : (i : ℕ) (r : Replica) → Fixed i (r .id) (r .f) (r .timeout .0) (r .«last_round» .0) → setupOf r ≡ s
-  setup-is i r x = λ k. record { f = x .f-is k; lastRound = x .last-is k }
+  setup-is i r x = λ k. record { f = x .f-is k; «last_round» = record { 0 = x .last-is k } }
 
   -- `waits` and `stored` together: every round below R is filled or certified
   pub record Good (past : List Event) (i : ℕ) (c : State) : Type 0 where
     pub fixed : Fixed i (c .replica .id) (c .replica .f) (c .replica .timeout .0) (c .replica .«last_round» .0)
-    pub masks-length : length (c .masks) ≡ s .lastRound
+    pub masks-length : length (c .masks) ≡ s .«last_round» .0
     pub stored : Stored s past (c .masks) (c .log) (c .replica .«tip_round» .0) (c .replica .«tip_height» .0)
     pub tip-below : c .replica .«tip_round» .0 < c .replica .round .0
-    pub reach : c .replica .round .0 ≤ suc (s .lastRound)
+    pub reach : c .replica .round .0 ≤ suc (s .«last_round» .0)
     pub timer-low : c .replica .timer .0 ≤ c .replica .timeout .0
     pub committed-is : c .replica .«committed_round» .0 ≡ highest (c .log) (commitLimit (c .replica))
     pub committed-height : c .replica .«committed_height» .0 ≡ height (slot (c .log) (c .replica .«committed_round» .0))
@@ -96,7 +97,7 @@ module _ (s : Setup) where
 
   module _ (past : List Event) (i : ℕ) (c : State) (h : Good past i c) where
     -- R grows past certified rounds, or stays, and the ticks left change
-    pub wait-good : (R timer : ℕ) → c .replica .round .0 ≤ R → R ≤ suc (s .lastRound) → timer ≤ c .replica .timeout .0
+    pub wait-good : (R timer : ℕ) → c .replica .round .0 ≤ R → R ≤ suc (s .«last_round» .0) → timer ≤ c .replica .timeout .0
         → ((q : ℕ) → c .replica .round .0 ≤ q → q < R → certified s (c .masks) q ≡ true) → Good past i (waiting c R timer)
     unfolding waiting commitLimit
     wait-good R timer up low short pass =

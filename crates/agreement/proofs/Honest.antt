@@ -6,7 +6,8 @@ use mathlib.Core.List.{List}
 use mathlib.Core.Bool.{Bool, true, false, not}
 use native.Mathlib.Omega.{arith}
 use borrow.Author.Tests.{leb-true}
-use Rattle.apollo.specs.Setup.{Setup, replicas, leader}
+use Rattle.apollo.specs.declared.Setup.{Setup}
+use Rattle.apollo.specs.Setup.{replicas, leader}
 use Rattle.apollo.specs.Frame.{kind, signer, round, digest}
 use Rattle.apollo.specs.Log.{genesis, slot, filled}
 use Rattle.apollo.specs.Masks.{count, bit, mask, certified}
@@ -78,7 +79,7 @@ module _ (s : Setup) (correct : ℕ → Bool) (past : List Event) (h : Honest s 
         let r : (n : ℕ) × (k ≤ n) × (n ≤ k + s .f) × (correct (leader s n) ≡ true) = correct-round s correct (h .mostly) k one in
         let e : (filled (slot a (r .0)) ≡ true) × (slot a (r .0) ≡ slot b (r .0)) =
         same-led (r .0) (omega (arith, r .1)) (omega (arith, r .2)) (omega (arith, r .2)) (r .3) in
-        agree (s .lastRound) (Fact s past) (λ x. Seen x past) (λ n x f. f .round-is) (λ n x f. f .seen) (h .distinct) _ _ (slot a) (slot b) t t′ c d
+        agree (s .«last_round» .0) (Fact s past) (λ x. Seen x past) (λ n x f. f .round-is) (λ n x f. f .seen) (h .distinct) _ _ (slot a) (slot b) t t′ c d
         (r .0) (inr (e .0)) (inr (ap filled (sym (e .1)) ∙ e .0)) (e .1) q (omega (arith, r .1))
 
   -- two replicas hold the same frames up to a round that both may commit
@@ -119,7 +120,7 @@ module _ (s : Setup) (correct : ℕ → Bool) (past : List Event) (h : Honest s 
       ok = ap correct led ∙ ci
 
       low : round x < c .replica .round .0
-      low = omega (arith, within (s .lastRound) _ _ (slot (c .log)) _ (g .stored .chain) q (inr f), g .tip-below)
+      low = omega (arith, within (s .«last_round» .0) _ _ (slot (c .log)) _ (g .stored .chain) q (inr f), g .tip-below)
 
       go : (filled (slot (c .log) (round x)) ≡ true) ⊎ (filled (slot (c .log) (round x)) ≡ false) → slot (c .log) (round x) ≡ x
       go (inr e) = absurd (clash ok (good-passed j c g (round x) (h .tidy .high i x p k) low e))

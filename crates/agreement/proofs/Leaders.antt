@@ -7,7 +7,8 @@ use native.Mathlib.Nat.{div-add-mod', mod-lt, mul-le-mul-right, suc-mul}
 use native.Mathlib.Omega.{arith}
 use lib.Dec.{eqb, leb}
 use borrow.Author.Tests.{eqb-true, eqb-false, leb-true, leb-false, not-false}
-use Rattle.apollo.specs.Setup.{Setup, replicas, leader}
+use Rattle.apollo.specs.declared.Setup.{Setup}
+use Rattle.apollo.specs.Setup.{replicas, leader}
 use Rattle.apollo.specs.Masks.{count}
 use Rattle.agreement.proofs.Counts.{more, spread}
 

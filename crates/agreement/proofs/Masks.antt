@@ -9,7 +9,8 @@ use lib.ListN.{length, getD, length-set}
 use lib.Seq.{getD-set-same, getD-set-other, set-out}
 use lib.Dec.{eqb, leb}
 use borrow.Author.Tests.{eqb-true, eqb-false, leb-true, leb-false, le-leb, eq-eqb}
-use Rattle.apollo.specs.Setup.{Setup, replicas}
+use Rattle.apollo.specs.declared.Setup.{Setup}
+use Rattle.apollo.specs.Setup.{replicas}
 use Rattle.apollo.specs.Masks.{count, bit, setBit, mask, addBlame, certified, gap}
 use Rattle.agreement.proofs.Tests.{by-cond}
 use Rattle.agreement.proofs.Counts.{count-mono}

@@ -8,7 +8,7 @@ use native.Mathlib.Omega.{arith}
 use lib.ListN.{length, getD, replicate, getD-replicate, List·getD-eq-default, length-replicate}
 use lib.Dec.{leb, ltb, eqb}
 use borrow.Author.Tests.{leb-true, leb-false, ltb-true, ltb-false, eqb-false, not-false}
-use Rattle.apollo.specs.Setup.{Setup}
+use Rattle.apollo.specs.declared.Setup.{Setup}
 use Rattle.apollo.specs.Bytes.{zeros}
 use Rattle.apollo.specs.Frame.{height, frames}
 use Rattle.apollo.specs.Log.{genesis, slot, filled}
@@ -102,7 +102,7 @@ module _ (s : Setup) (past : List Event) (i : ℕ) where
     pub valid-ok : o .answer .number ≢ 2
     pub kept-ok : o .answer .number ≢ 12
     pub quiet : o .answer .number ≢ 0 → emittedBy o ≡ []
-    pub fine : o .answer .number ≡ 0 → id ≡ i → f ≡ s .f → last ≡ s .lastRound → ((x : List ℕ) → In (emitted i x) past → ⊥) → Tidy s past
+    pub fine : o .answer .number ≡ 0 → id ≡ i → f ≡ s .f → last ≡ s .«last_round» .0 → ((x : List ℕ) → In (emitted i x) past → ⊥) → Tidy s past
         → (c : State) × Fine s past i c o
 
   refusal : (id f last : ℕ) (c : State) (out : List ℕ) (k : ℕ) → eqb k 2 ≡ false → eqb k 12 ≡ false → eqb k 0 ≡ false
@@ -118,7 +118,7 @@ module _ (s : Setup) (past : List Event) (i : ℕ) where
 
   ranges : (id f timeout last : ℕ) (log masks : List ℕ)
       → (validSetup (fresh id f timeout last) log && validMasks (fresh id f timeout last) masks) ≡ true → id ≡ i → f ≡ s .f
-      → last ≡ s .lastRound → Fixed s i id f timeout last
+      → last ≡ s .«last_round» .0 → Fixed s i id f timeout last
   unfolding validSetup fresh
   ranges id f timeout last log masks v ei ef el =
       let p3 = and-true _ _ (and-true _ _ (and-true _ _ v .0) .0) in

@@ -8,7 +8,7 @@ use native.Mathlib.Omega.{arith}
 use lib.ListN.{length, take, drop}
 use lib.Dec.{eqb, ltb}
 use borrow.Author.Tests.{eqb-false, ltb-false, not-true}
-use Rattle.apollo.specs.Setup.{Setup}
+use Rattle.apollo.specs.declared.Setup.{Setup}
 use Rattle.apollo.specs.Frame.{frames}
 use Rattle.apollo.specs.Replica.{leads, validReplica, validMasks}
 use Rattle.apollo.specs.Enter.{State, Effect}
@@ -64,7 +64,7 @@ module _ (s : Setup) where
       refused-plain out k p a b = refused-fine out k p (eqb-false k 2 a) (λ e. absurd (eqb-false k 12 b e))
 
       pub guarded-fine : (entry out : List ℕ) (o : Outcome)
-          → (c .replica .round .0 ≤ s .lastRound → length entry ≤ 400 → Fine past i c o) → Fine past i c (guarded c entry out o)
+          → (c .replica .round .0 ≤ s .«last_round» .0 → length entry ≤ 400 → Fine past i c o) → Fine past i c (guarded c entry out o)
       unfolding guarded
       guarded-fine entry out o h =
           by-cond (Fine past i c) (not (validReplica (c .replica) (c .log) && validMasks (c .replica) (c .masks)))

@@ -7,7 +7,7 @@ use mathlib.Core.Bool.{false}
 use native.Mathlib.Omega.{arith}
 use lib.ListN.{length}
 use lib.Dec.{eqb}
-use Rattle.apollo.specs.Setup.{Setup}
+use Rattle.apollo.specs.declared.Setup.{Setup}
 use Rattle.apollo.specs.Frame.{kind, signer, round, makeBlame}
 use Rattle.apollo.specs.Replica.{leads}
 use Rattle.apollo.specs.Enter.{State, waiting, hearing, settle}
@@ -53,7 +53,7 @@ module _ (s : Setup) (hash : List ℕ → List ℕ) (wide : (xs : List ℕ) → 
           ap signer (e .1) ∙ blame-signer hash wide _ _ ∙ st .good .fixed .id-is ∙ sym (e .0)
       signed j y (inr h) = st .tidy .signed j y h
 
-  module _ (low : R ≤ s .lastRound) (fits : length entry ≤ 400) where
+  module _ (low : R ≤ s .«last_round» .0) (fits : length entry ≤ 400) where
     blaming-kept : Kept s past i c (blaming hash entry c)
     unfolding blaming emit
     blaming-kept =

@@ -5,7 +5,7 @@ use mathlib.Core.List.{List}
 use mathlib.Core.Bool.{Bool, true, false, _&&_, not}
 use native.Mathlib.Omega.{arith}
 use borrow.Author.Tests.{lt-ltb, le-leb, eq-eqb}
-use Rattle.apollo.specs.Setup.{Setup}
+use Rattle.apollo.specs.declared.Setup.{Setup}
 use Rattle.apollo.specs.Bytes.{within}
 use Rattle.apollo.specs.Log.{slot}
 use Rattle.apollo.specs.Replica.{leads, validSetup, validReplica, validMasks}
@@ -31,7 +31,7 @@ module _ (s : Setup) (past : List Event) (i : ℕ) (c : State) (g : Good s past 
 
   tip-height : c .replica .«tip_height» .0 ≤ c .replica .«tip_round» .0
   tip-height =
-      omega (arith, g .stored .level-is, held-level (s .lastRound) _ _ (slot (c .log)) _ (g .stored .chain) _ (g .stored .chain .top))
+      omega (arith, g .stored .level-is, held-level (s .«last_round» .0) _ _ (slot (c .log)) _ (g .stored .chain) _ (g .stored .chain .top))
 
   height-tip : c .replica .«committed_height» .0 ≤ c .replica .«tip_height» .0
   height-tip =
@@ -39,12 +39,12 @@ module _ (s : Setup) (past : List Event) (i : ℕ) (c : State) (g : Good s past 
         arith,
         g .stored .level-is,
         g .committed-height,
-        rises (s .lastRound) _ _ (slot (c .log)) _ (g .stored .chain) _ _ committed-tip committed-held (g .stored .chain .top),
+        rises (s .«last_round» .0) _ _ (slot (c .log)) _ (g .stored .chain) _ _ committed-tip committed-held (g .stored .chain .top),
       )
 
   height-round : c .replica .«committed_height» .0 ≤ c .replica .«committed_round» .0
   height-round =
-      omega (arith, g .committed-height, held-level (s .lastRound) _ _ (slot (c .log)) _ (g .stored .chain) _ committed-held)
+      omega (arith, g .committed-height, held-level (s .«last_round» .0) _ _ (slot (c .log)) _ (g .stored .chain) _ committed-held)
 
   pub valid : leads (c .replica) ≡ false → (validReplica (c .replica) (c .log) && validMasks (c .replica) (c .masks)) ≡ true
   unfolding validReplica validSetup

@@ -9,7 +9,8 @@ use native.Mathlib.Omega.{arith}
 use lib.Dec.{eqb, ltb}
 use Rattle.sha256.specs.Fips.{sha256}
 use Rattle.apollo.specs.Bytes.{zeros, number2, number4, same}
-use Rattle.apollo.specs.Setup.{Setup, leader}
+use Rattle.apollo.specs.declared.Setup.{Setup}
+use Rattle.apollo.specs.Setup.{leader}
 use Rattle.apollo.specs.Frame.{kind, signer, round, digest, frames, checked, blockForm, linked, blockHead, sealed, makeBlock}
 use Rattle.apollo.specs.Log.{genesis, slot, store, clearAbove, attach, highest, chain}
 use Rattle.apollo.specs.Masks.{count, gap}
@@ -189,7 +190,7 @@ each4 P p1 p2 p3 p4 = (
 
 -- the premises
 pub setup : Setup
-setup = record { f = 1; lastRound = 2 }
+setup = record { f = 1; «last_round» = record { 0 = 2 } }
 
 pub correct : ℕ → Bool
 correct i = ltb i 2

@@ -5,7 +5,7 @@ use mathlib.Core.Logic.{_⊎_}
 use mathlib.Core.Option.{some}
 use mathlib.Core.List.{List, _++_}
 use mathlib.Core.Bool.{Bool, true}
-use Rattle.apollo.specs.Setup.{Setup}
+use Rattle.apollo.specs.declared.Setup.{Setup}
 use Rattle.apollo.specs.Frame.{kind, round}
 use Rattle.apollo.specs.Log.{slot, filled, chain}
 use Rattle.apollo.specs.Enter.{State}

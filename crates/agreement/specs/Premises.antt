@@ -6,7 +6,8 @@ use mathlib.Core.Option.{none, some}
 use mathlib.Core.List.{List, [], _∷_}
 use mathlib.Core.Bool.{Bool, true, false, not}
 use Rattle.sha256.specs.Fips.{sha256}
-use Rattle.apollo.specs.Setup.{Setup, replicas, leader}
+use Rattle.apollo.specs.declared.Setup.{Setup}
+use Rattle.apollo.specs.Setup.{replicas, leader}
 use Rattle.apollo.specs.Frame.{kind, signer, round, digest, checked}
 use Rattle.apollo.specs.Masks.{count}
 use Rattle.apollo.specs.Log.{genesis}
@@ -32,7 +33,7 @@ module _ (s : Setup) where
   abbrev pub Lawful : World → ℕ → Call → Type 0
   Lawful w i (opening id f timeout lastRound log masks entry out) =
       openCall id f timeout lastRound log masks entry out .answer .number ≡ 0
-      → (w .states i ≡ none) × (id ≡ i) × (f ≡ s .f) × (lastRound ≡ s .lastRound)
+      → (w .states i ≡ none) × (id ≡ i) × (f ≡ s .f) × (lastRound ≡ s .«last_round» .0)
   Lawful w i (act a) = (c : State) × (w .states i ≡ some c)
 
   -- The replicas counted as correct ("sound"). Others may take part in the list if they keep the rules above; demand 3 is the case

@@ -5,7 +5,8 @@ use mathlib.Core.List.{List, [], _∷_, _++_}
 use mathlib.Core.Bool.{Bool, true, false, cond}
 use Rattle.apollo.specs.declared.Replica.{Replica}
 use Rattle.apollo.specs.Bytes.{number4, zeros}
-use Rattle.apollo.specs.Setup.{Setup, leader, setup}
+use Rattle.apollo.specs.declared.Setup.{Setup}
+use Rattle.apollo.specs.Setup.{leader, setup}
 use Rattle.apollo.specs.Log.{genesis, slot, filled, highest}
 use Rattle.apollo.specs.Masks.{bit, count, mask, certified}
 use Rattle.apollo.specs.Enter.{commitLimit, commit}

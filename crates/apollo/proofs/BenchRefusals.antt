@@ -9,7 +9,8 @@ use lib.ListN.{length, take}
 use lib.Dec.{eqb, ltb}
 use Rattle.sha256.specs.Fips.{sha256}
 use Rattle.apollo.specs.Bytes.{same, within}
-use Rattle.apollo.specs.Setup.{Setup, setupOf}
+use Rattle.apollo.specs.declared.Setup.{Setup}
+use Rattle.apollo.specs.Setup.{setupOf}
 use Rattle.apollo.specs.Frame.{signer, round, frames, blockForm, blameForm, checked}
 use Rattle.apollo.specs.Log.{attach}
 use Rattle.apollo.specs.Masks.{bit, mask}

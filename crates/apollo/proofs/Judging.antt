@@ -12,7 +12,8 @@ use lib.Dec.{eqb, ltb}
 use borrow.Author.Tests.{lt-ltb, le-ltb, eqb-true, eqb-false, eq-eqb, ne-eqb}
 use Rattle.sha256.specs.Fips.{sha256}
 use Rattle.apollo.specs.Bytes.{within}
-use Rattle.apollo.specs.Setup.{Setup, setupOf}
+use Rattle.apollo.specs.declared.Setup.{Setup}
+use Rattle.apollo.specs.Setup.{setupOf}
 use Rattle.apollo.specs.Frame.{round, frames, blockForm, linked, checked}
 use Rattle.apollo.specs.Log.{slot, filled, attach}
 use Rattle.apollo.specs.Replica.{validReplica, validMasks}

@@ -11,7 +11,8 @@ use borrow.Author.Tests.{lt-ltb, le-leb, eq-eqb}
 use Rattle.sha256.specs.Fips.{sha256}
 use Rattle.sha256.proofs.Hash.{digest-length}
 use Rattle.apollo.specs.Bytes.{part, number2, number4, bytes2, bytes4, zeros, same, within}
-use Rattle.apollo.specs.Setup.{Setup, replicas, leader}
+use Rattle.apollo.specs.declared.Setup.{Setup}
+use Rattle.apollo.specs.Setup.{replicas, leader}
 use Rattle.apollo.specs.Frame.{kind, signer, entryLength, round, height, parent, digest, blank, blockForm, blameForm, blockHead, blameHead, checked, sealed, makeBlock, makeBlame}
 use Rattle.apollo.specs.BenchSheet.{block}
 use Rattle.apollo.proofs.Tests.{both, same-of, within-of}
@@ -57,19 +58,19 @@ blame-blank : (i r : ℕ) → blank (makeBlame sha256 i r) 8 480 ≡ true
 unfolding makeBlame sealed blameHead
 blame-blank i r = same-of (take-at (zeros 472) _ 472 (length-zeros 472))
 
-pub blame-form : (s : Setup) (i r : ℕ) → i < replicas s → 1 ≤ r → r ≤ s .lastRound → r < 65536
+pub blame-form : (s : Setup) (i r : ℕ) → i < replicas s → 1 ≤ r → r ≤ s .«last_round» .0 → r < 65536
     → blameForm s (makeBlame sha256 i r) ≡ true
 unfolding blameForm
 blame-form s i r below one last small =
     let x : List ℕ = makeBlame sha256 i r in
     let e : round x ≡ r = blame-round-alone i r small in
     both _ (blank x 8 480)
-    (both _ (within 1 (round x) (s .lastRound))
+    (both _ (within 1 (round x) (s .«last_round» .0))
     (both _ (blank x 2 4)
     (both (eqb (kind x) 2) (ltb (signer x) (replicas s)) (unfold makeBlame sealed blameHead in refl)
     (unfold makeBlame sealed blameHead in lt-ltb i (replicas s) below))
     (blame-blank-length i r))
-    (within-of 1 (round x) (s .lastRound) (omega arith) (omega arith)))
+    (within-of 1 (round x) (s .«last_round» .0) (omega arith) (omega arith)))
     (blame-blank i r)
 
 module _ (i r h : ℕ) (up entry : List ℕ) (wide : length up ≡ 32) (fits : length entry ≤ 400) where
@@ -126,7 +127,7 @@ module _ (i r h : ℕ) (up entry : List ℕ) (wide : length up ≡ 32) (fits : l
       ap (take 32) (append-assoc up (entry ++ zeros (436 - length entry)) (sha256 (blockHead i r h up entry)))
       ∙ take-at up _ 32 wide
 
-  pub block-made : (s : Setup) → i ≡ leader s r → 1 ≤ r → r ≤ s .lastRound → r < 65536 → 1 ≤ h → h ≤ r
+  pub block-made : (s : Setup) → i ≡ leader s r → 1 ≤ r → r ≤ s .«last_round» .0 → r < 65536 → 1 ≤ h → h ≤ r
       → block s (makeBlock sha256 i r h up entry) ≡ true
   unfolding block blockForm
   block-made s led one last small low high =
@@ -138,11 +139,11 @@ module _ (i r h : ℕ) (up entry : List ℕ) (wide : length up ≡ 32) (fits : l
       (both (checked sha256 x) _ block-checked
       (both _ (blank x (44 + entryLength x) 480)
       (both _ (within 1 (height x) (round x))
-      (both _ (within 1 (round x) (s .lastRound))
+      (both _ (within 1 (round x) (s .«last_round» .0))
       (both _ (leb (entryLength x) 400)
       (both (eqb (kind x) 1) (eqb (signer x) (leader s (round x))) (eq-eqb (kind x) 1 block-kind)
       (eq-eqb (signer x) (leader s (round x)) (block-signer ∙ led ∙ ap (leader s) (sym e))))
       (le-leb (entryLength x) 400 (omega arith)))
-      (within-of 1 (round x) (s .lastRound) (omega arith) (omega arith)))
+      (within-of 1 (round x) (s .«last_round» .0) (omega arith) (omega arith)))
       (within-of 1 (height x) (round x) (omega arith) (omega arith)))
       (same-of (block-split (entryLength x) n))))

@@ -6,8 +6,9 @@ use mathlib.Core.Bool.{Bool, _&&_, not, cond}
 use lib.ListN.{length, take}
 use lib.Dec.{eqb, ltb}
 use Rattle.apollo.specs.Bytes.{same, within}
-use Rattle.apollo.specs.Setup.{Setup, setupOf}
-use Rattle.apollo.specs.Frame.{round, height, frames, blockForm, linked, checked}
+use Rattle.apollo.specs.declared.Setup.{Setup}
+use Rattle.apollo.specs.Setup.{setupOf}
+use Rattle.apollo.specs.Frame.{round, height, framesOf, blockForm, linked, checked}
 use Rattle.apollo.specs.Log.{store, clearAbove, attach}
 use Rattle.apollo.specs.Masks.{gap}
 use Rattle.apollo.specs.Enter.{State, Effect, holding, enterRound}
@@ -90,4 +91,4 @@ module _ (hash : List ℕ → List ℕ) where
   branchWith s bytes entry out =
       guarded s entry out
       (cond (eqb (length bytes % 512) 0 && within 1 (length bytes / 512) (s .replica .«last_round» .0))
-      (branched entry out s (frames (length bytes / 512) bytes)) (refused s out badLength 0))
+      (branched entry out s (framesOf bytes)) (refused s out badLength 0))

@@ -8,8 +8,10 @@ use Rattle.apollo.specs.Open.{openWith}
 use Rattle.apollo.specs.Branch.{branchWith}
 use Rattle.apollo.specs.Blame.{blameWith}
 use Rattle.apollo.specs.Tick.{tickWith}
+pub use Rattle.apollo.specs.Enter.{state}
+pub use Rattle.apollo.specs.Outcome.{outcome}
 pub use Rattle.apollo.specs.Read.{readCall}
-pub use Rattle.apollo.specs.Fetch.{fetchCall, mayCopy}
+pub use Rattle.apollo.specs.Fetch.{fetchCall, mayCopy, fetched}
 
 abbrev pub openCall : (id f timeout lastRound : ℕ) (log masks entry out : List ℕ) → Outcome
 openCall = openWith sha256

@@ -16,6 +16,10 @@ pub record State : Type 0 where
   pub log : List ℕ
   pub masks : List ℕ
 
+-- the same from its parts
+abbrev pub state : Replica → (log masks : List ℕ) → State
+state r log masks = record { replica = r; log = log; masks = masks }
+
 -- what a call does: the state it leaves, and the frames emitted (put out), in order
 pub record Effect : Type 0 where
   pub state : State

@@ -17,6 +17,10 @@ pub record FetchOutcome : Type 0 where
   pub answer : Fetched
   pub out : List ℕ
 
+-- the same from its parts
+abbrev pub fetched : Fetched → (out : List ℕ) → FetchOutcome
+fetched a out = record { answer = a; out = out }
+
 -- a refusal
 abbrev pub notFetched : (out : List ℕ) (number : ℕ) → FetchOutcome
 notFetched out number = record { answer = record { number = number; count = 0 }; out = out }

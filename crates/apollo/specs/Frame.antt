@@ -1,11 +1,12 @@
 -- Document 01, "Names" and "Frames": the fields of a frame, the form of a block and of a blame, the check, and the frames made.
-use Prim.Native.Nat.{ℕ, zero, suc, _+_, _-_}
+use Prim.Native.Nat.{ℕ, zero, suc, _+_, _-_, _/_}
 use mathlib.Core.List.{List, [], _∷_, _++_}
 use mathlib.Core.Bool.{Bool, _&&_}
 use lib.ListN.{length, take, drop, getD}
 use lib.Dec.{eqb, leb, ltb}
 use Rattle.apollo.specs.Bytes.{part, number2, number4, bytes2, bytes4, zeros, same, within}
-use Rattle.apollo.specs.Setup.{Setup, replicas, leader}
+use Rattle.apollo.specs.declared.Setup.{Setup}
+use Rattle.apollo.specs.Setup.{replicas, leader}
 
 -- kind, signer, entry length, round, height
 abbrev pub kind : List ℕ → ℕ
@@ -36,6 +37,10 @@ unfoldable pub frames : ℕ → List ℕ → List (List ℕ)
 frames zero xs = []
 frames (suc n) xs = take 512 xs ∷ frames n (drop 512 xs)
 
+-- all whole frames of some bytes
+abbrev pub framesOf : (bytes : List ℕ) → List (List ℕ)
+framesOf bytes = frames (length bytes / 512) bytes
+
 -- the bytes from `start` up to, not including, `end` are zero
 abbrev pub blank : List ℕ → (start end : ℕ) → Bool
 blank x start end = same (part x start (end - start)) (zeros (end - start))
@@ -43,12 +48,12 @@ blank x start end = same (part x start (end - start)) (zeros (end - start))
 -- form of a block and of a blame
 unfoldable pub blockForm : Setup → List ℕ → Bool
 blockForm s x =
-    eqb (kind x) 1 && eqb (signer x) (leader s (round x)) && leb (entryLength x) 400 && within 1 (round x) (s .lastRound)
+    eqb (kind x) 1 && eqb (signer x) (leader s (round x)) && leb (entryLength x) 400 && within 1 (round x) (s .«last_round» .0)
     && within 1 (height x) (round x) && blank x (44 + entryLength x) 480
 
 unfoldable pub blameForm : Setup → List ℕ → Bool
 blameForm s x =
-    eqb (kind x) 2 && ltb (signer x) (replicas s) && blank x 2 4 && within 1 (round x) (s .lastRound) && blank x 8 480
+    eqb (kind x) 2 && ltb (signer x) (replicas s) && blank x 2 4 && within 1 (round x) (s .«last_round» .0) && blank x 8 480
 
 -- frame x names frame p as its parent, and its height is one more
 unfoldable pub linked : (p x : List ℕ) → Bool

@@ -4,7 +4,8 @@ use mathlib.Core.List.{List}
 use mathlib.Core.Bool.{Bool, cond}
 use lib.ListN.{getD, set}
 use lib.Dec.{eqb, leb}
-use Rattle.apollo.specs.Setup.{Setup, replicas}
+use Rattle.apollo.specs.declared.Setup.{Setup}
+use Rattle.apollo.specs.Setup.{replicas}
 
 -- bit i of a mask
 unfoldable pub bit : (i m : ℕ) → Bool

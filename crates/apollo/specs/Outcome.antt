@@ -18,6 +18,10 @@ pub record Outcome : Type 0 where
   pub masks : List ℕ
   pub out : List ℕ
 
+-- the same from its parts
+abbrev pub outcome : Answer → (log masks out : List ℕ) → Outcome
+outcome a log masks out = record { answer = a; log = log; masks = masks; out = out }
+
 -- a refusal, with its number and its place
 unfoldable pub refused : State → (out : List ℕ) (number place : ℕ) → Outcome
 refused s out number place =

@@ -8,69 +8,41 @@ use Rattle.apollo.specs.declared.Replica.{Replica}
 use Rattle.apollo.specs.Bytes.{within}
 use Rattle.apollo.specs.Setup.{setupOf, replicas, leader}
 
--- the record with another R
-abbrev pub withRound : Replica → (round : ℕ) → Replica
-withRound r round =
+-- the record with these in place of R, ticks left, tip and committed
+abbrev pub updated : Replica → (round timer tipRound tipHeight committedRound committedHeight : ℕ) → Replica
+updated r round timer tipRound tipHeight committedRound committedHeight =
     record {
       id = r .id;
       f = r .f;
       timeout = r .timeout;
       «last_round» = r .«last_round»;
       round = record { 0 = round };
-      timer = r .timer;
-      «tip_round» = r .«tip_round»;
-      «tip_height» = r .«tip_height»;
-      «committed_round» = r .«committed_round»;
-      «committed_height» = r .«committed_height»;
+      timer = record { 0 = timer };
+      «tip_round» = record { 0 = tipRound };
+      «tip_height» = record { 0 = tipHeight };
+      «committed_round» = record { 0 = committedRound };
+      «committed_height» = record { 0 = committedHeight };
     }
+
+-- with another R
+abbrev pub withRound : Replica → (round : ℕ) → Replica
+withRound r round =
+    updated r round (r .timer .0) (r .«tip_round» .0) (r .«tip_height» .0) (r .«committed_round» .0) (r .«committed_height» .0)
 
 -- with other ticks left
 abbrev pub withTimer : Replica → (timer : ℕ) → Replica
 withTimer r timer =
-    record {
-      id = r .id;
-      f = r .f;
-      timeout = r .timeout;
-      «last_round» = r .«last_round»;
-      round = r .round;
-      timer = record { 0 = timer };
-      «tip_round» = r .«tip_round»;
-      «tip_height» = r .«tip_height»;
-      «committed_round» = r .«committed_round»;
-      «committed_height» = r .«committed_height»;
-    }
+    updated r (r .round .0) timer (r .«tip_round» .0) (r .«tip_height» .0) (r .«committed_round» .0) (r .«committed_height» .0)
 
 -- with another tip
 abbrev pub withTip : Replica → (round height : ℕ) → Replica
 withTip r round height =
-    record {
-      id = r .id;
-      f = r .f;
-      timeout = r .timeout;
-      «last_round» = r .«last_round»;
-      round = r .round;
-      timer = r .timer;
-      «tip_round» = record { 0 = round };
-      «tip_height» = record { 0 = height };
-      «committed_round» = r .«committed_round»;
-      «committed_height» = r .«committed_height»;
-    }
+    updated r (r .round .0) (r .timer .0) round height (r .«committed_round» .0) (r .«committed_height» .0)
 
 -- with another committed round and height
 abbrev pub withCommitted : Replica → (round height : ℕ) → Replica
 withCommitted r round height =
-    record {
-      id = r .id;
-      f = r .f;
-      timeout = r .timeout;
-      «last_round» = r .«last_round»;
-      round = r .round;
-      timer = r .timer;
-      «tip_round» = r .«tip_round»;
-      «tip_height» = r .«tip_height»;
-      «committed_round» = record { 0 = round };
-      «committed_height» = record { 0 = height };
-    }
+    updated r (r .round .0) (r .timer .0) (r .«tip_round» .0) (r .«tip_height» .0) round height
 
 -- the record of an open, before entering
 unfoldable pub fresh : (id f timeout lastRound : ℕ) → Replica

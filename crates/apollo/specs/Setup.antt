@@ -1,19 +1,15 @@
--- Document 01, "Frames": the number of replicas (cards) and the leader of a round.
+-- Document 01, "Frames": what all replicas (cards) share, their number, and the leader of a round.
 use Prim.Native.Nat.{ℕ, _+_, _-_, _*_, _%_}
 use Rattle.apollo.specs.declared.Replica.{Replica}
+use Rattle.apollo.specs.declared.Setup.{Setup}
 
--- what all replicas share: f, and the last round (T)
-pub record Setup : Type 0 where
-  pub f : ℕ
-  pub lastRound : ℕ
-
--- the set-up from its numbers
+-- the set-up from its numbers: f, and the last round (T)
 abbrev pub setup : (f lastRound : ℕ) → Setup
-setup f lastRound = record { f = f; lastRound = lastRound }
+setup f lastRound = record { f = f; «last_round» = record { 0 = lastRound } }
 
 -- the set-up in a record
 abbrev pub setupOf : Replica → Setup
-setupOf r = record { f = r .f; lastRound = r .«last_round» .0 }
+setupOf r = record { f = r .f; «last_round» = r .«last_round» }
 
 -- n
 abbrev pub replicas : Setup → ℕ

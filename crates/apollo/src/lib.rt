@@ -1,5 +1,6 @@
 // The data of a replica (document 01: a card) and the answers of its calls, laid out as in C. A comment beside a field is
 // document 01's word for it, where that differs.
+pub mod refusal;
 
 // A round, 1 to T; the genesis has round 0.
 #[repr(C)]
@@ -12,6 +13,12 @@ pub struct Height(pub u32);
 // A number of ticks.
 #[repr(C)]
 pub struct Ticks(pub u32);
+
+// What all replicas share (part of the set-up).
+pub struct Setup {
+    pub f: u8,
+    pub last_round: Round, // T
+}
 
 // What a replica keeps between calls (record), beside the log (book) and the blame masks.
 #[repr(C)]

@@ -10,23 +10,23 @@ use lib.ListN.{length, take, drop}
 use borrow.Author.Tests.{eqb-true}
 use Rattle.sha256.specs.Fips.{sha256}
 use Rattle.apollo.specs.Setup.{setupOf}
-use Rattle.apollo.specs.Frame.{round, frames}
+use Rattle.apollo.specs.Frame.{round, frames, framesOf}
 use Rattle.apollo.specs.Log.{attach}
 use Rattle.apollo.specs.Replica.{validReplica, validMasks}
 use Rattle.apollo.specs.Enter.{State, Effect}
 use Rattle.apollo.specs.Outcome.{Outcome, refused, taken, guarded}
 use Rattle.apollo.specs.Branch.{lastOf, firstUncertified, judgedAll, adopting, placed, branched, branchWith}
-use Rattle.chain.specs.Judged.{judgedFrames}
-use Rattle.span.specs.Keeps.{keepsAll}
-use Rattle.chain.specs.Ordered.{Ordered}
-use Rattle.chain.proofs.Ordered.{ordered}
-use Rattle.span.proofs.Grown.{keeps-grown}
+use Rattle.branch_links.specs.Judged.{judgedFrames}
+use Rattle.branch_rounds.specs.Keeps.{keepsAll}
+use Rattle.branch_links.specs.Ordered.{Ordered}
+use Rattle.branch_links.proofs.Ordered.{ordered}
+use Rattle.branch_rounds.proofs.Grown.{keeps-grown}
 use Rattle.apollo.proofs.Validity.{Valid}
 use Rattle.apollo.proofs.Validity.{valid}
 use Rattle.branch.specs.declared.Judged.{Judged}
-use Rattle.branch.specs.Frames.{framesOf, firstFrame, lastFrame}
+use Rattle.frame.specs.Ends.{firstFrame, lastFrame}
 use Rattle.branch.specs.Judge.{refusal, accepted, judgedOn, judgedAt, judgedWhole, isWhole, judgedBranch, adopted, answered}
-use Rattle.branch.proofs.Frames.{Whole, whole-parts, frames-split, last-is}
+use Rattle.branch.proofs.Frames.{WholeBranch, whole-parts, frames-split, last-is}
 
 -- behind refusals 2 to 5 the record is in its ranges
 behind : (v m : Bool) (w : Outcome) (f : Outcome → Outcome) (o p : Outcome) → (v ≡ true → o ≡ p) → cond (not (v && m)) w (f o) ≡ cond (not (v && m)) w (f p)
@@ -95,7 +95,7 @@ module _ (s : State) (bytes entry out x : List ℕ) (xs : List (List ℕ)) (spli
         (λ z. at-answer (attach (s .log) x (round x - 1)) refl (eqb-true _ 0 z))
         (λ z. rw z))
 
-frames-answer : (s : State) (bytes entry out : List ℕ) → Valid (s .replica) (s .log) → Whole (s .replica .«last_round» .0) bytes
+frames-answer : (s : State) (bytes entry out : List ℕ) → Valid (s .replica) (s .log) → WholeBranch (s .replica .«last_round» .0) bytes
     → branched sha256 entry out s (framesOf bytes) ≡ answered entry out s bytes (judgedWhole (s .replica) (s .log) (s .masks) bytes)
 frames-answer s bytes entry out v w =
     let n : ℕ = length bytes / 512 in

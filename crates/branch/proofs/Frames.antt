@@ -12,7 +12,7 @@ use Rattle.apollo.specs.Bytes.{part, within}
 use Rattle.apollo.specs.Frame.{frames}
 use Rattle.apollo.specs.Branch.{lastOf}
 use Rattle.apollo.proofs.Tests.{and-first, and-second, within-true}
-use Rattle.branch.specs.Frames.{lastFrame}
+use Rattle.frame.specs.Ends.{lastFrame}
 use Rattle.branch.specs.Judge.{isWhole}
 
 pub frames-length : (n : ℕ) (b : List ℕ) → length (frames n b) ≡ n
@@ -34,12 +34,12 @@ last-of (suc n) b =
     last-of n (drop 512 b) ∙ ap (take 512) (drop-drop (512 * n) 512 b ∙ ap (λ (k : ℕ). drop k b) q)
 
 -- 1 to T whole frames
-pub record Whole (lastRound : ℕ) (bytes : List ℕ) : Type 0 where
+pub record WholeBranch (lastRound : ℕ) (bytes : List ℕ) : Type 0 where
   pub even : length bytes % 512 ≡ 0
   pub some-frame : 1 ≤ length bytes / 512
   pub bounded : length bytes / 512 ≤ lastRound
 
-pub whole-parts : (t : ℕ) (bytes : List ℕ) → isWhole t bytes ≡ true → Whole t bytes
+pub whole-parts : (t : ℕ) (bytes : List ℕ) → isWhole t bytes ≡ true → WholeBranch t bytes
 unfolding isWhole
 whole-parts t bytes w =
     let A : Bool = eqb (length bytes % 512) 0 in
@@ -47,7 +47,7 @@ whole-parts t bytes w =
     let q : (1 ≤ length bytes / 512) × (length bytes / 512 ≤ t) = within-true 1 (length bytes / 512) t (and-second A B w) in
     record { even = eqb-true (length bytes % 512) 0 (and-first A B w); some-frame = q .0; bounded = q .1 }
 
-pub last-is : (t : ℕ) (bytes : List ℕ) → Whole t bytes
+pub last-is : (t : ℕ) (bytes : List ℕ) → WholeBranch t bytes
     → lastFrame bytes ≡ lastOf (take 512 bytes) (frames (length bytes / 512 - 1) (drop 512 bytes))
 last-is t bytes w =
     let e : length bytes % 512 ≡ 0 = w .even in
@@ -57,5 +57,5 @@ last-is t bytes w =
 
 pub whole-fits : (t : ℕ) (bytes : List ℕ) → isWhole t bytes ≡ true → length bytes ≤ 512 * t
 whole-fits t bytes e =
-    let w : Whole t bytes = whole-parts t bytes e in
+    let w : WholeBranch t bytes = whole-parts t bytes e in
     omega (arith, w .even, w .bounded)

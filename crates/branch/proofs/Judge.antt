@@ -9,20 +9,15 @@ use lib.Dec.{leb, ltb}
 use lib.ListN.{length}
 use borrow.Author.Tests.{eq-eqb, ne-eqb, le-leb, lt-leb}
 use Rattle.apollo.specs.declared.Replica.{Replica}
-use Rattle.apollo.specs.Bytes.{part}
+use Rattle.apollo.specs.declared.Setup.{Setup}
 use Rattle.apollo.specs.Setup.{setupOf}
-use Rattle.apollo.specs.Frame.{round}
+use Rattle.apollo.specs.Frame.{round, framesOf}
 use Rattle.apollo.specs.Log.{attach}
 use Rattle.apollo.specs.Branch.{Verdict, firstUncertified}
-use Rattle.chain.specs.Judged.{judgedFrames}
-use Rattle.span.specs.Keeps.{keepsAll}
-use Rattle.branch.specs.Frames.{framesOf, firstFrame, lastFrame}
-use Rattle.branch.specs.Judge.{refusal, accepted, judgedOn, judgedAt, judgedWhole, isWhole, judgedBranch}
-
-pub short-last : (b : List ℕ) → length b < 512 → part b 0 512 ≡ lastFrame b
-short-last b h =
-    let z : length b - 512 ≡ 0 = omega arith in
-    rw z
+use Rattle.branch_links.specs.Judged.{judgedFrames}
+use Rattle.branch_rounds.specs.Keeps.{keepsAll}
+use Rattle.frame.specs.Ends.{firstFrame, lastFrame}
+use Rattle.branch.specs.Judge.{refusal, accepted, judgedOn, judgedAt, judgedFirst, judgedWhole, isWhole, judgedBranch}
 
 -- 6
 module _ (t : ℕ) (b : List ℕ) where
@@ -48,45 +43,52 @@ module _ (r : Replica) (log masks b : List ℕ) (w : Bool) (e : w ≡ isWhole (r
   branch-whole t = rw (← e, t)
 
 -- 7, 8, 9 and 10
-module _ (r : Replica) (log masks b : List ℕ) (v : Verdict) (e : v ≡ judgedFrames (setupOf r) (framesOf b)) where
+module _ (r : Replica) (log masks b : List ℕ) (s : Setup) (q : s ≡ setupOf r) (v : Verdict) (p : v ≡ judgedFrames s (framesOf b)) where
+  verdict : v ≡ judgedFrames (setupOf r) (framesOf b)
+  verdict = rw q at p
+
   pub whole-faulty : (v .number ≡ 0 → ⊥) → refusal (v .number) (v .place) ≡ judgedWhole r log masks b
   unfolding judgedWhole
-  whole-faulty n = rw (← e, ne-eqb (v .number) 0 n)
+  whole-faulty n = rw (← verdict, ne-eqb (v .number) 0 n)
 
-  module _ (z : v .number ≡ 0) (s : Bool) (d : s ≡ ltb (round (lastFrame b)) (r .round .0)) where
-    pub whole-stale : s ≡ true → refusal 10 0 ≡ judgedWhole r log masks b
+  module _ (z : v .number ≡ 0) (l : Bool) (d : l ≡ ltb (round (lastFrame b)) (r .round .0)) where
+    pub whole-stale : l ≡ true → refusal 10 0 ≡ judgedWhole r log masks b
     unfolding judgedWhole
-    whole-stale t = rw (← e, eq-eqb (v .number) 0 z, ← d, t)
+    whole-stale t = rw (← verdict, eq-eqb (v .number) 0 z, ← d, t)
 
-    pub whole-fresh : s ≡ false
-        → judgedAt r log masks b (attach log (firstFrame b) (round (firstFrame b) - 1)) ≡ judgedWhole r log masks b
+    pub whole-fresh : l ≡ false
+        → judgedFirst r log masks b ≡ judgedWhole r log masks b
     unfolding judgedWhole
-    whole-fresh f = rw (← e, eq-eqb (v .number) 0 z, ← d, f)
+    whole-fresh f = rw (← verdict, eq-eqb (v .number) 0 z, ← d, f)
 
 -- 11
 module _ (r : Replica) (log masks b x : List ℕ) (q : Option ℕ) (f : x ≡ firstFrame b) (e : q ≡ attach log x (round x - 1)) where
-  pub attached-is : judgedAt r log masks b q ≡ judgedAt r log masks b (attach log (firstFrame b) (round (firstFrame b) - 1))
+  pub attached-is : judgedAt r log masks b q ≡ judgedFirst r log masks b
   attached-is = rw (e, f)
 
-  pub attached-nowhere : q ≡ none → refusal 11 0 ≡ judgedAt r log masks b (attach log (firstFrame b) (round (firstFrame b) - 1))
+  pub attached-nowhere : q ≡ none → refusal 11 0 ≡ judgedFirst r log masks b
   unfolding judgedAt
   attached-nowhere n = rw n at attached-is
 
-  pub attached-at : (a : ℕ) → q ≡ some a → judgedOn r log masks b a ≡ judgedAt r log masks b (attach log (firstFrame b) (round (firstFrame b) - 1))
+  pub attached-at : (a : ℕ) → q ≡ some a → judgedOn r log masks b a ≡ judgedFirst r log masks b
   unfolding judgedAt
   attached-at a n = rw n at attached-is
 
 -- 13 and 12
-module _ (r : Replica) (log masks b : List ℕ) (a p : ℕ) (e : p ≡ firstUncertified (setupOf r) masks a (framesOf b)) where
+module _ (r : Replica) (log masks b : List ℕ) (s : Setup) (q : s ≡ setupOf r) (a p : ℕ)
+    (g : p ≡ firstUncertified s masks a (framesOf b)) where
+  gap : p ≡ firstUncertified (setupOf r) masks a (framesOf b)
+  gap = rw q at g
+
   pub on-gap : (p ≡ 0 → ⊥) → refusal 13 p ≡ judgedOn r log masks b a
   unfolding judgedOn
-  on-gap n = rw (← e, ne-eqb p 0 n)
+  on-gap n = rw (← gap, ne-eqb p 0 n)
 
   module _ (z : p ≡ 0) (k : Bool) (d : k ≡ keepsAll log a (framesOf b) (r .«committed_round» .0)) where
     pub on-reverted : k ≡ false → refusal 12 0 ≡ judgedOn r log masks b a
     unfolding judgedOn
-    on-reverted f = rw (← e, eq-eqb p 0 z, ← d, f)
+    on-reverted f = rw (← gap, eq-eqb p 0 z, ← d, f)
 
     pub on-kept : k ≡ true → accepted a ≡ judgedOn r log masks b a
     unfolding judgedOn
-    on-kept t = rw (← e, eq-eqb p 0 z, ← d, t)
+    on-kept t = rw (← gap, eq-eqb p 0 z, ← d, t)

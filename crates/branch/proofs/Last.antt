@@ -9,46 +9,30 @@ use lib.ListN.{length, take, drop}
 use borrow.Author.Tests.{eqb-true, eqb-false}
 use Rattle.sha256.specs.Fips.{sha256}
 use Rattle.apollo.specs.declared.Replica.{Replica}
-use Rattle.apollo.specs.Setup.{Setup, setupOf}
-use Rattle.apollo.specs.Frame.{round, frames, checked, blockForm}
+use Rattle.apollo.specs.declared.Setup.{Setup}
+use Rattle.apollo.specs.Setup.{setupOf}
+use Rattle.apollo.specs.Frame.{round, frames, checked, blockForm, framesOf}
 use Rattle.apollo.specs.Log.{attach}
 use Rattle.apollo.specs.Branch.{Verdict, lastOf, childOf, faulty, judged, judgedAll}
-use Rattle.forms.proofs.Facts.{BlockFields, block-fields}
+use Rattle.frame_forms.proofs.Facts.{BlockFields, block-fields}
 use Rattle.log.specs.Slots.{Slotted}
-use Rattle.chain.specs.Judged.{judgedFrames}
+use Rattle.branch_links.specs.Judged.{judgedFrames}
+use Rattle.branch_links.proofs.Ordered.{Step, sound-form, step}
 use Rattle.branch.specs.declared.Judged.{Judged}
-use Rattle.branch.specs.Frames.{framesOf, firstFrame, lastFrame}
+use Rattle.frame.specs.Ends.{firstFrame, lastFrame}
 use Rattle.branch.specs.Judge.{refusal, judgedAt, judgedWhole, isWhole, judgedBranch}
-use Rattle.branch.proofs.Frames.{Whole, whole-parts, frames-split, last-is}
-
--- a frame without fault has the form of a block
-second-failed : (a b : Bool) (n : ℕ) → n ≡ cond (not a) 7 (cond (not b) 8 0) → n ≡ 0 → b ≡ true
-second-failed true true n h e = refl
-second-failed true false n h e = absurd (omega arith)
-second-failed false b n h e = absurd (omega arith)
-
-block-formed : (s : Setup) (x : List ℕ) → faulty sha256 s x ≡ 0 → blockForm s x ≡ true
-unfolding faulty
-block-formed s x e = second-failed (checked sha256 x) (blockForm s x) _ refl e
-
--- a step of judging that refuses nothing
-step : (z c : Bool) (n i : ℕ) (v : Verdict) → eqb n 0 ≡ z
-    → cond z (cond c v (record { number = 9; place = i })) (record { number = n; place = i }) .number ≡ 0
-    → (n ≡ 0) × (v .number ≡ 0)
-step true true n i v e h = (eqb-true n 0 e, h)
-step true false n i v e h = absurd (omega arith)
-step false c n i v e h = absurd (eqb-false n 0 e h)
+use Rattle.branch.proofs.Frames.{WholeBranch, whole-parts, frames-split, last-is}
 
 -- each frame has the slot of its round, and the last has no fault
 record Sound (s : Setup) (x : List ℕ) (ys : List (List ℕ)) : Type 0 where
-  slots : Slotted (512 * s .lastRound) (x ∷ ys)
+  slots : Slotted (512 * s .«last_round» .0) (x ∷ ys)
   last : faulty sha256 s (lastOf x ys) ≡ 0
 
-slot-first : (s : Setup) (x : List ℕ) (ys : List (List ℕ)) → faulty sha256 s x ≡ 0 → Slotted (512 * s .lastRound) ys
-    → Slotted (512 * s .lastRound) (x ∷ ys)
+slot-first : (s : Setup) (x : List ℕ) (ys : List (List ℕ)) → faulty sha256 s x ≡ 0 → Slotted (512 * s .«last_round» .0) ys
+    → Slotted (512 * s .«last_round» .0) (x ∷ ys)
 unfolding Slotted
 slot-first s x ys f h =
-    let b : BlockFields s x = block-fields s x (block-formed s x f) in
+    let b : BlockFields s x = block-fields s x (sound-form s x f) in
     (b .round-low, omega (arith, b .round-high), h)
 
 sound : (s : Setup) (k : ℕ) (x : List ℕ) (ys : List (List ℕ)) → faulty sha256 s x ≡ 0 → judged sha256 s k x ys .number ≡ 0 → Sound s x ys
@@ -56,14 +40,14 @@ unfolding judged lastOf Slotted
 sound s k x [] f e = record { slots = slot-first s x [] f tt; last = f }
 sound s k x (y ∷ ys) f e =
     let p = step (eqb (faulty sha256 s y) 0) (childOf x y) (faulty sha256 s y) k (judged sha256 s (k + 1) y ys) refl e in
-    let q : Sound s y ys = sound s (k + 1) y ys (p .0) (p .1) in
+    let q : Sound s y ys = sound s (k + 1) y ys (p .sound) (p .onward) in
     record { slots = slot-first s x (y ∷ ys) f (q .slots); last = q .last }
 
 all-sound : (s : Setup) (x : List ℕ) (ys : List (List ℕ)) → judgedFrames s (x ∷ ys) .number ≡ 0 → Sound s x ys
 unfolding judgedFrames judgedAll
 all-sound s x ys e =
     let p = step (eqb (faulty sha256 s x) 0) true (faulty sha256 s x) 0 (judged sha256 s 1 x ys) refl e in
-    sound s 1 x ys (p .0) (p .1)
+    sound s 1 x ys (p .sound) (p .onward)
 
 -- a judgement that refuses nothing
 opens : (z y : Bool) (j : Judged) (n p : ℕ) → eqb n 0 ≡ y → cond z (cond y j (refusal n p)) (refusal 6 0) .number ≡ 0
@@ -83,7 +67,7 @@ branch-sound r log masks bytes e =
     (judgedAt r log masks bytes (attach log (firstFrame bytes) (round (firstFrame bytes) - 1))))
     (v .number) (v .place) refl e
     in
-    let w : Whole (r .«last_round» .0) bytes = whole-parts (r .«last_round» .0) bytes (p .0) in
+    let w : WholeBranch (r .«last_round» .0) bytes = whole-parts (r .«last_round» .0) bytes (p .0) in
     let f = frames-split (length bytes / 512) bytes (w .some-frame) in
     let g =
     all-sound (setupOf r) (take 512 bytes) (frames (length bytes / 512 - 1) (drop 512 bytes))
@@ -91,5 +75,5 @@ branch-sound r log masks bytes e =
     in (
       rw f (g .slots),
       block-fields (setupOf r) (lastFrame bytes)
-          (block-formed (setupOf r) (lastFrame bytes) (ap (faulty sha256 (setupOf r)) (last-is (r .«last_round» .0) bytes w) ∙ g .last)),
+          (sound-form (setupOf r) (lastFrame bytes) (ap (faulty sha256 (setupOf r)) (last-is (r .«last_round» .0) bytes w) ∙ g .last)),
     )

@@ -1,4 +1,5 @@
 -- The place of a refused frame is at most the number of frames. Assumes nothing.
+use mathlib.Core.Path.{_≡_}
 use mathlib.Core.Bool.{Bool, true, false, cond}
 use mathlib.Core.List.{List, [], _∷_}
 use Prim.Native.Nat.{ℕ, suc, _+_, _≤_}
@@ -6,10 +7,10 @@ use native.Mathlib.Omega.{arith}
 use lib.Dec.{eqb}
 use lib.ListN.{length}
 use Rattle.sha256.specs.Fips.{sha256}
-use Rattle.apollo.specs.Setup.{Setup}
+use Rattle.apollo.specs.declared.Setup.{Setup}
 use Rattle.apollo.specs.Frame.{frames}
 use Rattle.apollo.specs.Branch.{Verdict, childOf, faulty, judged, judgedAll}
-use Rattle.chain.specs.Judged.{judgedFrames}
+use Rattle.branch_links.specs.Judged.{judgedFrames}
 use Rattle.branch.proofs.Frames.{frames-length}
 
 place-step : (z c : Bool) (i m k : ℕ) (v : Verdict) → v .place ≤ i + 1 + m
@@ -35,5 +36,5 @@ frames-place s [] = omega arith
 frames-place s (x ∷ xs) =
     first-place (eqb (faulty sha256 s x) 0) (length xs) (faulty sha256 s x) (judged sha256 s 1 x xs) (judged-place s 1 x xs)
 
-pub place-bound : (s : Setup) (n : ℕ) (b : List ℕ) → judgedFrames s (frames n b) .place ≤ n
-place-bound s n b = omega (arith, frames-place s (frames n b), frames-length n b)
+pub place-bound : (s : Setup) (n : ℕ) (b : List ℕ) (v : Verdict) → v ≡ judgedFrames s (frames n b) → v .place ≤ n
+place-bound s n b v e = rw e (omega (arith, frames-place s (frames n b), frames-length n b))

@@ -9,16 +9,16 @@ use Rattle.sha256.specs.Fips.{sha256}
 use Rattle.apollo.specs.declared.Replica.{Replica}
 use Rattle.apollo.specs.Bytes.{within}
 use Rattle.apollo.specs.Setup.{setupOf}
-use Rattle.apollo.specs.Frame.{round, height}
+use Rattle.apollo.specs.Frame.{round, height, framesOf}
 use Rattle.apollo.specs.Log.{attach}
 use Rattle.apollo.specs.Enter.{State, Effect, holding, enterRound}
 use Rattle.apollo.specs.Outcome as Outcome
 use Rattle.apollo.specs.Branch.{Verdict, firstUncertified, grown}
 use Rattle.apollo.specs.Refusal.{badLength, stale, unattached, revertsCommitted, notCertified}
-use Rattle.chain.specs.Judged.{judgedFrames}
-use Rattle.span.specs.Keeps.{keepsAll}
+use Rattle.branch_links.specs.Judged.{judgedFrames}
+use Rattle.branch_rounds.specs.Keeps.{keepsAll}
 use Rattle.branch.specs.declared.Judged.{Judged}
-use Rattle.branch.specs.Frames.{framesOf, firstFrame, lastFrame}
+use Rattle.frame.specs.Ends.{firstFrame, lastFrame}
 
 -- refused with a number and a place; accepted on round a
 abbrev pub refusal : (number place : ℕ) → Judged
@@ -40,13 +40,18 @@ unfoldable pub judgedAt : Replica → (log masks bytes : List ℕ) → Option �
 judgedAt r log masks bytes none = refusal unattached 0
 judgedAt r log masks bytes (some a) = judgedOn r log masks bytes a
 
+-- the same where it does attach
+abbrev pub judgedFirst : Replica → (log masks bytes : List ℕ) → Judged
+judgedFirst r log masks bytes =
+    judgedAt r log masks bytes (attach log (firstFrame bytes) (round (firstFrame bytes) - 1))
+
 -- 7, 8, 9 and 10, and what follows them
 unfoldable pub judgedWhole : Replica → (log masks bytes : List ℕ) → Judged
 judgedWhole r log masks bytes =
     let verdict : Verdict = judgedFrames (setupOf r) (framesOf bytes) in
     cond (eqb (verdict .number) 0)
     (cond (ltb (round (lastFrame bytes)) (r .round .0)) (refusal stale 0)
-    (judgedAt r log masks bytes (attach log (firstFrame bytes) (round (firstFrame bytes) - 1))))
+    (judgedFirst r log masks bytes))
     (refusal (verdict .number) (verdict .place))
 
 -- 1 to T whole frames

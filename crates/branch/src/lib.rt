@@ -1,16 +1,15 @@
 // The judgement of a branch that is handed in: refusals 6 to 13, each with its place. Every public function takes any
 // record and slices of any length and content.
 use apollo::Replica;
-use chain::Attachment;
-use span::Gap;
+use branch_links::Attachment;
+use branch_rounds::Gap;
 ghost use mathlib.Core.Path.{_≡_};
-ghost use Prim.Native.Nat.{_-_, _*_, _≤_};
+ghost use Prim.Native.Nat.{_*_, _≤_};
 ghost use lib.ListN.{length};
 ghost use lib.Dec.{ltb};
 ghost use Rattle.apollo.specs.Frame as Frame;
-ghost use Rattle.apollo.specs.Log as Log;
-ghost use Rattle.span.specs.Answers.{gapOf};
-ghost use Rattle.branch.specs.Frames as Frames;
+ghost use Rattle.branch_rounds.specs.Answers.{gapOf};
+ghost use Rattle.frame.specs.Ends.{lastFrame};
 ghost use Rattle.branch.specs.Judge as Judge;
 
 // The refusal of a branch and its place, 0 and 0 if there is none, and then the round that it attaches to.
@@ -30,17 +29,6 @@ fn refusal(number: u8, place: u32) -> Judged
     }
 }
 
-// The last frame, fewer bytes where there is no whole one.
-pub fn last_frame<'a>(frames: &'a [u8]) -> &'a [u8]
-    ensures { λ x. ⌜ now x ≡ Frames.lastFrame (now (frames .entry)) ⌝ }
-{
-    let n = frames.len();
-    if n < 512 {
-        return slices::part(frames, 0, 512);
-    }
-    slices::part(frames, n - 512, 512)
-}
-
 // 1 to T whole frames.
 fn is_whole(last_round: u32, frames: &[u8]) -> bool
     ensures { λ b. ⌜ b ≡ Judge.isWhole «last_round» (now (frames .entry)) ⌝ }
@@ -57,9 +45,9 @@ fn is_whole(last_round: u32, frames: &[u8]) -> bool
 
 // The last round of the branch is below R.
 fn is_stale(round: u32, frames: &[u8]) -> bool
-    ensures { λ b. ⌜ b ≡ ltb (Frame.round (Frames.lastFrame (now (frames .entry)))) round ⌝ }
+    ensures { λ b. ⌜ b ≡ ltb (Frame.round (lastFrame (now (frames .entry)))) round ⌝ }
 {
-    frame::round(last_frame(frames)) < round
+    frame::round(frame::last_frame(frames)) < round
 }
 
 // The first skipped round that is not certified, 0 if there is none.
@@ -76,12 +64,12 @@ fn gap_place(gap: Gap) -> u32
 fn judge_on(r: Replica, log: &[u8], masks: &[u16], frames: &[u8], a: u32) -> Judged
     ensures { λ j. ⌜ j ≡ Judge.judgedOn r (now (log .entry)) (now (masks .entry)) (now (frames .entry)) a ⌝ }
 {
-    let place = gap_place(span::first_uncertified(r.f, masks, a, frames));
+    let place = gap_place(branch_rounds::first_uncertified(record::setup(r), masks, a, frames));
     if place != 0 {
-        return refusal(13, place);
+        return refusal(apollo::refusal::NOT_CERTIFIED, place);
     }
-    if !span::keeps(log, a, frames, r.committed_round.0) {
-        return refusal(12, 0);
+    if !branch_rounds::keeps(log, a, frames, r.committed_round.0) {
+        return refusal(apollo::refusal::REVERTS_COMMITTED, 0);
     }
     Judged {
         number: 0,
@@ -92,12 +80,12 @@ fn judge_on(r: Replica, log: &[u8], masks: &[u16], frames: &[u8], a: u32) -> Jud
 
 // 11, 13 and 12.
 fn judge_attached(r: Replica, log: &[u8], masks: &[u16], frames: &[u8]) -> Judged
-    ensures { λ j. ⌜ j ≡ Judge.judgedAt r (now (log .entry)) (now (masks .entry)) (now (frames .entry)) (Log.attach (now (log .entry)) (Frames.firstFrame (now (frames .entry))) (Frame.round (Frames.firstFrame (now (frames .entry))) - 1)) ⌝ }
+    ensures { λ j. ⌜ j ≡ Judge.judgedFirst r (now (log .entry)) (now (masks .entry)) (now (frames .entry)) ⌝ }
 {
-    let at = chain::attach(log, slices::part(frames, 0, 512));
+    let at = branch_links::attach(log, slices::part(frames, 0, 512));
     match at {
         Attachment::At(a) => judge_on(r, log, masks, frames, a),
-        Attachment::Nowhere => refusal(11, 0),
+        Attachment::Nowhere => refusal(apollo::refusal::UNATTACHED, 0),
     }
 }
 
@@ -106,12 +94,12 @@ fn judge_whole(r: Replica, log: &[u8], masks: &[u16], frames: &[u8]) -> Judged
     requires { ⌜ length (now frames) ≤ 512 * r .«last_round» .0 ⌝ }
     ensures { λ j. ⌜ j ≡ Judge.judgedWhole r (now (log .entry)) (now (masks .entry)) (now (frames .entry)) ⌝ }
 {
-    let verdict = chain::judge(r.f, r.last_round.0, frames);
+    let verdict = branch_links::judge_frames(record::setup(r), frames);
     if verdict.number != 0 {
         return refusal(verdict.number, verdict.place as u32);
     }
     if is_stale(r.round.0, frames) {
-        return refusal(10, 0);
+        return refusal(apollo::refusal::STALE, 0);
     }
     judge_attached(r, log, masks, frames)
 }
@@ -121,7 +109,7 @@ pub fn judge_branch(r: Replica, log: &[u8], masks: &[u16], frames: &[u8]) -> Jud
     ensures { λ j. ⌜ j ≡ Judge.judgedBranch r (now (log .entry)) (now (masks .entry)) (now (frames .entry)) ⌝ }
 {
     if !is_whole(r.last_round.0, frames) {
-        return refusal(6, 0);
+        return refusal(apollo::refusal::BAD_LENGTH, 0);
     }
     judge_whole(r, log, masks, frames)
 }

@@ -1,16 +1,19 @@
--- The leader of round 0, and the test for a parent. A variable beside x is what the code read there. Assumes nothing.
+-- The leader of round 0, the test for a parent, and the last frame. A variable beside x is what the code read there. Assumes nothing.
 use mathlib.Core.Path.{_≡_, refl, sym, ap, _∙_}
 use mathlib.Core.Bool.{Bool, true, false, _&&_, not}
 use mathlib.Core.List.{List}
-use Prim.Native.Nat.{ℕ, zero, suc, _+_, _-_, _%_}
+use Prim.Native.Nat.{ℕ, zero, suc, _+_, _-_, _%_, _<_}
 use native.Mathlib.Nat.{zero-mod}
 use native.Mathlib.Numerals.{add-one}
 use native.Mathlib.Omega.{arith}
 use lib.Dec.{eqb, eqb·suc-suc}
+use lib.ListN.{length}
 use borrow.Author.Tests.{ne-eqb, not-true, not-false}
-use Rattle.apollo.specs.Bytes.{same}
-use Rattle.apollo.specs.Setup.{Setup, replicas, leader}
+use Rattle.apollo.specs.Bytes.{part, same}
+use Rattle.apollo.specs.declared.Setup.{Setup}
+use Rattle.apollo.specs.Setup.{replicas, leader}
 use Rattle.apollo.specs.Frame.{height, parent, digest, linked}
+use Rattle.frame.specs.Ends.{lastFrame}
 
 pub leader-first : (s : Setup) (r : ℕ) → r ≡ 0 → 0 ≡ leader s r
 unfolding leader
@@ -41,3 +44,9 @@ module _ (p x d y : List ℕ) (b : Bool) (ed : d ≡ digest p) (ey : y ≡ paren
   link-height g h eg eh t n =
       let f : same (digest p) (parent x) ≡ true = sym (rw (ed, ey) at eb) ∙ not-false b t in
       rw (f, eg, eh) (height-next (height p) (height x) (rw eh at n))
+
+-- the last frame of fewer bytes than one
+pub short-last : (b : List ℕ) → length b < 512 → part b 0 512 ≡ lastFrame b
+short-last b h =
+    let z : length b - 512 ≡ 0 = omega arith in
+    rw z

@@ -1,11 +1,12 @@
-// One frame: its fields read in place, its round's leader, and its parent. Every function takes slices of any length, as the
-// definitions do.
+// One frame: its fields read in place, its round's leader, and its parent; the last frame of a branch. Every function takes
+// slices of any length, as the definitions do.
+use apollo::Setup;
 ghost use mathlib.Core.Path.{_≡_};
-ghost use Prim.Native.Nat.{ℕ, _+_, _-_, _*_, _≤_, _<_};
+ghost use Prim.Native.Nat.{_-_, _≤_, _<_};
 ghost use Rattle.apollo.specs.Bytes as Bytes;
-ghost use Rattle.apollo.specs.Setup as Setup;
+ghost use Rattle.apollo.specs.Setup.{replicas, leader};
 ghost use Rattle.apollo.specs.Frame as Frame;
-ghost use Rattle.apollo.specs.Setup.{setup};
+ghost use Rattle.frame.specs.Ends.{lastFrame};
 
 fn wide(b: u8) -> u32
     ensures { λ r. ⌜ (r ≡ b) × (r < 256) ⌝ }
@@ -56,11 +57,11 @@ pub fn height(x: &[u8]) -> u32
     number4(x, 8)
 }
 
-// The leader of a round. It does not depend on the last round.
-pub fn leader(f: u8, round: u32) -> u32
-    ensures { λ r. ⌜ ((t : ℕ) → r ≡ Setup.leader (setup f t) round) × (r < 2 * f + 1) ⌝ }
+// The leader of a round.
+pub fn leader(s: Setup, round: u32) -> u32
+    ensures { λ r. ⌜ (r ≡ leader s round) × (r < replicas s) ⌝ }
 {
-    let n = 2 * wide(f) + 1;
+    let n = 2 * wide(s.f) + 1;
     if round == 0 {
         return 0;
     }
@@ -86,4 +87,15 @@ pub fn previous(r: u32) -> u32
     ensures { λ q. ⌜ q ≡ r - 1 ⌝ }
 {
     if r == 0 { 0 } else { r - 1 }
+}
+
+// The last frame of a branch, fewer bytes where there is no whole one.
+pub fn last_frame<'a>(frames: &'a [u8]) -> &'a [u8]
+    ensures { λ x. ⌜ now x ≡ lastFrame (now (frames .entry)) ⌝ }
+{
+    let n = frames.len();
+    if n < 512 {
+        return slices::part(frames, 0, 512);
+    }
+    slices::part(frames, n - 512, 512)
 }

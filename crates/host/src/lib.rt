@@ -10,9 +10,8 @@ use apollo::Ticks;
 ghost use mathlib.Core.Path.{_≡_};
 ghost use mathlib.Core.Bool.{true};
 ghost use Rattle.sha256.specs.Fips as Fips;
+ghost use Rattle.apollo.specs.Calls.{state, outcome, fetched};
 ghost use Rattle.apollo.specs.Calls.{openCall, branchCall, blameCall, tickCall, readCall, fetchCall, mayCopy};
-ghost use Rattle.replica.specs.Call.{state, outcome};
-ghost use Rattle.reads.specs.Answers.{fetched};
 
 #[no_mangle]
 pub extern "C" fn apollo_open(
@@ -25,7 +24,9 @@ pub extern "C" fn apollo_open(
     entry: &[u8],
     out: &mut [u8],
 ) -> Answer
-    ensures { λ a. ⌜ outcome a (now (log .exit)) (now (masks .exit)) (now (out .exit)) ≡ openCall id f (timeout .0) («last_round» .0) (now (log .entry)) (now (masks .entry)) (now (entry .entry)) (now (out .entry)) ⌝ }
+    ensures { λ a. ⌜ outcome a (now (log .exit)) (now (masks .exit)) (now (out .exit))
+        ≡ openCall id f (timeout .0) («last_round» .0) (now (log .entry)) (now (masks .entry)) (now (entry .entry))
+        (now (out .entry)) ⌝ }
 {
     replica::open(id, f, timeout, last_round, log, masks, entry, out)
 }
@@ -39,7 +40,9 @@ pub extern "C" fn apollo_branch(
     entry: &[u8],
     out: &mut [u8],
 ) -> Answer
-    ensures { λ a. ⌜ outcome a (now (log .exit)) (now (masks .entry)) (now (out .exit)) ≡ branchCall (state replica (now (log .entry)) (now (masks .entry))) (now (frames .entry)) (now (entry .entry)) (now (out .entry)) ⌝ }
+    ensures { λ a. ⌜ outcome a (now (log .exit)) (now (masks .entry)) (now (out .exit))
+        ≡ branchCall (state replica (now (log .entry)) (now (masks .entry))) (now (frames .entry)) (now (entry .entry))
+        (now (out .entry)) ⌝ }
 {
     replica::branch(replica, log, masks, frames, entry, out)
 }
@@ -53,7 +56,9 @@ pub extern "C" fn apollo_blame(
     entry: &[u8],
     out: &mut [u8],
 ) -> Answer
-    ensures { λ a. ⌜ outcome a (now (log .exit)) (now (masks .exit)) (now (out .exit)) ≡ blameCall (state replica (now (log .entry)) (now (masks .entry))) (now (frame .entry)) (now (entry .entry)) (now (out .entry)) ⌝ }
+    ensures { λ a. ⌜ outcome a (now (log .exit)) (now (masks .exit)) (now (out .exit))
+        ≡ blameCall (state replica (now (log .entry)) (now (masks .entry))) (now (frame .entry)) (now (entry .entry))
+        (now (out .entry)) ⌝ }
 {
     replica::blame(replica, log, masks, frame, entry, out)
 }
@@ -66,7 +71,8 @@ pub extern "C" fn apollo_tick(
     entry: &[u8],
     out: &mut [u8],
 ) -> Answer
-    ensures { λ a. ⌜ outcome a (now (log .exit)) (now (masks .exit)) (now (out .exit)) ≡ tickCall (state replica (now (log .entry)) (now (masks .entry))) (now (entry .entry)) (now (out .entry)) ⌝ }
+    ensures { λ a. ⌜ outcome a (now (log .exit)) (now (masks .exit)) (now (out .exit))
+        ≡ tickCall (state replica (now (log .entry)) (now (masks .entry))) (now (entry .entry)) (now (out .entry)) ⌝ }
 {
     replica::tick(replica, log, masks, entry, out)
 }

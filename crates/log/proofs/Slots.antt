@@ -2,16 +2,14 @@
 use mathlib.Core.Path.{_≡_, sym, _∙_}
 use mathlib.Core.List.{List, [], append-nil}
 use Prim.Native.Nat.{ℕ, _+_, _-_, _*_, _≤_, _<_}
-use native.Mathlib.Nat.{le-of-eq}
 use native.Mathlib.Omega.{arith}
 use lib.ListN.{length, take, drop, length-take, length-drop, drop-of-length-le}
-use lib.Seq.{take-all, take-length, drop-drop}
+use lib.Seq.{take-all, drop-drop}
 use borrow.Rule.Slice.PartMut.{putMid}
 use Rattle.apollo.specs.Bytes.{part, zeros}
 use Rattle.apollo.specs.Log.{store, clearAbove}
 use Rattle.apollo.specs.Frame.{round}
 use Rattle.apollo.specs.Branch.{storeAll}
-use Rattle.slices.specs.Copy.{copied}
 use Rattle.log.specs.Slots.{Slotted}
 use Rattle.log.proofs.Frames.{rest, rest-next, rest-end, frame-part}
 
@@ -32,18 +30,14 @@ nothing-above log r h =
     let z : length log - 512 * r ≡ 0 = omega arith in
     rw (z, take-all (512 * r) log h) (sym (append-nil log))
 
-copied-whole : (out x : List ℕ) → length out ≡ length x → copied out x ≡ x
-unfolding copied
-copied-whole out x e = rw (e, take-length x, drop-of-length-le out (le-of-eq e), append-nil)
-
 module _ (log x : List ℕ) (r : ℕ) where
-  pub stored : (y : List ℕ) → 1 ≤ r → 512 * r ≤ length log → length x ≡ 512
-      → y ≡ copied (take (512 * r - (512 * r - 512)) (drop (512 * r - 512) log)) x → putMid (512 * r - 512) (512 * r - (512 * r - 512)) log y ≡ store log r x
+  pub slot-size : 1 ≤ r → 512 * r ≤ length log → length x ≡ 512
+      → length x ≡ length (take (512 * r - (512 * r - 512)) (drop (512 * r - 512) log))
+  slot-size g h l = simp (length-take, length-drop) (omega arith)
+
+  pub stored : (y : List ℕ) → 1 ≤ r → y ≡ x → putMid (512 * r - 512) (512 * r - (512 * r - 512)) log y ≡ store log r x
   unfolding store
-  stored y g h l e =
-      let q : length (take (512 * r - (512 * r - 512)) (drop (512 * r - 512) log)) ≡ length x =
-      simp (length-take, length-drop) (omega arith) in
-      let f : y ≡ x = e ∙ copied-whole (take (512 * r - (512 * r - 512)) (drop (512 * r - 512) log)) x q in
+  stored y g f =
       let a : 512 * r - (512 * r - 512) ≡ 512 = omega arith in
       let b : 512 * (r - 1) ≡ 512 * r - 512 = omega arith in
       let d : 512 * r - 512 + 512 ≡ 512 * r = omega arith in

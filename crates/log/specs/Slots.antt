@@ -1,17 +1,12 @@
 -- Slots in a log, and the frames that have one.
 use mathlib.Core.List.{List, [], _∷_}
-use Prim.Native.Nat.{ℕ, _-_, _*_, _/_, _≤_}
-use lib.ListN.{length}
+use Prim.Native.Nat.{ℕ, _-_, _*_, _≤_}
 use Rattle.apollo.specs.Bytes.{part}
-use Rattle.apollo.specs.Frame.{round, frames}
+use Rattle.apollo.specs.Frame.{round}
 
 -- the bytes of slot r, of slot 1 for round 0
 abbrev pub slotPart : (log : List ℕ) (r : ℕ) → List ℕ
 slotPart log r = part log (512 * (r - 1)) 512
-
--- the whole frames of some bytes
-abbrev pub framesOf : (bytes : List ℕ) → List (List ℕ)
-framesOf bytes = frames (length bytes / 512) bytes
 
 -- each frame has the slot of its round in a log of `size` bytes
 unfoldable pub Slotted : (size : ℕ) → List (List ℕ) → Type 0

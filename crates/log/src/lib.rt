@@ -3,9 +3,10 @@ ghost use mathlib.Core.Path.{_≡_};
 ghost use Prim.Native.Nat.{_*_, _≤_};
 ghost use lib.ListN.{length};
 ghost use Rattle.apollo.specs.Frame as Frame;
+ghost use Rattle.apollo.specs.Frame.{framesOf};
 ghost use Rattle.apollo.specs.Log as Log;
 ghost use Rattle.apollo.specs.Branch as Branch;
-ghost use Rattle.log.specs.Slots.{slotPart, framesOf, Slotted};
+ghost use Rattle.log.specs.Slots.{slotPart, Slotted};
 
 // The slots above round r are zeroed.
 fn clear_above(log: &mut [u8], r: u32)

@@ -12,7 +12,7 @@ use lib.ListN.{length, getD, set}
 use lib.Seq.{set-out}
 use Rattle.apollo.specs.Masks.{bit, setBit, mask, addBlame, certified}
 use Rattle.apollo.proofs.Masks.{ones-count, or-set, bit-shift}
-use Rattle.apollo.specs.Setup.{setup}
+use Rattle.apollo.specs.declared.Setup.{Setup}
 
 -- 2 ^ n in a word of 2 ^ w
 pub one-bit : (w n : ℕ) → n < w → 1 * 2 ^ n % 2 ^ w ≡ 2 ^ n
@@ -29,10 +29,10 @@ pub reduced-whole : (m n : ℕ) → m < 2 ^ 16 → 16 ≤ n → m ≡ m % 2 ^ n
 reduced-whole m n h g = sym (mod-eq-of-lt (below-pow m n h g))
 
 -- the ones of the reduced mask, compared with f + 1
-pub enough : (f t : ℕ) (masks : List ℕ) (r m x : ℕ) → m ≡ mask masks r → x ≡ m % 2 ^ (2 * f + 1)
-    → leb (f + 1) (ones x) ≡ certified (setup f t) masks r
+pub enough : (s : Setup) (masks : List ℕ) (r m x : ℕ) → m ≡ mask masks r → x ≡ m % 2 ^ (2 * s .f + 1)
+    → leb (s .f + 1) (ones x) ≡ certified s masks r
 unfolding certified
-enough f t masks r m x e d = rw (d, e) (ap (leb (f + 1)) (ones-count (2 * f + 1) (mask masks r)))
+enough s masks r m x e d = rw (d, e) (ap (leb (s .f + 1)) (ones-count (2 * s .f + 1) (mask masks r)))
 
 -- a bit of a mask, read by a shift
 pub bit-read : (masks : List ℕ) (r i m : ℕ) → m ≡ mask masks r → eqb (m / 2 ^ i % 2) 1 ≡ bit i (mask masks r)

@@ -1,8 +1,8 @@
 // The blame masks of a replica: certified (shown) rounds, and blames added. A blame is added for a replica that has a bit.
+use apollo::Setup;
 ghost use mathlib.Core.Path.{_≡_};
-ghost use Prim.Native.Nat.{ℕ, _%_, _^_, _<_};
+ghost use Prim.Native.Nat.{_%_, _^_, _<_};
 ghost use Rattle.apollo.specs.Masks as Masks;
-ghost use Rattle.apollo.specs.Setup.{setup};
 
 // The mask of round r, 0 past the end.
 fn mask(masks: &[u16], r: u32) -> u16
@@ -20,11 +20,11 @@ fn reduced(m: u16, n: u32) -> u32
     if n < 16 { w % (1u32 << n) } else { w }
 }
 
-// Round r is certified (shown), whatever the last round is.
-pub fn certified(f: u8, masks: &[u16], r: u32) -> bool
-    ensures { λ x. ⌜ ((t : ℕ) → x ≡ Masks.certified (setup f t) (now (masks .entry)) r) ⌝ }
+// Round r is certified (shown).
+pub fn certified(s: Setup, masks: &[u16], r: u32) -> bool
+    ensures { λ x. ⌜ x ≡ Masks.certified s (now (masks .entry)) r ⌝ }
 {
-    let g = f as u32;
+    let g = s.f as u32;
     let m = mask(masks, r);
     g + 1 <= u32::count_ones(reduced(m, 2 * g + 1))
 }

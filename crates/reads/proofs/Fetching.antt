@@ -9,9 +9,9 @@ use borrow.Author.Tests.{eq-eqb, ne-eqb, lt-ltb, le-ltb, le-leb}
 use Rattle.apollo.specs.declared.Replica.{Replica}
 use Rattle.apollo.specs.declared.Fetched.{Fetched}
 use Rattle.apollo.specs.Replica.{validReplica}
-use Rattle.apollo.specs.Fetch.{fetchable, mayCopy, fetchCall}
+use Rattle.apollo.specs.Fetch.{fetchable, mayCopy, fetchCall, fetched}
 use Rattle.apollo.proofs.Validity.{valid}
-use Rattle.reads.specs.Answers.{noFrames, fetched}
+use Rattle.reads.specs.Answers.{noFrames}
 
 module _ (r : Replica) (log : List ℕ) (h : ℕ) (out : List ℕ) where
   -- what the call must answer

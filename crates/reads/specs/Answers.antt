@@ -5,7 +5,6 @@ use Rattle.apollo.specs.declared.Part.{Part}
 use Rattle.apollo.specs.declared.Fetched.{Fetched}
 use Rattle.apollo.specs.Frame.{entryLength}
 use Rattle.apollo.specs.Log.{slot}
-use Rattle.apollo.specs.Fetch.{FetchOutcome}
 
 -- an empty part with the number of a refusal
 abbrev pub noPart : (number : ℕ) → Part
@@ -18,7 +17,3 @@ entryPart log r = record { number = 0; start = 512 * (r - 1) + 44; length = entr
 -- no frames with the number of a refusal
 abbrev pub noFrames : (number : ℕ) → Fetched
 noFrames number = record { number = number; count = 0 }
-
--- the answer of a fetch, with the out buffer after it
-abbrev pub fetched : (answer : Fetched) (out : List ℕ) → FetchOutcome
-fetched answer out = record { answer = answer; out = out }

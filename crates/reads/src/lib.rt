@@ -7,8 +7,8 @@ use apollo::Replica;
 ghost use mathlib.Core.Path.{_≡_};
 ghost use mathlib.Core.Bool.{true};
 ghost use Prim.Native.Nat.{_<_};
-ghost use Rattle.apollo.specs.Calls.{readCall, fetchCall, mayCopy};
-ghost use Rattle.reads.specs.Answers.{noPart, entryPart, noFrames, fetched};
+ghost use Rattle.apollo.specs.Calls.{readCall, fetchCall, mayCopy, fetched};
+ghost use Rattle.reads.specs.Answers.{noPart, entryPart, noFrames};
 
 fn no_part(number: u8) -> Part
     ensures { λ p. ⌜ p ≡ noPart number ⌝ }
@@ -37,12 +37,12 @@ fn entry_part(log: &[u8], r: u32) -> Part
 pub fn read_part(replica: Replica, log: &[u8], height: Height) -> Part
     ensures { λ p. ⌜ p ≡ readCall replica (now (log .entry)) (height .0) .answer ⌝ }
 {
-    if !ranges::valid_replica(replica, log) {
-        return no_part(2);
+    if !record_ranges::valid_replica(replica, log) {
+        return no_part(apollo::refusal::BAD_REPLICA);
     }
-    let r = heights::lowest(log, height.0, replica.committed_round.0);
+    let r = log_heights::lowest(log, height.0, replica.committed_round.0);
     if r == 0 {
-        return no_part(15);
+        return no_part(apollo::refusal::ABSENT);
     }
     entry_part(log, r)
 }
@@ -68,15 +68,15 @@ pub fn fetch(replica: Replica, log: &[u8], height: Height, out: &mut [u8]) -> Fe
     ensures { λ a. ⌜ fetched a (now (out .exit)) ≡ fetchCall replica (now (log .entry)) (height .0) (now (out .entry)) (a .count) ⌝ }
     ensures { λ a. ⌜ (a .number ≡ 0 → mayCopy replica (now (log .entry)) (height .0) (now (out .entry)) (a .count) ≡ true) ⌝ }
 {
-    if !ranges::valid_replica(replica, log) {
-        return no_frames(2);
+    if !record_ranges::valid_replica(replica, log) {
+        return no_frames(apollo::refusal::BAD_REPLICA);
     }
     if out.len() < 1024 {
-        return no_frames(4);
+        return no_frames(apollo::refusal::OUT_TOO_SHORT);
     }
-    let count = heights::fetch_frames(log, height.0, replica.last_round.0, out);
+    let count = log_heights::fetch_frames(log, height.0, replica.last_round.0, out);
     if count == 0 {
-        return no_frames(15);
+        return no_frames(apollo::refusal::ABSENT);
     }
     Fetched { number: 0, count }
 }

@@ -1,10 +1,20 @@
-// The record of a replica: made, and with other fields.
+// The record of a replica: made, with other fields, and the set-up in it.
 use apollo::Height;
 use apollo::Replica;
 use apollo::Round;
+use apollo::Setup;
 use apollo::Ticks;
 ghost use mathlib.Core.Path.{_≡_};
-ghost use Rattle.apollo.specs.Replica.{withRound, withTimer, withTip, fresh, zeroReplica};
+ghost use Rattle.apollo.specs.Setup.{setupOf};
+ghost use Rattle.apollo.specs.Replica.{withRound, withTimer, withTip, withCommitted, fresh, zeroReplica};
+
+// The set-up in a record.
+pub fn setup(r: Replica) -> Setup
+    ensures { λ s. ⌜ s ≡ setupOf r ⌝ }
+{
+    let last_round = r.last_round;
+    Setup { f: r.f, last_round }
+}
 
 // The record of an open, before entering.
 pub fn fresh(id: u8, f: u8, timeout: Ticks, last_round: Round) -> Replica
@@ -71,5 +81,17 @@ pub fn with_tip(r: Replica, round: u32, height: u32) -> Replica
     let h = Height(height);
     q.tip_round = tip;
     q.tip_height = h;
+    q
+}
+
+// The record with another committed round and height.
+pub fn with_committed(r: Replica, round: u32, height: u32) -> Replica
+    ensures { λ q. ⌜ q ≡ withCommitted r round height ⌝ }
+{
+    let mut q = r;
+    let committed = Round(round);
+    let h = Height(height);
+    q.committed_round = committed;
+    q.committed_height = h;
     q
 }

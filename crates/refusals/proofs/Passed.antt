@@ -13,7 +13,7 @@ use Rattle.apollo.specs.Setup.{setupOf}
 use Rattle.apollo.specs.Frame.{signer, round, blameForm, checked}
 use Rattle.apollo.specs.Masks.{bit, mask}
 use Rattle.apollo.specs.Replica.{validSetup, validReplica, validMasks}
-use Rattle.forms.proofs.Facts.{blame-fields}
+use Rattle.frame_forms.proofs.Facts.{blame-fields}
 use Rattle.apollo.proofs.Validity.{ValidSetup, Valid}
 use Rattle.apollo.proofs.Tests.{and-first, and-second}
 use Rattle.apollo.proofs.Validity.{valid-setup, valid}

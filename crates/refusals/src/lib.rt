@@ -11,35 +11,35 @@ fn judge_room(entry: usize, out: usize) -> u8
     ensures { λ n. ⌜ n ≡ roomNumber entry out ⌝ }
 {
     if out < 1024 {
-        return 4;
+        return apollo::refusal::OUT_TOO_SHORT;
     }
     if 400 < entry {
-        return 5;
+        return apollo::refusal::ENTRY_TOO_LONG;
     }
     0
 }
 
 // Open: 1, 4 and 5.
-pub fn judge_open(r: Replica, log: &[u8], masks: &[u16], entry: usize, out: usize) -> u8
+pub fn of_open(r: Replica, log: &[u8], masks: &[u16], entry: usize, out: usize) -> u8
     ensures { λ n. ⌜ n ≡ openNumber r (now (log .entry)) (now (masks .entry)) entry out ⌝ }
 {
-    if !(ranges::valid_setup(r, log) & ranges::valid_masks(r, masks)) {
-        return 1;
+    if !(record_ranges::valid_setup(r, log) & record_ranges::valid_masks(r, masks)) {
+        return apollo::refusal::BAD_SETUP;
     }
     judge_room(entry, out)
 }
 
 // Tick, and first in branch and blame: 2 to 5.
-pub fn guard(r: Replica, log: &[u8], masks: &[u16], entry: usize, out: usize) -> u8
+pub fn of_tick(r: Replica, log: &[u8], masks: &[u16], entry: usize, out: usize) -> u8
     ensures { λ n. ⌜ n ≡ guardNumber r (now (log .entry)) (now (masks .entry)) entry out ⌝ }
 {
-    if !(ranges::valid_replica(r, log) & ranges::valid_masks(r, masks)) {
-        return 2;
+    if !(record_ranges::valid_replica(r, log) & record_ranges::valid_masks(r, masks)) {
+        return apollo::refusal::BAD_REPLICA;
     }
     let round = r.round.0 as u64;
     let end = r.last_round.0 as u64 + 1;
     if round == end {
-        return 3;
+        return apollo::refusal::ROUNDS_OVER;
     }
     judge_room(entry, out)
 }
@@ -49,29 +49,29 @@ fn judge_frame(r: Replica, masks: &[u16], x: &[u8]) -> u8
     ensures { λ n. ⌜ n ≡ frameNumber r (now (masks .entry)) (now (x .entry)) ⌝ }
 {
     if x.len() != 512 {
-        return 6;
+        return apollo::refusal::BAD_LENGTH;
     }
-    if !forms::checked(x) {
-        return 7;
+    if !frame_forms::checked(x) {
+        return apollo::refusal::BAD_DIGEST;
     }
-    if !forms::blame_form(r.f, r.last_round.0, x) {
-        return 8;
+    if !frame_forms::blame_form(record::setup(r), x) {
+        return apollo::refusal::BAD_FORM;
     }
     let round = frame::round(x);
     if r.round.0 < round {
-        return 14;
+        return apollo::refusal::EARLY;
     }
     if masks::has_blame(masks, round, frame::signer(x)) {
-        return 10;
+        return apollo::refusal::STALE;
     }
     0
 }
 
 // Blame: 2 to 5, then those of the frame.
-pub fn judge_blame(r: Replica, log: &[u8], masks: &[u16], x: &[u8], entry: usize, out: usize) -> u8
+pub fn of_blame(r: Replica, log: &[u8], masks: &[u16], x: &[u8], entry: usize, out: usize) -> u8
     ensures { λ n. ⌜ n ≡ blameNumber r (now (log .entry)) (now (masks .entry)) (now (x .entry)) entry out ⌝ }
 {
-    let number = guard(r, log, masks, entry, out);
+    let number = of_tick(r, log, masks, entry, out);
     if number != 0 {
         return number;
     }
@@ -79,7 +79,7 @@ pub fn judge_blame(r: Replica, log: &[u8], masks: &[u16], x: &[u8], entry: usize
 }
 
 // Branch: 2 to 5, then 6 to 13.
-pub fn judge_branch(
+pub fn of_branch(
     r: Replica,
     log: &[u8],
     masks: &[u16],
@@ -89,7 +89,7 @@ pub fn judge_branch(
 ) -> Judged
     ensures { λ j. ⌜ j ≡ guardedBranch r (now (log .entry)) (now (masks .entry)) (now (frames .entry)) entry out ⌝ }
 {
-    let number = guard(r, log, masks, entry, out);
+    let number = of_tick(r, log, masks, entry, out);
     if number != 0 {
         return Judged {
             number,

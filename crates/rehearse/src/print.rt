@@ -24,7 +24,7 @@ pub fn state(i: usize, number: u8, r: Replica) -> bool {
 // Tells that a line of the input is no command.
 pub fn no_command(number: u64) {
     let mut line = [0u8; 64];
-    slices::copy(&mut line, b"line ");
+    slices::copy(&mut line[..5], b"line ");
     let ns = [number];
     let n = text::put_row(&mut line, 5, &ns, b": no command\n");
     io::write_all(STDERR_FILENO, &line[0..n]);

@@ -15,20 +15,20 @@ use Rattle.apollo.specs.declared.Replica.{Replica}
 use Rattle.apollo.specs.declared.Answer.{Answer}
 use Rattle.apollo.specs.Bytes.{zeros}
 use Rattle.apollo.specs.Setup.{setupOf}
-use Rattle.apollo.specs.Frame.{round, signer, height, makeBlame}
+use Rattle.apollo.specs.Frame.{round, signer, height, makeBlame, framesOf}
 use Rattle.apollo.specs.Replica.{withTimer, fresh, zeroReplica}
-use Rattle.apollo.specs.Enter.{State, Effect, commit, tipped, waiting, hearing, holding, enterRound, settle}
-use Rattle.apollo.specs.Outcome.{Outcome, nextLeader, refused, taken}
+use Rattle.apollo.specs.Enter.{State, Effect, commit, tipped, waiting, hearing, holding, enterRound, settle, state}
+use Rattle.apollo.specs.Outcome.{Outcome, nextLeader, refused, taken, outcome}
 use Rattle.apollo.specs.Open.{openWith}
 use Rattle.apollo.specs.Branch.{grown, branchWith}
 use Rattle.apollo.specs.Blame.{blameWith}
 use Rattle.apollo.specs.Tick.{blaming, ticked, tickWith}
 use Rattle.apollo.proofs.Slots.{length-zeros}
-use Rattle.forms.proofs.Facts.{BlockFields}
-use Rattle.writing.proofs.Make.{length-blame}
+use Rattle.frame_forms.proofs.Facts.{BlockFields}
+use Rattle.frame_writing.proofs.Make.{length-blame}
 use Rattle.log.specs.Slots.{Slotted}
 use Rattle.branch.specs.declared.Judged.{Judged}
-use Rattle.branch.specs.Frames.{framesOf, lastFrame}
+use Rattle.frame.specs.Ends.{lastFrame}
 use Rattle.branch.specs.Judge.{adopted, answered}
 use Rattle.branch.proofs.Last.{branch-sound}
 use Rattle.refusals.specs.Number.{openNumber, guardNumber, blameNumber}
@@ -38,7 +38,7 @@ use Rattle.refusals.proofs.Answer.{by-number, open-by, guarded-by, blame-by, br
 use Rattle.tip.specs.Ready.{Ready}
 use Rattle.rounds.specs.Rounds.{told}
 use Rattle.rounds.proofs.Few.{settle-few}
-use Rattle.replica.specs.Call.{state, outcome, refusedAnswer}
+use Rattle.replica.specs.Refused.{refusedAnswer}
 
 -- an answer with one more frame
 abbrev pub more : Answer → Answer

@@ -1,1 +1,1 @@
-pub mod Call
+pub mod Refused

@@ -7,8 +7,8 @@ use apollo::Ticks;
 ghost use mathlib.Core.Path.{_≡_};
 ghost use lib.ListN.{length};
 ghost use Rattle.apollo.specs.Bytes.{zeros};
-ghost use Rattle.apollo.specs.Calls.{openCall, branchCall, blameCall, tickCall};
-ghost use Rattle.replica.specs.Call.{state, outcome, refusedAnswer};
+ghost use Rattle.apollo.specs.Calls.{state, outcome, openCall, branchCall, blameCall, tickCall};
+ghost use Rattle.replica.specs.Refused.{refusedAnswer};
 
 // A refusal.
 fn refused(r: Replica, number: u8, place: u32) -> Answer
@@ -45,10 +45,12 @@ pub fn open(
     entry: &[u8],
     out: &mut [u8],
 ) -> Answer
-    ensures { λ a. ⌜ outcome a (now (log .exit)) (now (masks .exit)) (now (out .exit)) ≡ openCall id f (timeout .0) («last_round» .0) (now (log .entry)) (now (masks .entry)) (now (entry .entry)) (now (out .entry)) ⌝ }
+    ensures { λ a. ⌜ outcome a (now (log .exit)) (now (masks .exit)) (now (out .exit))
+        ≡ openCall id f (timeout .0) («last_round» .0) (now (log .entry)) (now (masks .entry)) (now (entry .entry))
+        (now (out .entry)) ⌝ }
 {
     let r = record::fresh(id, f, timeout, last_round);
-    let number = refusals::judge_open(r, log, masks, entry.len(), out.len());
+    let number = refusals::of_open(r, log, masks, entry.len(), out.len());
     if number != 0 {
         return refused(record::zero_replica(), number, 0);
     }
@@ -66,9 +68,11 @@ pub fn branch(
     entry: &[u8],
     out: &mut [u8],
 ) -> Answer
-    ensures { λ a. ⌜ outcome a (now (log .exit)) (now (masks .entry)) (now (out .exit)) ≡ branchCall (state replica (now (log .entry)) (now (masks .entry))) (now (frames .entry)) (now (entry .entry)) (now (out .entry)) ⌝ }
+    ensures { λ a. ⌜ outcome a (now (log .exit)) (now (masks .entry)) (now (out .exit))
+        ≡ branchCall (state replica (now (log .entry)) (now (masks .entry))) (now (frames .entry)) (now (entry .entry))
+        (now (out .entry)) ⌝ }
 {
-    let judged = refusals::judge_branch(replica, log, masks, frames, entry.len(), out.len());
+    let judged = refusals::of_branch(replica, log, masks, frames, entry.len(), out.len());
     if judged.number != 0 {
         return refused(replica, judged.number, judged.place);
     }
@@ -85,9 +89,11 @@ pub fn blame(
     entry: &[u8],
     out: &mut [u8],
 ) -> Answer
-    ensures { λ a. ⌜ outcome a (now (log .exit)) (now (masks .exit)) (now (out .exit)) ≡ blameCall (state replica (now (log .entry)) (now (masks .entry))) (now (frame .entry)) (now (entry .entry)) (now (out .entry)) ⌝ }
+    ensures { λ a. ⌜ outcome a (now (log .exit)) (now (masks .exit)) (now (out .exit))
+        ≡ blameCall (state replica (now (log .entry)) (now (masks .entry))) (now (frame .entry)) (now (entry .entry))
+        (now (out .entry)) ⌝ }
 {
-    let number = refusals::judge_blame(replica, log, masks, frame, entry.len(), out.len());
+    let number = refusals::of_blame(replica, log, masks, frame, entry.len(), out.len());
     if number != 0 {
         return refused(replica, number, 0);
     }
@@ -103,9 +109,10 @@ pub fn tick(
     entry: &[u8],
     out: &mut [u8],
 ) -> Answer
-    ensures { λ a. ⌜ outcome a (now (log .exit)) (now (masks .exit)) (now (out .exit)) ≡ tickCall (state replica (now (log .entry)) (now (masks .entry))) (now (entry .entry)) (now (out .entry)) ⌝ }
+    ensures { λ a. ⌜ outcome a (now (log .exit)) (now (masks .exit)) (now (out .exit))
+        ≡ tickCall (state replica (now (log .entry)) (now (masks .entry))) (now (entry .entry)) (now (out .entry)) ⌝ }
 {
-    let number = refusals::guard(replica, log, masks, entry.len(), out.len());
+    let number = refusals::of_tick(replica, log, masks, entry.len(), out.len());
     if number != 0 {
         return refused(replica, number, 0);
     }
@@ -113,7 +120,7 @@ pub fn tick(
         return rounds::count_down(replica);
     }
     let round = replica.round.0;
-    writing::put_blame(out, replica.id, round);
+    frame_writing::put_blame(out, replica.id, round);
     let q = record::with_timer(replica, 0);
     let mut a = rounds::hear(q, log, masks, round, replica.id, entry, &mut out[512..]);
     a.frames = a.frames + 1;

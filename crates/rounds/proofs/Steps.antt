@@ -10,14 +10,15 @@ use borrow.Author.Tests.{eq-eqb, ne-eqb, le-leb, lt-leb, leb-true, eqb-true}
 use Rattle.sha256.specs.Fips.{sha256}
 use Rattle.apollo.specs.declared.Replica.{Replica}
 use Rattle.apollo.specs.declared.Answer.{Answer}
+use Rattle.apollo.specs.declared.Setup.{Setup}
 use Rattle.apollo.specs.Setup.{setupOf, leader}
 use Rattle.apollo.specs.Masks.{addBlame, certified}
 use Rattle.apollo.specs.Replica.{withRound, withTimer, leads}
-use Rattle.apollo.specs.Enter.{State, commit, tipped, waiting, hearing, holding, ownBlock, proposing, enterRound, settle}
-use Rattle.apollo.specs.Outcome.{Outcome, nextLeader, taken}
+use Rattle.apollo.specs.Enter.{State, commit, tipped, waiting, hearing, holding, ownBlock, proposing, enterRound, settle, state}
+use Rattle.apollo.specs.Outcome.{Outcome, nextLeader, taken, outcome}
 use Rattle.apollo.proofs.Tests.{and-first}
 use Rattle.tip.specs.Ready.{Ready}
-use Rattle.rounds.specs.Rounds.{state, outcome, told}
+use Rattle.rounds.specs.Rounds.{told}
 
 -- the leader that is told
 module _ (r : Replica) where
@@ -25,9 +26,10 @@ module _ (r : Replica) where
   unfolding nextLeader
   no-leader h = rw (lt-leb (r .round .0) (r .«last_round» .0) h)
 
-  pub some-leader : (l : ℕ) → r .round .0 ≤ r .«last_round» .0 → l ≡ leader (setupOf r) (r .round .0) → l ≡ nextLeader r
+  pub some-leader : (s : Setup) (l : ℕ) → r .round .0 ≤ r .«last_round» .0 → s ≡ setupOf r → l ≡ leader s (r .round .0)
+      → l ≡ nextLeader r
   unfolding nextLeader
-  some-leader l h e = rw (le-leb (r .round .0) (r .«last_round» .0) h) e
+  some-leader s l h d e = rw (le-leb (r .round .0) (r .«last_round» .0) h) (rw d at e)
 
   pub leads-last : (b : Bool) → b ≡ leads r → b ≡ true → r .round .0 ≤ r .«last_round» .0
   unfolding leads
@@ -71,9 +73,9 @@ module _ (r : Replica) (masks : List ℕ) (round : ℕ) where
   pub certifies-other : (round ≡ r .round .0 → ⊥) → false ≡ eqb round (r .round .0) && certified (setupOf r) masks round
   certifies-other h = rw (ne-eqb round (r .round .0) h)
 
-  pub certifies-own : (b : Bool) → round ≡ r .round .0 → b ≡ certified (setupOf r) masks round
+  pub certifies-own : (s : Setup) (b : Bool) → round ≡ r .round .0 → s ≡ setupOf r → b ≡ certified s masks round
       → b ≡ eqb round (r .round .0) && certified (setupOf r) masks round
-  certifies-own b h e = rw (eq-eqb round (r .round .0) h) e
+  certifies-own s b h d e = rw (eq-eqb round (r .round .0) h) (rw d at e)
 
 -- a blame that is heard, with masks that are now masks′: R stays, or the next round is entered
 module _ (r : Replica) (log masks masks′ entry out : List ℕ) (round signer : ℕ) (em : masks′ ≡ addBlame masks round signer)

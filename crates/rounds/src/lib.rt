@@ -10,11 +10,11 @@ ghost use Rattle.sha256.specs.Fips.{sha256};
 ghost use Rattle.apollo.specs.Setup.{setupOf};
 ghost use Rattle.apollo.specs.Masks as Masks;
 ghost use Rattle.apollo.specs.Replica.{withTimer};
-ghost use Rattle.apollo.specs.Enter.{hearing, enterRound, settle};
+ghost use Rattle.apollo.specs.Enter.{state, hearing, enterRound, settle};
 ghost use Rattle.apollo.specs.Outcome as Outcome;
-ghost use Rattle.apollo.specs.Outcome.{nextLeader};
+ghost use Rattle.apollo.specs.Outcome.{outcome, nextLeader};
 ghost use Rattle.tip.specs.Ready.{Ready};
-ghost use Rattle.rounds.specs.Rounds.{state, outcome, told};
+ghost use Rattle.rounds.specs.Rounds.{told};
 
 // The leader of R, 255 when R = T + 1.
 fn next_leader(r: Replica) -> u8
@@ -25,7 +25,7 @@ fn next_leader(r: Replica) -> u8
     if r.last_round.0 < round {
         return 255;
     }
-    frame::leader(r.f, round) as u8
+    frame::leader(record::setup(r), round) as u8
 }
 
 // Taken, with some frames emitted.
@@ -46,9 +46,11 @@ fn taken(r: Replica, frames: u8) -> Answer
 // R is entered: proposed where this replica leads it, else waited for.
 pub fn enter_round(r: Replica, log: &mut [u8], entry: &[u8], out: &mut [u8]) -> Answer
     requires { ⌜ Ready r (now log) (now entry) (now out) ⌝ }
-    ensures { λ a. ⌜ ((masks : List ℕ) → outcome a (now (log .exit)) masks (now (out .exit)) ≡ Outcome.taken (enterRound sha256 (now (entry .entry)) (state r (now (log .entry)) masks)) (now (out .entry))) ⌝ }
+    ensures { λ a. ⌜ ((masks : List ℕ)
+        → outcome a (now (log .exit)) masks (now (out .exit))
+        ≡ Outcome.taken (enterRound sha256 (now (entry .entry)) (state r (now (log .entry)) masks)) (now (out .entry))) ⌝ }
 {
-    if ranges::leads(r) {
+    if record_ranges::leads(r) {
         return taken(tip::propose(r, log, entry, out), 1);
     }
     taken(record::with_timer(r, r.timeout.0), 0)
@@ -61,7 +63,7 @@ fn certifies(r: Replica, masks: &[u16], round: u32) -> bool
     if round != r.round.0 {
         return false;
     }
-    masks::certified(r.f, masks, round)
+    masks::certified(record::setup(r), masks, round)
 }
 
 // A replica's blame for a round is heard: if that is R and now certified, R grows by 1 and is entered.
@@ -75,7 +77,10 @@ pub fn hear(
     out: &mut [u8],
 ) -> Answer
     requires { ⌜ Ready r (now log) (now entry) (now out) × (r .round .0 ≤ r .«last_round» .0) × (signer < 16) ⌝ }
-    ensures { λ a. ⌜ outcome a (now (log .exit)) (now (masks .exit)) (now (out .exit)) ≡ Outcome.taken (settle sha256 (now (entry .entry)) (hearing (state r (now (log .entry)) (now (masks .entry))) round signer) round) (now (out .entry)) ⌝ }
+    ensures { λ a. ⌜ outcome a (now (log .exit)) (now (masks .exit)) (now (out .exit))
+        ≡ Outcome.taken
+        (settle sha256 (now (entry .entry)) (hearing (state r (now (log .entry)) (now (masks .entry))) round signer) round)
+        (now (out .entry)) ⌝ }
 {
     masks::add_blame(masks, round, signer);
     if !certifies(r, masks, round) {

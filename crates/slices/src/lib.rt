@@ -1,10 +1,8 @@
-// Slices of bytes: compared, cut and written in place. Every function takes slices of any length.
+// Slices of bytes: compared, cut and written in place. All but `copy` take slices of any length.
 ghost use mathlib.Core.Path.{_≡_};
-ghost use Prim.Native.Nat.{min};
 ghost use lib.ListN.{length, getD};
 ghost use Rattle.apollo.specs.Bytes as Bytes;
 ghost use Rattle.apollo.specs.Frame as Frame;
-ghost use Rattle.slices.specs.Copy.{copied};
 
 // Byte i of x, 0 past its end.
 pub fn byte(x: &[u8], i: usize) -> u8
@@ -73,22 +71,13 @@ pub fn part<'a>(x: &'a [u8], start: usize, size: usize) -> &'a [u8]
     &x[start..e]
 }
 
-fn smaller(a: usize, b: usize) -> usize
-    ensures { λ r. ⌜ r ≡ min a b ⌝ }
-{
-    if a < b {
-        return a;
-    }
-    b
-}
-
-// Copies x to the front of out, as far as it fits.
+// Copies x over out, which is as long.
 pub fn copy(out: &mut [u8], x: &[u8])
-    ensures { λ _. ⌜ now (out .exit) ≡ copied (now (out .entry)) (now (x .entry)) ⌝ }
+    requires { ⌜ length (now x) ≡ length (now out) ⌝ }
+    ensures { λ _. ⌜ now (out .exit) ≡ now (x .entry) ⌝ }
 {
-    let n = smaller(out.len(), x.len());
     let mut i = 0;
-    while i < n {
+    while i < x.len() {
         out[i] = x[i];
         i += 1;
     }

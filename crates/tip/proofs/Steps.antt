@@ -11,12 +11,11 @@ use Rattle.apollo.specs.Bytes.{part, zeros}
 use Rattle.apollo.specs.Frame.{round, height, digest, makeBlock}
 use Rattle.apollo.specs.Log.{genesis, slot, store}
 use Rattle.apollo.specs.Replica.{withRound, withTimer, withTip}
-use Rattle.apollo.specs.Enter.{commit, tipped, holding, ownBlock, proposing}
-use Rattle.writing.proofs.Make.{length-block}
+use Rattle.apollo.specs.Enter.{commit, tipped, holding, ownBlock, proposing, state}
+use Rattle.frame_writing.proofs.Make.{length-block}
 use Rattle.log.specs.Slots.{slotPart}
 use Rattle.log.proofs.Search.{slot-part}
 use Rattle.tip.specs.Ready.{Ready}
-use Rattle.tip.specs.State.{state}
 
 -- the tip, R and the timer are set one after the other
 pub tipped-steps : (r : Replica) (log : List ℕ) (t h : ℕ) (a b c q : Replica) → a ≡ withTip r t h → b ≡ withRound a (t + 1)

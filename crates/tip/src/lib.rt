@@ -6,13 +6,13 @@ ghost use Prim.Native.Nat.{ℕ, _+_, _*_, _≤_};
 ghost use lib.ListN.{length, drop};
 ghost use Rattle.sha256.specs.Fips.{sha256};
 ghost use Rattle.apollo.specs.Frame as Frame;
+ghost use Rattle.apollo.specs.Frame.{framesOf};
 ghost use Rattle.apollo.specs.Log as Log;
 ghost use Rattle.apollo.specs.Branch.{grown};
-ghost use Rattle.apollo.specs.Enter.{tipped, holding, ownBlock, proposing};
+ghost use Rattle.apollo.specs.Enter.{state, tipped, holding, ownBlock, proposing};
 ghost use Rattle.log.specs.Slots.{Slotted};
-ghost use Rattle.branch.specs.Frames.{framesOf, lastFrame};
+ghost use Rattle.frame.specs.Ends.{lastFrame};
 ghost use Rattle.tip.specs.Ready.{Ready};
-ghost use Rattle.tip.specs.State.{state};
 
 // The record with its tip in round t of the log, at height h: R follows it, and committed is renewed.
 fn tipped(r: Replica, log: &[u8], t: u32, h: u32) -> Replica
@@ -28,23 +28,29 @@ fn tipped(r: Replica, log: &[u8], t: u32, h: u32) -> Replica
 // The block for R on the tip is written to the front of out.
 fn put_own_block(r: Replica, log: &[u8], height: u32, entry: &[u8], out: &mut [u8])
     requires { ⌜ (512 * r .«tip_round» .0 ≤ length (now log)) × (512 ≤ length (now out)) × (length (now entry) ≤ 400) ⌝ }
-    ensures { λ _. ⌜ now (out .exit) ≡ Frame.makeBlock sha256 (r .id) (r .round .0) height (Frame.digest (Log.slot (now (log .entry)) (r .«tip_round» .0))) (now (entry .entry)) ++ drop 512 (now (out .entry)) ⌝ }
+    ensures { λ _. ⌜ now (out .exit)
+        ≡ Frame.makeBlock sha256 (r .id) (r .round .0) height
+        (Frame.digest (Log.slot (now (log .entry)) (r .«tip_round» .0))) (now (entry .entry))
+        ++ drop 512 (now (out .entry)) ⌝ }
 {
     let round = r.round.0;
     let tip = r.tip_round.0;
     if tip == 0 {
         let genesis = [0u8; 32];
-        writing::put_block(out, r.id, round, height, &genesis, entry);
+        frame_writing::put_block(out, r.id, round, height, &genesis, entry);
         return;
     }
     let parent = slices::part(log::slot(log, tip), 480, 32);
-    writing::put_block(out, r.id, round, height, parent, entry);
+    frame_writing::put_block(out, r.id, round, height, parent, entry);
 }
 
 // The block for R is written to the front of out, stored and made the tip.
 pub fn propose(r: Replica, log: &mut [u8], entry: &[u8], out: &mut [u8]) -> Replica
     requires { ⌜ Ready r (now log) (now entry) (now out) × (r .round .0 ≤ r .«last_round» .0) ⌝ }
-    ensures { λ q. ⌜ ((masks : List ℕ) → (now (out .exit) ≡ ownBlock sha256 (now (entry .entry)) (state r (now (log .entry)) masks) ++ drop 512 (now (out .entry))) × (state q (now (log .exit)) masks ≡ proposing sha256 (now (entry .entry)) (state r (now (log .entry)) masks))) ⌝ }
+    ensures { λ q. ⌜ ((masks : List ℕ)
+        → (now (out .exit)
+        ≡ ownBlock sha256 (now (entry .entry)) (state r (now (log .entry)) masks) ++ drop 512 (now (out .entry)))
+        × (state q (now (log .exit)) masks ≡ proposing sha256 (now (entry .entry)) (state r (now (log .entry)) masks))) ⌝ }
 {
     let round = r.round.0;
     let height = r.tip_height.0 + 1;
@@ -56,9 +62,13 @@ pub fn propose(r: Replica, log: &mut [u8], entry: &[u8], out: &mut [u8]) -> Repl
 // A branch is taken on a round: stored, its last frame the tip.
 pub fn adopt(r: Replica, log: &mut [u8], attach: u32, frames: &[u8]) -> Replica
     requires { ⌜ Slotted (length (now log)) (framesOf (now frames)) × (Frame.round (lastFrame (now frames)) ≤ 4096) ⌝ }
-    ensures { λ q. ⌜ ((masks : List ℕ) → state q (now (log .exit)) masks ≡ holding (state r (now (log .entry)) masks) (grown (now (log .entry)) attach (framesOf (now (frames .entry)))) (Frame.round (lastFrame (now (frames .entry)))) (Frame.height (lastFrame (now (frames .entry))))) ⌝ }
+    ensures { λ q. ⌜ ((masks : List ℕ)
+        → state q (now (log .exit)) masks
+        ≡ holding (state r (now (log .entry)) masks)
+        (grown (now (log .entry)) attach (framesOf (now (frames .entry))))
+        (Frame.round (lastFrame (now (frames .entry)))) (Frame.height (lastFrame (now (frames .entry))))) ⌝ }
 {
     log::take_branch(log, attach, frames);
-    let last = branch::last_frame(frames);
+    let last = frame::last_frame(frames);
     tipped(r, log, frame::round(last), frame::height(last))
 }

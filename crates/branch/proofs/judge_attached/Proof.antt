@@ -1,7 +1,7 @@
 -- `branch::judge_attached` meets its contract: 11, and what follows it. Assumes nothing.
 use mathlib.Core.Path.{ap, _∙_}
 use Rattle.branch.proofs.Judge.{attached-at, attached-nowhere}
-use Rattle.chain.specs.Answers.{attachOf}
+use Rattle.branch_links.specs.Answers.{attachOf}
 use borrow.Author.Needs.{needs}
 use Rattle.branch.proofs.judge_attached.Statement.{statement}
 use Rattle.branch.proofs.judge_attached.Tie as tie

@@ -10,11 +10,11 @@ use Rattle.frame.proofs.leader.Statement.{statement}
 use Rattle.frame.proofs.leader.Tie as tie
 
 returns : tie.Need-returns
-returns c = (λ t. leader-first _ _ (c .if1 .taken), omega arith)
+returns c = (leader-first _ _ (c .if1 .taken), omega arith)
 
 returns-2 : tie.Need-returns-2
 unfolding leader
-returns-2 c = rw (c .before .wide .ensures .0) ((λ t. refl), mod-lt (c .before .before .args .round - 1) (omega arith))
+returns-2 c = rw (c .before .wide .ensures .0) (refl, mod-lt (c .before .before .args .round - 1) (omega arith))
 
 pub leader-spec : {M : Type 1} → statement M
 leader-spec =

@@ -10,7 +10,7 @@ returns c =
     let j = i .before in
     let s = j .before .before .before .before .before .before .before .before in
     let a = s .args in
-    blame-refused (a .replica) (a .log .now) (a .masks .now) (a .entry .now) (a .out .now) (a .frame .now) _ (j .judge-blame .ensures) _ (i .if1 .taken) (c .refused .ensures)
+    blame-refused (a .replica) (a .log .now) (a .masks .now) (a .entry .now) (a .out .now) (a .frame .now) _ (j .of-blame .ensures) _ (i .if1 .taken) (c .refused .ensures)
 
 hear-requires : tie.Need-hear-requires
 hear-requires c κs =
@@ -20,7 +20,7 @@ hear-requires c κs =
     let j = i .before in
     let s = j .before .before .before .before .before .before .before .before in
     let a = s .args in
-    blame-asks (a .replica) (a .log .now) (a .masks .now) (a .entry .now) (a .out .now) (a .frame .now) _ (j .judge-blame .ensures) _ (i .if1 .left) (g .signer .ensures)
+    blame-asks (a .replica) (a .log .now) (a .masks .now) (a .entry .now) (a .out .now) (a .frame .now) _ (j .of-blame .ensures) _ (i .if1 .left) (g .signer .ensures)
 
 same-length-3 : tie.Need-same-length-3
 same-length-3 c =
@@ -46,7 +46,7 @@ returns-2 c =
     let j = i .before in
     let s = j .before .before .before .before .before .before .before .before in
     let a = s .args in
-    blame-taken (a .replica) (a .log .now) (a .masks .now) (a .entry .now) (a .out .now) (a .frame .now) _ (j .judge-blame .ensures) _ _ _ (i .if1 .left) (r .round .ensures) (g .signer .ensures) (e .hear .ensures)
+    blame-taken (a .replica) (a .log .now) (a .masks .now) (a .entry .now) (a .out .now) (a .frame .now) _ (j .of-blame .ensures) _ _ _ (i .if1 .left) (r .round .ensures) (g .signer .ensures) (e .hear .ensures)
 
 pub blame-spec : {M : Type 1} → statement M
 blame-spec =

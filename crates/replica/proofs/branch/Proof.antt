@@ -10,7 +10,7 @@ returns c =
     let j = i .before .before in
     let s = j .before .before .before .before .before .before .before in
     let a = s .args in
-    branch-refused (a .replica) (a .log .now) (a .masks .now) (a .entry .now) (a .out .now) (a .frames .now) _ (j .judge-branch .ensures) _ (i .if1 .taken) (c .refused .ensures)
+    branch-refused (a .replica) (a .log .now) (a .masks .now) (a .entry .now) (a .out .now) (a .frames .now) _ (j .of-branch .ensures) _ (i .if1 .taken) (c .refused .ensures)
 
 adopt-requires : tie.Need-adopt-requires
 adopt-requires c κs =
@@ -18,7 +18,7 @@ adopt-requires c κs =
     let j = i .before .before in
     let s = j .before .before .before .before .before .before .before in
     let a = s .args in
-    adopt-asks (a .replica) (a .log .now) (a .masks .now) (a .entry .now) (a .out .now) (a .frames .now) _ (j .judge-branch .ensures) (i .if1 .left)
+    adopt-asks (a .replica) (a .log .now) (a .masks .now) (a .entry .now) (a .out .now) (a .frames .now) _ (j .of-branch .ensures) (i .if1 .left)
 
 enter-round-requires : tie.Need-enter-round-requires
 enter-round-requires c κs =
@@ -27,7 +27,7 @@ enter-round-requires c κs =
     let j = i .before .before in
     let s = j .before .before .before .before .before .before .before in
     let a = s .args in
-    adopt-ready (a .replica) (a .log .now) (a .masks .now) (a .entry .now) (a .out .now) (a .frames .now) _ (j .judge-branch .ensures) (i .if1 .left) _ _ (d .adopt .ensures) (d .adopt .kept .1 .0)
+    adopt-ready (a .replica) (a .log .now) (a .masks .now) (a .entry .now) (a .out .now) (a .frames .now) _ (j .of-branch .ensures) (i .if1 .left) _ _ (d .adopt .ensures) (d .adopt .kept .1 .0)
 
 same-length-2 : tie.Need-same-length-2
 same-length-2 c =
@@ -48,7 +48,7 @@ returns-2 c =
     let j = i .before .before in
     let s = j .before .before .before .before .before .before .before in
     let a = s .args in
-    branch-taken (a .replica) (a .log .now) (a .masks .now) (a .entry .now) (a .out .now) (a .frames .now) _ (j .judge-branch .ensures) (i .if1 .left) _ _ (d .adopt .ensures) _ (e .enter-round .ensures _)
+    branch-taken (a .replica) (a .log .now) (a .masks .now) (a .entry .now) (a .out .now) (a .frames .now) _ (j .of-branch .ensures) (i .if1 .left) _ _ (d .adopt .ensures) _ (e .enter-round .ensures _)
 
 pub branch-spec : {M : Type 1} → statement M
 branch-spec =

@@ -15,7 +15,7 @@ returns c =
     let g = i .before in
     let s = g .before .before .before .before .before .before .before in
     let a = s .args in
-    tick-refused (a .replica) (a .log .now) (a .masks .now) (a .entry .now) (a .out .now) _ (g .guard .ensures) _ (i .if1 .taken) (c .refused .ensures)
+    tick-refused (a .replica) (a .log .now) (a .masks .now) (a .entry .now) (a .out .now) _ (g .of-tick .ensures) _ (i .if1 .taken) (c .refused .ensures)
 
 count-down-requires : tie.Need-count-down-requires
 count-down-requires c κs =
@@ -23,7 +23,7 @@ count-down-requires c κs =
     let g = i .before in
     let s = g .before .before .before .before .before .before .before in
     let a = s .args in
-    tick-passed (a .replica) (a .log .now) (a .masks .now) (a .entry .now) (a .out .now) _ (g .guard .ensures) (i .if1 .left) .valid .setup .f-most
+    tick-passed (a .replica) (a .log .now) (a .masks .now) (a .entry .now) (a .out .now) _ (g .of-tick .ensures) (i .if1 .left) .valid .setup .f-most
 
 returns-2 : tie.Need-returns-2
 returns-2 c =
@@ -32,7 +32,7 @@ returns-2 c =
     let g = i .before in
     let s = g .before .before .before .before .before .before .before in
     let a = s .args in
-    tick-down (a .replica) (a .log .now) (a .masks .now) (a .entry .now) (a .out .now) _ (g .guard .ensures) (i .if1 .left) _ (k .if2 .taken) (c .count-down .ensures)
+    tick-down (a .replica) (a .log .now) (a .masks .now) (a .entry .now) (a .out .now) _ (g .of-tick .ensures) (i .if1 .left) _ (k .if2 .taken) (c .count-down .ensures)
 
 put-blame-requires : tie.Need-put-blame-requires
 put-blame-requires c κs =
@@ -40,7 +40,7 @@ put-blame-requires c κs =
     let g = i .before in
     let s = g .before .before .before .before .before .before .before in
     let a = s .args in
-    omega (arith, tick-passed (a .replica) (a .log .now) (a .masks .now) (a .entry .now) (a .out .now) _ (g .guard .ensures) (i .if1 .left) .out-least)
+    omega (arith, tick-passed (a .replica) (a .log .now) (a .masks .now) (a .entry .now) (a .out .now) _ (g .of-tick .ensures) (i .if1 .left) .out-least)
 
 sub-hear : tie.Need-sub-hear
 sub-hear c =
@@ -49,7 +49,7 @@ sub-hear c =
     let g = i .before in
     let s = g .before .before .before .before .before .before .before in
     let a = s .args in
-    omega (arith, u .put-blame .kept .0, tick-passed (a .replica) (a .log .now) (a .masks .now) (a .entry .now) (a .out .now) _ (g .guard .ensures) (i .if1 .left) .out-least)
+    omega (arith, u .put-blame .kept .0, tick-passed (a .replica) (a .log .now) (a .masks .now) (a .entry .now) (a .out .now) _ (g .of-tick .ensures) (i .if1 .left) .out-least)
 
 part-hear-start : tie.Need-part-hear-start
 part-hear-start c =
@@ -58,7 +58,7 @@ part-hear-start c =
     let g = i .before in
     let s = g .before .before .before .before .before .before .before in
     let a = s .args in
-    omega (arith, u .put-blame .kept .0, tick-passed (a .replica) (a .log .now) (a .masks .now) (a .entry .now) (a .out .now) _ (g .guard .ensures) (i .if1 .left) .out-least)
+    omega (arith, u .put-blame .kept .0, tick-passed (a .replica) (a .log .now) (a .masks .now) (a .entry .now) (a .out .now) _ (g .of-tick .ensures) (i .if1 .left) .out-least)
 
 hear-requires : tie.Need-hear-requires
 hear-requires c κs =
@@ -68,7 +68,7 @@ hear-requires c κs =
     let g = i .before in
     let s = g .before .before .before .before .before .before .before in
     let a = s .args in
-    tick-asks (a .replica) (a .log .now) (a .masks .now) (a .entry .now) (a .out .now) _ (g .guard .ensures) (i .if1 .left) _ (u .put-blame .ensures) _ (w .with-timer .ensures)
+    tick-asks (a .replica) (a .log .now) (a .masks .now) (a .entry .now) (a .out .now) _ (g .of-tick .ensures) (i .if1 .left) _ (u .put-blame .ensures) _ (w .with-timer .ensures)
 
 add-a : tie.Need-add-a
 add-a c =
@@ -101,7 +101,7 @@ returns-3 c =
     let g = i .before in
     let s = g .before .before .before .before .before .before .before in
     let a = s .args in
-    tick-out (a .replica) (a .log .now) (a .masks .now) (a .entry .now) (a .out .now) _ (g .guard .ensures) (i .if1 .left) _ (u .put-blame .ensures) _ _ _ _ _ (k .if2 .left) (w .with-timer .ensures) (e .hear .ensures)
+    tick-out (a .replica) (a .log .now) (a .masks .now) (a .entry .now) (a .out .now) _ (g .of-tick .ensures) (i .if1 .left) _ (u .put-blame .ensures) _ _ _ _ _ (k .if2 .left) (w .with-timer .ensures) (e .hear .ensures)
 
 pub tick-spec : {M : Type 1} → statement M
 tick-spec =

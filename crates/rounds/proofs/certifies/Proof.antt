@@ -11,10 +11,11 @@ returns c =
 
 returns-2 : tie.Need-returns-2
 returns-2 c =
-    let i = c .before in
+    let g = c .before in
+    let i = g .before in
     let s = i .before .before .before in
     let a = s .args in
-    certifies-own (a .r) (a .masks .now) (a .round) _ (i .if1 .left) (c .certified .ensures _)
+    certifies-own (a .r) (a .masks .now) (a .round) _ _ (i .if1 .left) (g .setup .ensures) (c .certified .ensures)
 
 pub certifies-spec : {M : Type 1} → statement M
-certifies-spec = tie.close (tie.spec returns (λ c κs. tt) returns-2)
+certifies-spec = tie.close (tie.spec returns (λ c κs. tt) (λ c κs. tt) returns-2)

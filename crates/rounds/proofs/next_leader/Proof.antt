@@ -1,5 +1,7 @@
 -- `rounds::next_leader` meets its contract. Assumes nothing.
-use borrow.Author.Needs.{needs}
+use mathlib.Core.Path.{ap}
+use native.Mathlib.Omega.{arith}
+use Rattle.apollo.specs.declared.Setup.{Setup}
 use Rattle.rounds.proofs.Steps.{no-leader, some-leader}
 use Rattle.rounds.proofs.next_leader.Statement.{statement}
 use Rattle.rounds.proofs.next_leader.Tie as tie
@@ -11,9 +13,17 @@ returns c =
 
 returns-2 : tie.Need-returns-2
 returns-2 c =
-    let i = c .before in
+    let g = c .before in
+    let i = g .before in
     let s = i .before .before in
-    some-leader (s .args .r) _ (i .if1 .left) (c .leader .ensures .0 _)
+    some-leader (s .args .r) _ _ (i .if1 .left) (g .setup .ensures) (c .leader .ensures .0)
 
 pub next-leader-spec : {M : Type 1} → statement M
-next-leader-spec = tie.close (tie.spec returns (λ c κs. tt) (λ c. search needs) returns-2)
+next-leader-spec =
+    tie.close
+    (tie.spec
+    returns
+    (λ c κs. tt)
+    (λ c κs. tt)
+    (λ c. omega (arith, ap (λ (s : Setup). s .f) (c .before .setup .ensures)))
+    returns-2)

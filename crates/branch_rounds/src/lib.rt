@@ -1,0 +1,78 @@
+// The rounds that a branch spans: the skipped ones, certified or not, and the committed slots that taking it would keep. Every
+// function takes slices of any length and any numbers.
+use apollo::Setup;
+ghost use mathlib.Core.Path.{_≡_};
+ghost use Rattle.apollo.specs.Frame.{framesOf};
+ghost use Rattle.apollo.specs.Branch as Branch;
+ghost use Rattle.branch_rounds.specs.Answers.{gapOf};
+ghost use Rattle.branch_rounds.specs.Keeps.{keepsFrame, keepsAll};
+
+// The first skipped round that is not certified.
+pub enum Gap {
+    Uncertified(u32),
+    Closed,
+}
+
+// The first round that the frames skip, the first of them on round a, and that is not certified.
+pub fn first_uncertified(s: Setup, masks: &[u16], a: u32, frames: &[u8]) -> Gap
+    ensures { λ g. ⌜ gapOf g ≡ Branch.firstUncertified s (now (masks .entry)) a (framesOf (now (frames .entry))) ⌝ }
+{
+    let n = frames.len() / 512;
+    let mut lo = a;
+    let mut i = 0;
+    let found = 'walk: loop {
+        if n <= i {
+            break 'walk Gap::Closed;
+        }
+        let start = 512 * i;
+        let e = start + 512;
+        let to = frame::round(&frames[start..e]);
+        let end = to as u64;
+        let mut p = lo as u64;
+        while p + 1 < end {
+            let place = (p + 1) as u32;
+            if !masks::certified(s, masks, place) {
+                break 'walk Gap::Uncertified(place);
+            }
+            p += 1;
+        }
+        lo = to;
+        i += 1;
+    };
+    found
+}
+
+// The slots above round lo up to that of frame x and to the committed round would keep their bytes.
+fn keeps_frame(log: &[u8], lo: u32, x: &[u8], committed: u32) -> bool
+    ensures { λ b. ⌜ b ≡ keepsFrame (now (log .entry)) lo (now (x .entry)) committed ⌝ }
+{
+    let r = frame::round(x);
+    let a = 512 * (lo as usize);
+    if committed < r {
+        return slices::is_blank(log, a, 512 * (committed as usize));
+    }
+    if !slices::is_blank(log, a, 512 * (frame::previous(r) as usize)) {
+        return false;
+    }
+    slices::same_bytes(log::slot(log, r), x)
+}
+
+// The slots up to the committed round would keep their bytes if the frames were taken on round a.
+pub fn keeps(log: &[u8], a: u32, frames: &[u8], committed: u32) -> bool
+    ensures { λ b. ⌜ b ≡ keepsAll (now (log .entry)) a (framesOf (now (frames .entry))) committed ⌝ }
+{
+    let n = frames.len() / 512;
+    let mut lo = a;
+    let mut i = 0;
+    while i < n {
+        let s = 512 * i;
+        let e = s + 512;
+        let x = &frames[s..e];
+        if !keeps_frame(log, lo, x, committed) {
+            return false;
+        }
+        lo = frame::round(x);
+        i += 1;
+    }
+    slices::is_blank(log, 512 * (lo as usize), 512 * (committed as usize))
+}

@@ -1,0 +1,67 @@
+// One frame judged in place: its check, and its form as a block or as a blame. Every function takes slices of any length.
+use apollo::Setup;
+ghost use mathlib.Core.Path.{_≡_};
+ghost use Prim.Native.Nat.{_≤_};
+ghost use Rattle.apollo.specs.Bytes as Bytes;
+ghost use Rattle.apollo.specs.Frame as Frame;
+ghost use Rattle.sha256.specs.Fips.{sha256};
+
+fn within(lo: u32, n: u32, hi: u32) -> bool
+    ensures { λ r. ⌜ r ≡ Bytes.within lo n hi ⌝ }
+{
+    if n < lo {
+        return false;
+    }
+    n <= hi
+}
+
+// The check of x is right.
+pub fn checked(x: &[u8]) -> bool
+    ensures { λ r. ⌜ r ≡ Frame.checked sha256 (now (x .entry)) ⌝ }
+{
+    let d = sha256::digest(slices::part(x, 0, 480));
+    slices::same_bytes(slices::part(x, 480, 32), &d)
+}
+
+// x has the form of a block.
+pub fn block_form(s: Setup, x: &[u8]) -> bool
+    ensures { λ r. ⌜ r ≡ Frame.blockForm s (now (x .entry)) ⌝ }
+{
+    let r = frame::round(x);
+    let n = frame::entry_length(x);
+    if frame::kind(x) != 1 {
+        return false;
+    }
+    if frame::signer(x) as u32 != frame::leader(s, r) {
+        return false;
+    }
+    if 400 < n {
+        return false;
+    }
+    if !within(1, r, s.last_round.0) {
+        return false;
+    }
+    if !within(1, frame::height(x), r) {
+        return false;
+    }
+    slices::is_blank(x, 44 + n, 480)
+}
+
+// x has the form of a blame.
+pub fn blame_form(s: Setup, x: &[u8]) -> bool
+    ensures { λ r. ⌜ r ≡ Frame.blameForm s (now (x .entry)) ⌝ }
+{
+    if frame::kind(x) != 2 {
+        return false;
+    }
+    if 2 * (s.f as u32) + 1 <= frame::signer(x) as u32 {
+        return false;
+    }
+    if !slices::is_blank(x, 2, 4) {
+        return false;
+    }
+    if !within(1, frame::round(x), s.last_round.0) {
+        return false;
+    }
+    slices::is_blank(x, 8, 480)
+}

@@ -1,0 +1,142 @@
+-- The frames that fetch copies, slot by slot. Assumes nothing.
+use mathlib.Core.Path.{_≡_, refl, sym, ap, _∙_}
+use mathlib.Core.Bool.{Bool, true, false, _&&_, cond}
+use mathlib.Core.List.{List, [], _∷_, _++_, flatten, append-assoc, append-nil}
+use Prim.Native.Nat.{ℕ, zero, suc, _+_, _-_, _*_, _/_, _≤_, _<_, min}
+use native.Mathlib.Nat.{le-refl}
+use native.Mathlib.Numerals.{add-one}
+use native.Mathlib.Omega.{arith}
+use lib.Dec.{ltb}
+use lib.ListN.{length, take, drop, length-take, length-drop, length-append}
+use lib.Seq.{take-all, take-length, take-append-le, take-at, drop-append-add, drop-drop}
+use Rattle.apollo.specs.Frame.{height}
+use Rattle.apollo.specs.Log.{slot, filled, store, chain}
+use Rattle.apollo.specs.Fetch.{above}
+use Rattle.log.specs.Slots.{slotPart}
+use Rattle.log_heights.specs.Fetch.{isTall}
+use Rattle.log.proofs.Search.{slot-part}
+
+above-append : (h : ℕ) (xs ys : List (List ℕ)) → above h (xs ++ ys) ≡ above h xs ++ above h ys
+unfolding above
+above-append h [] ys = refl
+above-append h (x ∷ xs) ys = by (ltb h (height x)) (above-append h xs ys)
+  where
+    by : (b : Bool) → above h (xs ++ ys) ≡ above h xs ++ above h ys
+        → cond b (x ∷ above h (xs ++ ys)) (above h (xs ++ ys)) ≡ cond b (x ∷ above h xs) (above h xs) ++ above h ys
+    by true e = ap (λ (l : List (List ℕ)). x ∷ l) e
+    by false e = e
+
+above-one : (h : ℕ) (x : List ℕ) (b : Bool) → above h (cond b (x ∷ []) []) ≡ cond (b && ltb h (height x)) (x ∷ []) []
+unfolding above
+above-one h x true = refl
+above-one h x false = refl
+
+flatten-append : (xs ys : List (List ℕ)) → flatten (xs ++ ys) ≡ flatten xs ++ flatten ys
+unfolding flatten
+flatten-append [] ys = refl
+flatten-append (x ∷ xs) ys = rw (flatten-append xs ys) (sym (append-assoc x (flatten xs) (flatten ys)))
+
+-- slot r of a log, stored in slot k + 1 of the out buffer
+pub slot-size : (log : List ℕ) (r : ℕ) → 0 < r → 512 * r ≤ length log → length (slotPart log r) ≡ 512
+slot-size log r g h = simp (length-take, length-drop) (omega arith)
+
+pub slot-copied : (log out y x : List ℕ) (r k : ℕ) → 0 < r → x ≡ slotPart log r → y ≡ store out (k + 1) x
+    → y ≡ store out (k + 1) (slot log r)
+slot-copied log out y x r k g e d = d ∙ ap (store out (k + 1)) (e ∙ slot-part log r g)
+
+module _ (log : List ℕ) (h : ℕ) where
+  -- the frames that fetch copies up to round r
+  abbrev pub upTo : (r : ℕ) → List (List ℕ)
+  upTo r = above h (chain log r)
+
+  up-more : (r : ℕ) → upTo (suc r) ≡ upTo r ++ cond (isTall log h (suc r)) (slot log (suc r) ∷ []) []
+  unfolding chain isTall
+  up-more r =
+      above-append h (chain log r) (cond (filled (slot log (suc r))) (slot log (suc r) ∷ []) [])
+      ∙ ap (λ (l : List (List ℕ)). upTo r ++ l) (above-one h (slot log (suc r)) (filled (slot log (suc r))))
+
+  -- those up to a lower round come first
+  up-first : (r d : ℕ) → (length (upTo r) ≤ length (upTo (r + d))) × (take (length (upTo r)) (upTo (r + d)) ≡ upTo r)
+  up-first r zero =
+      let e : r + 0 ≡ r = omega arith in
+      rw e (le-refl _, take-length (upTo r))
+  up-first r (suc d) =
+      let e : r + suc d ≡ suc (r + d) = omega arith in
+      let q : List (List ℕ) = cond (isTall log h (suc (r + d))) (slot log (suc (r + d)) ∷ []) [] in
+      let ih : (length (upTo r) ≤ length (upTo (r + d))) × (take (length (upTo r)) (upTo (r + d)) ≡ upTo r) = up-first r d in
+      let l : length (upTo (r + d) ++ q) ≡ length (upTo (r + d)) + length q = length-append (upTo (r + d)) q in
+      rw (e, up-more (r + d)) (omega arith, take-append-le (length (upTo r)) (upTo (r + d)) q (ih .0) ∙ ih .1)
+
+  slot-length : (r : ℕ) → 512 * (r + 1) ≤ length log → length (slot log (suc r)) ≡ 512
+  unfolding slot
+  slot-length r g = simp (length-take, length-drop) (omega arith)
+
+  -- after round r: k frames copied, all those up to it
+  pub record Copied (o : List ℕ) (r k : ℕ) (out : List ℕ) : Type 0 where
+    pub fits : 512 * k ≤ length o
+    pub count : k ≡ length (upTo r)
+    pub size : length (flatten (upTo r)) ≡ 512 * k
+    pub bytes : out ≡ flatten (upTo r) ++ drop (512 * k) o
+
+  pub copied-none : (o : List ℕ) → Copied o 0 0 o
+  unfolding chain above flatten
+  copied-none o = record { fits = omega arith; count = refl; size = refl; bytes = refl }
+
+  module _ (o : List ℕ) (r k : ℕ) (out : List ℕ) (c : Copied o r k out) where
+    -- a slot that is not among them, and one that is
+    copied-over : isTall log h (suc r) ≡ false → Copied o (suc r) k out
+    copied-over f =
+        let e : upTo (suc r) ≡ upTo r = up-more r ∙ (rw (f, append-nil)) in
+        record {
+          fits = c .fits;
+          count = rw e (c .count);
+          size = rw e (c .size);
+          bytes = rw e (c .bytes);
+        }
+
+    copied-one : isTall log h (suc r) ≡ true → 512 * (k + 1) ≤ length o → length (slot log (suc r)) ≡ 512
+        → Copied o (suc r) (k + 1) (store out (k + 1) (slot log (suc r)))
+    unfolding store flatten
+    copied-one t g l =
+        let x : List ℕ = slot log (suc r) in
+        let f : List ℕ = flatten (upTo r) in
+        let e : upTo (suc r) ≡ upTo r ++ (x ∷ []) = up-more r ∙ rw t in
+        let w : flatten (upTo (suc r)) ≡ f ++ x = rw e (flatten-append (upTo r) (x ∷ []) ∙ ap (λ (m : List ℕ). f ++ m) (append-nil x)) in
+        let y : 512 * (k + 1 - 1) ≡ length f = omega (arith, c .size) in
+        let z : 512 * (k + 1) ≡ length f + 512 = omega (arith, c .size) in
+        let u : take (512 * (k + 1 - 1)) out ≡ f = rw (y, c .bytes) (take-at f (drop (512 * k) o) (length f) refl) in
+        let p : 512 * k + 512 ≡ length f + 512 = omega (arith, c .size) in
+        let v : drop (512 * (k + 1)) out ≡ drop (512 * (k + 1)) o =
+        rw (z, c .bytes) (drop-append-add f (drop (512 * k) o) 512 ∙ (drop-drop 512 (512 * k) o ∙ ap (λ (n : ℕ). drop n o) p)) in
+        record {
+          fits = g;
+          count = rw (e, length-append) (ap (λ (n : ℕ). n + 1) (c .count));
+          size = rw (w, length-append, l) (omega (arith, c .size));
+          bytes = rw (u, v, w) (sym (append-assoc f x (drop (512 * (k + 1)) o)));
+        }
+
+    pub copied-more : (k′ : ℕ) (out′ : List ℕ) → 512 * (k + 1) ≤ length o → 512 * (r + 1) ≤ length log
+        → k′ ≡ cond (isTall log h (r + 1)) (k + 1) k → out′ ≡ cond (isTall log h (r + 1)) (store out (k + 1) (slot log (r + 1))) out
+        → Copied o (r + 1) k′ out′
+    copied-more k′ out′ g l d e =
+        rw add-one (by (isTall log h (suc r)) refl (rw add-one at d) (rw add-one at e))
+      where
+        by : (b : Bool) → isTall log h (suc r) ≡ b → k′ ≡ cond b (k + 1) k → out′ ≡ cond b (store out (k + 1) (slot log (suc r))) out
+            → Copied o (suc r) k′ out′
+        by true t p q = rw (p, q) (copied-one t g (slot-length r l))
+        by false t p q = rw (p, q) (copied-over t)
+
+    -- all are copied, or all that fit
+    pub copied-all : (t : ℕ) → t ≡ r → (k ≡ min (length (upTo t)) (length o / 512)) × (out ≡ flatten (take k (upTo t)) ++ drop (512 * k) o)
+    copied-all t e =
+        let z : length (upTo r) ≡ k = sym (c .count) in
+        rw e (omega (arith, c .fits), rw (take-all k (upTo r) (omega arith)) (c .bytes))
+
+    pub copied-full : (t : ℕ) → r ≤ t → length o / 512 ≤ k
+        → (k ≡ min (length (upTo t)) (length o / 512)) × (out ≡ flatten (take k (upTo t)) ++ drop (512 * k) o)
+    copied-full t g f =
+        let e : r + (t - r) ≡ t = omega arith in
+        let p : (length (upTo r) ≤ length (upTo t)) × (take (length (upTo r)) (upTo t) ≡ upTo r) = rw e at (up-first r (t - r)) in
+        let z : k ≡ length (upTo r) = c .count in
+        let y : take k (upTo t) ≡ upTo r = ap (λ (m : ℕ). take m (upTo t)) z ∙ p .1 in
+        (omega (arith, c .fits, p .0), rw y (c .bytes))

@@ -1,0 +1,70 @@
+-- Slots by height: one slot tested, and the search upward for the lowest readable. Assumes nothing.
+use mathlib.Core.Path.{_≡_}
+use mathlib.Core.Bool.{Bool, true, false, cond}
+use mathlib.Core.List.{List}
+use Prim.Native.Nat.{ℕ, suc, _+_, _-_, _*_, _≤_, _<_}
+use native.Mathlib.Numerals.{add-one}
+use native.Mathlib.Omega.{arith}
+use lib.Dec.{leb, ltb}
+use lib.ListN.{take, drop}
+use borrow.Author.Tests.{eq-eqb, ne-eqb}
+use Rattle.apollo.specs.Frame.{kind, height, entryLength}
+use Rattle.apollo.specs.Log.{slot, filled}
+use Rattle.apollo.specs.Read.{readable, lowest}
+use Rattle.log.specs.Slots.{slotPart}
+use Rattle.log.proofs.Search.{slot-is}
+use Rattle.log.proofs.Frames.{frame-part}
+use Rattle.log_heights.specs.Fetch.{isTall}
+use Rattle.log_heights.specs.Read.{isReadable}
+
+module _ (log x : List ℕ) (r : ℕ) (g : 0 < r) (e : x ≡ slotPart log r) where
+  module _ (k : ℕ) (d : k ≡ kind x) where
+    pub tall-unfilled : (h : ℕ) → (k ≡ 1 → ⊥) → false ≡ isTall log h r
+    unfolding isTall
+    tall-unfilled h n = rw (slot-is log x r g e, ← d, ne-eqb k 1 n)
+
+    pub tall-filled : (h y : ℕ) → k ≡ 1 → y ≡ height x → ltb h y ≡ isTall log h r
+    unfolding isTall
+    tall-filled h y o q = rw (slot-is log x r g e, ← d, eq-eqb k 1 o, q)
+
+-- a slot tested for read
+module _ (x : List ℕ) (h k : ℕ) (d : k ≡ kind x) where
+  pub unfilled : (k ≡ 1 → ⊥) → false ≡ isReadable x h
+  unfolding isReadable
+  unfilled n = rw (← d, ne-eqb k 1 n)
+
+  module _ (y : ℕ) (f : y ≡ height x) (o : k ≡ 1) where
+    pub another : (y ≡ h → ⊥) → false ≡ isReadable x h
+    unfolding isReadable
+    another n = rw (← d, eq-eqb k 1 o, ← f, ne-eqb y h n)
+
+    pub judged : (l : ℕ) → y ≡ h → l ≡ entryLength x → leb l 400 ≡ isReadable x h
+    unfolding isReadable
+    judged l p q = rw (← d, eq-eqb k 1 o, ← f, eq-eqb y h p, q)
+
+-- the slot above lo as the code lends it
+pub readable-slot : (log : List ℕ) (h lo : ℕ) (b : Bool) → b ≡ isReadable (take (512 * lo + 512 - 512 * lo) (drop (512 * lo) log)) h
+    → b ≡ readable log h (lo + 1)
+unfolding isReadable readable slot
+readable-slot log h lo b e = rw add-one (rw (frame-part log (512 * lo)) at e)
+
+-- lowest, from slot lo + 1 upwards to c
+lowest-more : (log : List ℕ) (h lo c : ℕ) → lo < c
+    → lowest log h lo (c - lo) ≡ cond (readable log h (lo + 1)) (lo + 1) (lowest log h (lo + 1) (c - (lo + 1)))
+unfolding lowest
+lowest-more log h lo c g =
+    let q : c - lo ≡ suc (c - (lo + 1)) = omega arith in
+    rw q
+
+pub lowest-here : (log : List ℕ) (h lo c : ℕ) → lo < c → true ≡ readable log h (lo + 1) → lo + 1 ≡ lowest log h lo (c - lo)
+lowest-here log h lo c g e = rw (lowest-more log h lo c g, ← e)
+
+pub lowest-above : (log : List ℕ) (h lo c : ℕ) → lo < c → false ≡ readable log h (lo + 1)
+    → lowest log h (lo + 1) (c - (lo + 1)) ≡ lowest log h lo (c - lo)
+lowest-above log h lo c g e = rw (lowest-more log h lo c g, ← e)
+
+pub lowest-none : (log : List ℕ) (h lo c : ℕ) → c ≤ lo → 0 ≡ lowest log h lo (c - lo)
+unfolding lowest
+lowest-none log h lo c g =
+    let z : c - lo ≡ 0 = omega arith in
+    rw z

@@ -1,0 +1,86 @@
+// Slots of a log by height: the lowest readable, and the chain frames above a height.
+ghost use mathlib.Core.Path.{_≡_};
+ghost use Prim.Native.Nat.{_+_, _*_, _/_, _≤_, _<_, min};
+ghost use mathlib.Core.Bool.{cond};
+ghost use mathlib.Core.List.{_++_, flatten};
+ghost use lib.ListN.{length, take, drop};
+ghost use Rattle.apollo.specs.Log as Log;
+ghost use Rattle.apollo.specs.Read as Read;
+ghost use Rattle.apollo.specs.Fetch.{above};
+ghost use Rattle.log_heights.specs.Fetch.{isTall};
+ghost use Rattle.log_heights.specs.Read.{isReadable};
+
+// Slot x is filled, with height h and an entry length of at most 400.
+fn is_readable(x: &[u8], h: u32) -> bool
+    ensures { λ b. ⌜ b ≡ isReadable (now (x .entry)) h ⌝ }
+{
+    if frame::kind(x) != 1 {
+        return false;
+    }
+    if frame::height(x) != h {
+        return false;
+    }
+    frame::entry_length(x) <= 400
+}
+
+// The lowest such slot up to the committed round, 0 if none.
+pub fn lowest(log: &[u8], h: u32, committed: u32) -> u32
+    requires { ⌜ 512 * committed ≤ length (now log) ⌝ }
+    ensures { λ r. ⌜ r ≡ Read.lowest (now (log .entry)) h 0 committed ⌝ }
+{
+    let mut lo = 0;
+    while lo < committed {
+        let a = 512 * (lo as usize);
+        let e = a + 512;
+        let r = lo + 1;
+        if is_readable(&log[a..e], h) {
+            return r;
+        }
+        lo = r;
+    }
+    0
+}
+
+// Slot r is filled, with a height above h.
+fn is_tall(log: &[u8], h: u32, r: u32) -> bool
+    requires { ⌜ 0 < r ⌝ }
+    ensures { λ b. ⌜ b ≡ isTall (now (log .entry)) h r ⌝ }
+{
+    let x = log::slot(log, r);
+    if frame::kind(x) != 1 {
+        return false;
+    }
+    h < frame::height(x)
+}
+
+// Slot r is copied after the first k frames of out if its height is above h; how many frames out has then.
+fn fetch_slot(log: &[u8], h: u32, r: u32, out: &mut [u8], k: u32) -> u32
+    requires { ⌜ (0 < r) × (512 * r ≤ length (now log)) × (k < r) × (512 * (k + 1) ≤ length (now out)) ⌝ }
+    ensures { λ q. ⌜ (q ≡ cond (isTall (now (log .entry)) h r) (k + 1) k) × (q ≤ k + 1) ⌝ }
+    ensures { λ _. ⌜ now (out .exit) ≡ cond (isTall (now (log .entry)) h r) (Log.store (now (out .entry)) (k + 1) (Log.slot (now (log .entry)) r)) (now (out .entry)) ⌝ }
+{
+    if !is_tall(log, h, r) {
+        return k;
+    }
+    log::store(out, k + 1, log::slot(log, r));
+    k + 1
+}
+
+// The chain frames of height above h are copied to out, in rising round, as many as fit; how many.
+pub fn fetch_frames(log: &[u8], h: u32, last_round: u32, out: &mut [u8]) -> usize
+    requires { ⌜ 512 * «last_round» ≤ length (now log) ⌝ }
+    ensures { λ k. ⌜ k ≡ min (length (above h (Log.chain (now (log .entry)) «last_round»))) (length (now (out .entry)) / 512) ⌝ }
+    ensures { λ k. ⌜ now (out .exit) ≡ flatten (take k (above h (Log.chain (now (log .entry)) «last_round»))) ++ drop (512 * k) (now (out .entry)) ⌝ }
+{
+    let room = out.len() / 512;
+    let mut k = 0;
+    let mut r = 0;
+    while r < last_round {
+        if room <= k as usize {
+            return k as usize;
+        }
+        r += 1;
+        k = fetch_slot(log, h, r, out, k);
+    }
+    k as usize
+}

@@ -1,0 +1,13 @@
+-- `record_ranges::valid_replica` meets its contract. Assumes nothing.
+use borrow.Author.Needs.{needs}
+use Rattle.record_ranges.proofs.Valid.{replica-test}
+use Rattle.record_ranges.proofs.valid_replica.Statement.{statement}
+use Rattle.record_ranges.proofs.valid_replica.Tie as tie
+
+returns : tie.Need-returns
+returns c =
+    replica-test _ _ (c .before .before .valid-setup .ensures) (c .before .valid-rounds .ensures) (c .leads .ensures)
+
+pub valid-replica-spec : {M : Type 1} → statement M
+valid-replica-spec =
+    tie.close (tie.spec (λ c κs. search needs) (λ c κs. search needs) (λ c κs. search needs) returns)
