@@ -28,7 +28,7 @@ pub extern "C" fn apollo_open(
         ≡ openCall id f (timeout .0) («last_round» .0) (now (log .entry)) (now (masks .entry)) (now (entry .entry))
         (now (out .entry)) ⌝ }
 {
-    replica::open(id, f, timeout, last_round, log, masks, entry, out)
+    call_open::open(id, f, timeout, last_round, log, masks, entry, out)
 }
 
 #[no_mangle]
@@ -44,7 +44,7 @@ pub extern "C" fn apollo_branch(
         ≡ branchCall (state replica (now (log .entry)) (now (masks .entry))) (now (frames .entry)) (now (entry .entry))
         (now (out .entry)) ⌝ }
 {
-    replica::branch(replica, log, masks, frames, entry, out)
+    call_branch::branch(replica, log, masks, frames, entry, out)
 }
 
 #[no_mangle]
@@ -60,7 +60,7 @@ pub extern "C" fn apollo_blame(
         ≡ blameCall (state replica (now (log .entry)) (now (masks .entry))) (now (frame .entry)) (now (entry .entry))
         (now (out .entry)) ⌝ }
 {
-    replica::blame(replica, log, masks, frame, entry, out)
+    call_blame::blame(replica, log, masks, frame, entry, out)
 }
 
 #[no_mangle]
@@ -74,14 +74,14 @@ pub extern "C" fn apollo_tick(
     ensures { λ a. ⌜ outcome a (now (log .exit)) (now (masks .exit)) (now (out .exit))
         ≡ tickCall (state replica (now (log .entry)) (now (masks .entry))) (now (entry .entry)) (now (out .entry)) ⌝ }
 {
-    replica::tick(replica, log, masks, entry, out)
+    call_tick::tick(replica, log, masks, entry, out)
 }
 
 #[no_mangle]
 pub extern "C" fn apollo_read(replica: Replica, log: &[u8], height: Height) -> Part
     ensures { λ p. ⌜ p ≡ readCall replica (now (log .entry)) (height .0) .answer ⌝ }
 {
-    reads::read_part(replica, log, height)
+    call_read::read_part(replica, log, height)
 }
 
 #[no_mangle]
@@ -94,7 +94,7 @@ pub extern "C" fn apollo_fetch(
     ensures { λ a. ⌜ fetched a (now (out .exit)) ≡ fetchCall replica (now (log .entry)) (height .0) (now (out .entry)) (a .count) ⌝ }
     ensures { λ a. ⌜ (a .number ≡ 0 → mayCopy replica (now (log .entry)) (height .0) (now (out .entry)) (a .count) ≡ true) ⌝ }
 {
-    reads::fetch(replica, log, height, out)
+    call_fetch::fetch(replica, log, height, out)
 }
 
 #[no_mangle]

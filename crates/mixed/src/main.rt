@@ -162,8 +162,8 @@ fn read(l: Task, r: Replica, log: &[u8]) -> bool {
     let n = l.numbers;
     let height = Height(n[1]);
     let mut number = 0u8;
-    let p = reads::read_part(r, log, height);
-    let x = reads::read(r, log, height, &mut number);
+    let p = call_read::read_part(r, log, height);
+    let x = call_read::read(r, log, height, &mut number);
     print::entry(number, p.start, x.len(), log)
 }
 
@@ -172,7 +172,7 @@ fn fetch(l: Task, r: Replica, log: &[u8], out: &mut [u8]) -> bool {
     let n = l.numbers;
     let height = Height(n[1]);
     let s = l.sizes;
-    let x = reads::fetch(r, log, height, front(out, s[4]));
+    let x = call_fetch::fetch(r, log, height, front(out, s[4]));
     print::fetched(x, log, slices::part(out, 0, s[4]))
 }
 
@@ -199,10 +199,10 @@ fn answer(
     out: &mut [u8],
 ) -> Answer {
     match letter {
-        b'o' => replica::open(r.id, r.f, r.timeout, r.last_round, log, masks, entry, out),
-        b't' => replica::tick(r, log, masks, entry, out),
-        b'v' => replica::blame(r, log, masks, frames, entry, out),
-        _ => replica::branch(r, log, masks, frames, entry, out),
+        b'o' => call_open::open(r.id, r.f, r.timeout, r.last_round, log, masks, entry, out),
+        b't' => call_tick::tick(r, log, masks, entry, out),
+        b'v' => call_blame::blame(r, log, masks, frames, entry, out),
+        _ => call_branch::branch(r, log, masks, frames, entry, out),
     }
 }
 

@@ -152,10 +152,10 @@ fn answer(
     let timeout = Ticks(2);
     let last = Round(6);
     match letter {
-        b'o' => replica::open(i, 1, timeout, last, log, masks, entry, out),
-        b't' => replica::tick(r, log, masks, entry, out),
-        b'b' => replica::branch(r, log, masks, x, entry, out),
-        _ => replica::blame(r, log, masks, x, entry, out),
+        b'o' => call_open::open(i, 1, timeout, last, log, masks, entry, out),
+        b't' => call_tick::tick(r, log, masks, entry, out),
+        b'b' => call_branch::branch(r, log, masks, x, entry, out),
+        _ => call_blame::blame(r, log, masks, x, entry, out),
     }
 }
 

@@ -1,0 +1,45 @@
+// The call open. The answer and the lent buffers are those of the definition, refused or not.
+use apollo::Answer;
+use apollo::Replica;
+use apollo::Round;
+use apollo::Ticks;
+ghost use mathlib.Core.Path.{_≡_};
+ghost use lib.ListN.{length};
+ghost use Rattle.apollo.specs.Bytes.{zeros};
+ghost use Rattle.apollo.specs.Calls.{outcome, openCall};
+
+// All masks are zeroed.
+fn clear_masks(masks: &mut [u16])
+    ensures { λ _. ⌜ now (masks .exit) ≡ zeros (length (now (masks .entry))) ⌝ }
+{
+    let mut i = 0;
+    while i < masks.len() {
+        masks[i] = 0;
+        i += 1;
+    }
+}
+
+// Opens a replica: log and masks are zeroed, and round 1 is entered.
+pub fn open(
+    id: u8,
+    f: u8,
+    timeout: Ticks,
+    last_round: Round,
+    log: &mut [u8],
+    masks: &mut [u16],
+    entry: &[u8],
+    out: &mut [u8],
+) -> Answer
+    ensures { λ a. ⌜ outcome a (now (log .exit)) (now (masks .exit)) (now (out .exit))
+        ≡ openCall id f (timeout .0) («last_round» .0) (now (log .entry)) (now (masks .entry)) (now (entry .entry))
+        (now (out .entry)) ⌝ }
+{
+    let r = record::fresh(id, f, timeout, last_round);
+    let number = refusals::of_open(r, log, masks, entry.len(), out.len());
+    if number != 0 {
+        return calls::refused(record::zero_replica(), number, 0);
+    }
+    slices::clear(log);
+    clear_masks(masks);
+    rounds::enter_round(r, log, entry, out)
+}

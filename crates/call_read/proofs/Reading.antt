@@ -1,0 +1,58 @@
+-- Read as the code answers it. Assumes nothing.
+use mathlib.Core.Path.{_≡_, refl, sym, _∙_}
+use mathlib.Core.Bool.{Bool, true, false, not, cond}
+use mathlib.Core.List.{List}
+use Prim.Native.Nat.{ℕ, _+_, _-_, _*_, _≤_, _<_}
+use native.Mathlib.Omega.{arith}
+use lib.Dec.{eqb}
+use lib.ListN.{length}
+use borrow.Author.Tests.{eq-eqb, ne-eqb}
+use Rattle.apollo.specs.declared.Replica.{Replica}
+use Rattle.apollo.specs.declared.Part.{Part}
+use Rattle.apollo.specs.Bytes.{part}
+use Rattle.apollo.specs.Frame.{entryLength}
+use Rattle.apollo.specs.Log.{slot}
+use Rattle.apollo.specs.Replica.{validReplica}
+use Rattle.apollo.specs.Read.{ReadOutcome, partOf, lowest, readCall}
+use Rattle.apollo.proofs.Validity.{Valid, valid}
+use Rattle.log.specs.Slots.{slotPart}
+use Rattle.log.proofs.Search.{slot-part}
+use Rattle.call_read.specs.Answers.{noPart, entryPart}
+
+pub entry-found : (log x : List ℕ) (r l : ℕ) → 0 < r → x ≡ slotPart log r → l ≡ entryLength x
+    → _≡_ {A = Part} (record { number = 0; start = 512 * (r - 1) + 44; length = l }) (entryPart log r)
+entry-found log x r l h e d = rw (d, e, slot-part log r h)
+
+module _ (r : Replica) (log : List ℕ) (h : ℕ) (v : Bool) (e : v ≡ validReplica r log) where
+  pub read-invalid : v ≡ false → noPart 2 ≡ readCall r log h .answer
+  unfolding readCall
+  read-invalid f = rw (← e, f)
+
+  -- a log of T slots has all rounds up to the committed one
+  pub committed-fits : v ≡ true → 512 * r .«committed_round» .0 ≤ length log
+  committed-fits t =
+      let w : Valid r log = valid r log (sym e ∙ t) in
+      omega (arith, w .setup .size, w .round-most, w .tip-below, w .committed-most)
+
+  module _ (t : v ≡ true) (q : ℕ) (d : q ≡ lowest log h 0 (r .«committed_round» .0)) where
+    pub read-absent : q ≡ 0 → noPart 15 ≡ readCall r log h .answer
+    unfolding readCall
+    read-absent z = rw (← e, t, ← d, eq-eqb q 0 z)
+
+    pub read-found : (q ≡ 0 → ⊥) → entryPart log q ≡ readCall r log h .answer
+    unfolding readCall
+    read-found n = rw (← e, t, ← d, ne-eqb q 0 n)
+
+-- the bytes shown are those of the part
+shown : (log : List ℕ) (a b : Bool) (m n k s l : ℕ) → (o : ReadOutcome)
+    → o ≡ cond a (partOf log m 0 0) (cond b (partOf log n 0 0) (partOf log k s l))
+    → part log (o .answer .start) (o .answer .length) ≡ o .bytes
+shown log true b m n k s l o e = rw e
+shown log false true m n k s l o e = rw e
+shown log false false m n k s l o e = rw e
+
+pub read-bytes : (r : Replica) (log : List ℕ) (h : ℕ) → part log (readCall r log h .answer .start) (readCall r log h .answer .length) ≡ readCall r log h .bytes
+unfolding readCall
+read-bytes r log h =
+    let q : ℕ = lowest log h 0 (r .«committed_round» .0) in
+    shown log (not (validReplica r log)) (eqb q 0) 2 15 0 (512 * (q - 1) + 44) (entryLength (slot log q)) (readCall r log h) refl
