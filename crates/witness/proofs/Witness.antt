@@ -1,303 +1,244 @@
--- A list of calls that meets demand 3's premises, with SHA-256 itself, and commits a block at two replicas. Assumes nothing.
+-- A list of calls that meets demand 3's premises, with SHA-256 itself, where a leader is missing, its round is blamed and skipped, and
+-- two replicas commit a block above it. Assumes nothing.
 use Prim.Native.Nat.{ℕ}
 use mathlib.Core.Path.{_≡_, refl, sym, ap, _∙_, subst}
 use mathlib.Core.Logic.{_⊎_, inl, inr}
-use mathlib.Core.Option.{Option, none, some}
-use mathlib.Core.List.{List, [], _∷_, _++_, flatten}
-use mathlib.Core.Bool.{Bool, true, false, cond}
+use mathlib.Core.Option.{some}
+use mathlib.Core.List.{List, [], _∷_}
+use mathlib.Core.Bool.{Bool, true, false, not, cond}
 use native.Mathlib.Omega.{arith}
-use lib.Dec.{eqb, ltb}
-use Rattle.sha256.specs.Fips.{sha256}
-use Rattle.apollo.specs.Bytes.{zeros, number2, number4, same}
+use lib.Dec.{eqb}
+use Rattle.apollo.specs.Bytes.{zeros, same}
 use Rattle.apollo.specs.Setup.{Setup, leader}
-use Rattle.apollo.specs.Frame.{kind, signer, round, digest, frames, checked, blockForm, linked, blockHead, sealed, makeBlock}
-use Rattle.apollo.specs.Log.{genesis, slot, store, clearAbove, attach, highest, chain}
-use Rattle.apollo.specs.Masks.{count, gap}
-use Rattle.apollo.specs.Replica.{fresh, leads, validSetup, validReplica}
-use Rattle.apollo.specs.Enter.{State, commitLimit, commit, tipped, waiting, holding, ownBlock, proposing, enterRound}
-use Rattle.apollo.specs.Outcome.{Outcome, taken, guarded}
-use Rattle.apollo.specs.Open.{openWith}
-use Rattle.apollo.specs.Branch.{lastOf, firstUncertified, storeAll, grown, faulty, judged, judgedAll, adopting, placed, branched, branchWith}
-use Rattle.apollo.specs.Calls.{openCall, branchCall}
-use Rattle.agreement.specs.Run.{branch, Call, opening, act, Event, handed, emitted, answered, In, Seen, World, start, bytesIn, framesIn, hand, emit, emittedBy, note, after, opened, answer, callAt, step, run}
+use Rattle.apollo.specs.Frame.{kind, signer, round, digest}
+use Rattle.apollo.specs.Log.{genesis, chain}
+use Rattle.apollo.specs.Masks.{count}
+use Rattle.apollo.specs.Enter.{State}
+use Rattle.agreement.specs.Run.{Act, branch, blame, tick, Call, opening, act, Event, handed, emitted, answered, In, Seen, World, start, uncut, framesIn, emit, answer, run}
 use Rattle.agreement.specs.Premises.{Each, Lawful, Mostly, Unforged, Patient, Distinct, Premises}
 use Rattle.agreement.specs.Claim.{committed, Agreed}
-use Rattle.agreement.proofs.Tests.{same-of}
-use Rattle.blocks.proofs.Blocks.{d1, d2, head1, head2, b1, b2, name1, name2}
 use Rattle.agreement.proofs.Agreement.{agreement}
+use Rattle.blocks.proofs.Blocks.{d1, d3, d4, e0, b1, b3, b4, m0, m2, checked1, checked3, checked4, checked-m0, checked-m2}
+use Rattle.witness.proofs.Answers.{out, log0, all, opened-0, opened-2, first-2, blaming-0, heard-2, skipped-2, skipped-0, last-0, last-2, open-0, open-2, take-1, tick-0, hear-0, tick-2, hear-2, take-3, take-4}
+use Rattle.witness.proofs.Worlds.{given, next, Goes, stay, goes, lawful, unforged, opens, acts}
 
--- f = 1, T = 2, replica 2 missing: replicas 0 and 1 open, and each takes the other's first block
-out : List ℕ
-out = zeros 1024
-
-log1 : List ℕ
-log1 = b1 ++ zeros 512
-
-log2 : List ℕ
-log2 = b1 ++ b2
-
--- a state with R, the tip and the committed block in these rounds, no round skipped
-stateAt : (id round tip done : ℕ) (log : List ℕ) → State
-stateAt id round tip done log =
-    record {
-      replica =
-          record {
-            id = id;
-            f = 1;
-            timeout = record { 0 = 2 };
-            «last_round» = record { 0 = 2 };
-            round = record { 0 = round };
-            timer = record { 0 = 2 };
-            «tip_round» = record { 0 = tip };
-            «tip_height» = record { 0 = tip };
-            «committed_round» = record { 0 = done };
-            «committed_height» = record { 0 = done };
-          };
-      log = log;
-      masks = zeros 2;
-    }
-
--- the answers of the four calls
-made : State → List (List ℕ) → Outcome
-made c xs = taken (record { state = c; emitted = xs }) out
-
--- all that computes, but for SHA-256 and the test of a check
-all : Unit {0}
-unfolding out log1 log2 stateAt made b1 b2 head1 head2 d1 d2 blockHead zeros number2 number4 same leader frames blockForm linked sealed makeBlock genesis slot store clearAbove attach highest gap fresh leads validSetup validReplica commitLimit commit tipped waiting holding ownBlock proposing enterRound taken guarded openWith lastOf firstUncertified storeAll grown faulty judged judgedAll adopting placed branched branchWith
-all = tt
-
--- each call, for any hash, and then with the digests
-open0-by : (h : List ℕ → List ℕ)
-    → openWith h 0 1 2 2 (zeros 1024) (zeros 2) [] out
-    ≡ made (stateAt 0 2 1 0 (store (zeros 1024) 1 (head1 ++ h head1))) ((head1 ++ h head1) ∷ [])
-unfolding all
-open0-by h = refl
-
-open0 : openCall 0 1 2 2 (zeros 1024) (zeros 2) [] out ≡ made (stateAt 0 2 1 0 log1) (b1 ∷ [])
-unfolding b1 log1 store zeros head1 d1 blockHead
-open0 = open0-by sha256 ∙ ap (λ d. made (stateAt 0 2 1 0 (store (zeros 1024) 1 (head1 ++ d))) ((head1 ++ d) ∷ [])) name1
-
-open1 : openCall 1 1 2 2 (zeros 1024) (zeros 2) [] out ≡ made (stateAt 1 1 0 0 (zeros 1024)) []
-unfolding all
-open1 = refl
-
-checked1 : checked sha256 b1 ≡ true
-unfolding checked b1 head1 blockHead zeros d1
-checked1 = same-of (sym name1)
-
-branch1-by : (h : List ℕ → List ℕ) → checked h b1 ≡ true
-    → branchWith h (stateAt 1 1 0 0 (zeros 1024)) b1 [] out
-    ≡ made (stateAt 1 3 2 1 (store log1 2 (head2 ++ h head2))) ((head2 ++ h head2) ∷ [])
-unfolding all
-branch1-by h e = rw e refl
-
-branch1 : branchCall (stateAt 1 1 0 0 (zeros 1024)) b1 [] out ≡ made (stateAt 1 3 2 1 log2) (b2 ∷ [])
-unfolding b1 b2 log1 log2 store zeros head1 head2 d1 d2 blockHead
-branch1 =
-    branch1-by sha256 checked1 ∙ ap (λ d. made (stateAt 1 3 2 1 (store log1 2 (head2 ++ d))) ((head2 ++ d) ∷ [])) name2
-
-checked2 : checked sha256 b2 ≡ true
-unfolding checked b2 head2 blockHead zeros d1 d2
-checked2 = same-of (sym name2)
-
-branch0 : branchCall (stateAt 0 2 1 0 log1) b2 [] out ≡ made (stateAt 0 3 2 1 log2) []
-unfolding all
-branch0 = rw checked2 refl
-
--- the list, and the worlds that it goes through
+-- The list: f = 1, T = 4, a timeout of one tick; replica 1, the leader of round 2, is missing.
+--   0 opens and emits block 1; 2 opens; 2 takes block 1
+--   0 ticks and blames round 2; 2 hears that
+--   2 ticks and blames round 2, which is now certified: it enters round 3 and emits block 3 on block 1
+--   0 hears that blame and passes round 2; it takes block 3, emits block 4 and commits block 3
+--   2 takes block 4 and commits block 3
 openAt : ℕ → Call
-openAt i = opening i 1 2 2 (zeros 1024) (zeros 2) [] out
+openAt i = opening i 1 1 4 log0 (zeros 4) [] out
 
-take1 : Call
-take1 = act (branch b1 [] out)
+taking : List ℕ → Act
+taking b = branch b [] out
 
-take2 : Call
-take2 = act (branch b2 [] out)
+hearing : List ℕ → Act
+hearing m = blame m [] out
+
+ticking : Act
+ticking = tick [] out
 
 pub calls : List (ℕ × Call)
-calls = (0, openAt 0) ∷ (1, openAt 1) ∷ (1, take1) ∷ (0, take2) ∷ []
+calls =
+    (0, openAt 0) ∷ (2, openAt 2) ∷ (2, act (taking b1)) ∷ (0, act ticking) ∷ (2, act (hearing m0)) ∷ (2, act ticking)
+    ∷ (0, act (hearing m2)) ∷ (0, act (taking b3)) ∷ (2, act (taking b4)) ∷ []
 
-put : ℕ → State → (ℕ → Option State) → ℕ → Option State
-put i c states j = cond (eqb i j) (some c) (states j)
-
+-- the worlds that it goes through
 w1 : World
-w1 = record { states = put 0 (stateAt 0 2 1 0 log1) (λ i. none); past = answered 0 ∷ emitted 0 b1 ∷ [] }
+w1 = next start 0 [] opened-0 (b1 ∷ [])
 
 w2 : World
-w2 = record { states = put 1 (stateAt 1 1 0 0 (zeros 1024)) (w1 .states); past = answered 0 ∷ w1 .past }
+w2 = next w1 2 [] opened-2 []
 
 w3 : World
-w3 = record { states = put 1 (stateAt 1 3 2 1 log2) (w2 .states); past = answered 0 ∷ emitted 1 b2 ∷ handed b1 ∷ w2 .past }
+w3 = next w2 2 (b1 ∷ []) first-2 []
 
 w4 : World
-w4 = record { states = put 0 (stateAt 0 3 2 1 log2) (w3 .states); past = answered 0 ∷ handed b2 ∷ w3 .past }
+w4 = next w3 0 [] blaming-0 (m0 ∷ [])
 
--- all that computes of the list
-steps : Unit {0}
-unfolding start bytesIn framesIn hand emit emittedBy note after opened answer callAt step openAt take1 take2 put w1 w2 w3 w4 flatten
-steps = tt
+w5 : World
+w5 = next w4 2 (m0 ∷ []) heard-2 []
 
-step1 : step start 0 (openAt 0) ≡ w1
-unfolding steps
-step1 = ap (opened start 0) open0 ∙ (unfold all in refl)
+w6 : World
+w6 = next w5 2 [] skipped-2 (m2 ∷ b3 ∷ [])
 
-step2 : step w1 1 (openAt 1) ≡ w2
-unfolding steps
-step2 = ap (opened w1 1) open1 ∙ (unfold all in refl)
+w7 : World
+w7 = next w6 0 (m2 ∷ []) skipped-0 []
 
--- a call that hands in one frame with a right check
-handing : World → List ℕ → World
-handing w x = record { states = w .states; past = handed x ∷ w .past }
+w8 : World
+w8 = next w7 0 (b3 ∷ []) last-0 (b4 ∷ [])
 
-hand1 : (past : List Event) → hand (framesIn take1) past ≡ handed b1 ∷ past
-unfolding steps all
-hand1 past = rw checked1 refl
+w9 : World
+w9 = next w8 2 (b4 ∷ []) last-2 []
 
-step3 : step w2 1 take1 ≡ w3
-unfolding steps handing
-step3 =
-    ap (λ es. callAt (record { states = w2 .states; past = es }) 1 (w2 .states 1) take1) (hand1 (w2 .past))
-    ∙ ap (after (handing w2 b1) 1) branch1 ∙ (unfold all in refl)
+worlds : Unit {0}
+unfolding openAt taking hearing ticking calls start given next emit w1 w2 w3 w4 w5 w6 w7 w8 w9
+worlds = tt
 
-hand2 : (past : List Event) → hand (framesIn take2) past ≡ handed b2 ∷ past
-unfolding steps all
-hand2 past = rw checked2 refl
-
-step4 : step w3 0 take2 ≡ w4
-unfolding steps handing
-step4 =
-    ap (λ es. callAt (record { states = w3 .states; past = es }) 0 (w3 .states 0) take2) (hand2 (w3 .past))
-    ∙ ap (after (handing w3 b2) 0) branch0 ∙ (unfold all in refl)
-
-run4 : run start calls ≡ w4
-unfolding run calls
-run4 =
-    ap (λ w. run w ((1, openAt 1) ∷ (1, take1) ∷ (0, take2) ∷ [])) step1 ∙ ap (λ w. run w ((1, take1) ∷ (0, take2) ∷ [])) step2
-    ∙ ap (λ w. run w ((0, take2) ∷ [])) step3 ∙ step4
-
--- what holds of each call in these worlds holds in the list
-each4 : (P : World → ℕ → Call → Type 0) → P start 0 (openAt 0) → P w1 1 (openAt 1) → P w2 1 take1 → P w3 0 take2 → Each P start calls
-unfolding calls
-each4 P p1 p2 p3 p4 = (
-  p1,
-  subst (λ w. Each P w ((1, openAt 1) ∷ (1, take1) ∷ (0, take2) ∷ [])) (sym step1) (
-    p2,
-    subst (λ w. Each P w ((1, take1) ∷ (0, take2) ∷ [])) (sym step2)
-        (p3, subst (λ w. Each P w ((0, take2) ∷ [])) (sym step3) (p4, tt)),
-  ),
-)
-
--- the premises
+-- replicas 0 and 2 are correct
 pub setup : Setup
-setup = record { f = 1; lastRound = 2 }
+setup = record { f = 1; lastRound = 4 }
 
 pub correct : ℕ → Bool
-correct i = ltb i 2
+correct i = not (eqb i 1)
 
-lawful : Each (Lawful setup) start calls
-unfolding steps setup
-lawful =
-    each4 (Lawful setup) (λ _. (refl, refl, refl, refl)) (λ _. (refl, refl, refl, refl)) (stateAt 1 1 0 0 (zeros 1024), refl)
-    (stateAt 0 2 1 0 log1, refl)
+-- a frame was emitted by the replica that it names
+by : (x : List ℕ) (i : ℕ) → signer x ≡ i → emitted (signer x) x ≡ emitted i x
+by x i e = ap (λ k. emitted k x) e
+
+steps : Goes setup correct start calls w9
+unfolding worlds setup framesIn uncut answer all opened-0 opened-2 first-2 blaming-0 heard-2 skipped-2 skipped-0
+steps =
+    opens setup correct start 0 1 log0 (zeros 4) [] opened-0 (b1 ∷ []) refl open-0 (refl, tt)
+    (opens setup correct w1 2 1 log0 (zeros 4) [] opened-2 [] refl open-2 tt
+    (acts setup correct w2 2 (taking b1) opened-2 first-2 (b1 ∷ []) [] refl refl (checked1, tt) (inr (inr (inl (by b1 0 refl))), tt) take-1 tt
+    (acts setup correct w3 0 ticking opened-0 blaming-0 [] (m0 ∷ []) refl refl tt tt tick-0 (refl, tt)
+    (acts setup correct w4 2 (hearing m0) first-2 heard-2 (m0 ∷ []) [] refl refl (checked-m0, tt) (inr (inl (by m0 0 refl)), tt) hear-0 tt
+    (acts setup correct w5 2 ticking heard-2 skipped-2 [] (m2 ∷ b3 ∷ []) refl refl tt tt tick-2 (refl, (refl, tt))
+    (acts setup correct w6 0 (hearing m2) blaming-0 skipped-0 (m2 ∷ []) [] refl refl (checked-m2, tt)
+    (inr (inr (inl (by m2 2 refl))), tt) hear-2 tt
+    (acts setup correct w7 0 (taking b3) skipped-0 last-0 (b3 ∷ []) (b4 ∷ []) refl refl (checked3, tt)
+    (inr (inr (inr (inl (by b3 2 refl)))), tt) take-3 (refl, tt)
+    (acts setup correct w8 2 (taking b4) skipped-2 last-2 (b4 ∷ []) [] refl refl (checked4, tt) (inr (inl (by b4 0 refl)), tt) take-4 tt
+    stay))))))))
 
 mostly : Mostly setup correct
 unfolding setup correct count
 mostly = omega arith
 
-one-frame : (d : Call) (b : List ℕ) → framesIn d ≡ b ∷ [] → (w : World) → In (emitted (signer b) b) (w .past) → Unforged setup correct w 0 d
-one-frame d b e w p x q r l c = go (subst (In x) e q)
-  where
-    go : (x ≡ b) ⊎ ⊥ → In (emitted (signer x) x) (w .past)
-    go (inl z) = subst (λ y. In (emitted (signer y) y) (w .past)) (sym z) p
-    go (inr z) = absurd z
-
-frames1 : framesIn take1 ≡ b1 ∷ []
-unfolding steps all
-frames1 = refl
-
-frames2 : framesIn take2 ≡ b2 ∷ []
-unfolding steps all
-frames2 = refl
-
-signers : (signer b1 ≡ 0) × (signer b2 ≡ 1) × (kind b1 ≡ 1) × (kind b2 ≡ 1)
-unfolding all
-signers = (refl, refl, refl, refl)
-
-unforged : Each (Unforged setup correct) start calls
-unfolding steps
-unforged =
-    each4 (Unforged setup correct) (λ x p. absurd p) (λ x p. absurd p)
-    (one-frame take1 b1 frames1 w2 (inr (inr (inl (ap (λ k. emitted k b1) (signers .0))))))
-    (one-frame take2 b2 frames2 w3 (inr (inl (ap (λ k. emitted k b2) (signers .1)))))
-
--- the frames seen are the two blocks
-abbrev Block : List ℕ → Type 0
-Block x = (x ≡ b1) ⊎ (x ≡ b2)
+-- the frames seen are the three blocks and the two blames
+abbrev Frame : List ℕ → Type 0
+Frame x = (x ≡ b1) ⊎ ((x ≡ b3) ⊎ ((x ≡ b4) ⊎ ((x ≡ m0) ⊎ (x ≡ m2))))
 
 abbrev Known : Event → Type 0
-Known (handed x) = Block x
-Known (emitted i x) = Block x
+Known (handed x) = Frame x
+Known (emitted i x) = Frame x
 Known (answered k) = Unit {0}
 
-abbrev All : List Event → Type 0
-All [] = Unit {0}
-All (e ∷ es) = Known e × All es
+abbrev KnownAll : List Event → Type 0
+KnownAll [] = Unit {0}
+KnownAll (e ∷ es) = Known e × KnownAll es
 
-all-in : (es : List Event) → All es → (e : Event) → In e es → Known e
-all-in [] a e p = absurd p
-all-in (d ∷ es) a e (inl q) = subst Known (sym q) (a .0)
-all-in (d ∷ es) a e (inr q) = all-in es (a .1) e q
+known-in : (es : List Event) → KnownAll es → (e : Event) → In e es → Known e
+known-in [] a e p = absurd p
+known-in (d ∷ es) a e (inl q) = subst Known (sym q) (a .0)
+known-in (d ∷ es) a e (inr q) = known-in es (a .1) e q
+
+is1 : Frame b1
+is1 = inl refl
+
+is3 : Frame b3
+is3 = inr (inl refl)
+
+is4 : Frame b4
+is4 = inr (inr (inl refl))
+
+is0 : Frame m0
+is0 = inr (inr (inr (inl refl)))
+
+is2 : Frame m2
+is2 = inr (inr (inr (inr refl)))
+
+known-all : KnownAll (w9 .past)
+unfolding worlds
+known-all = (tt, (is4, (tt, (is4, (is3, (tt, (is2, (tt, (is3, (is2, (tt, (is0, (tt, (is0, (tt, (is1, (tt, (tt, (is1, tt)))))))))))))))))))
 
 known : (e : Event) → In e (run start calls .past) → Known e
-unfolding steps
-known e p =
-    all-in (w4 .past) (tt, (inr refl, (tt, (inr refl, (inl refl, (tt, (tt, (inl refl, tt)))))))) e
-    (subst (λ (w : World). In e (w .past)) run4 p)
+known e p = known-in (w9 .past) known-all e (subst (λ (w : World). In e (w .past)) (goes setup correct steps) p)
 
-seen : (x : List ℕ) → Seen x (run start calls .past) → Block x
+seen : (x : List ℕ) → Seen x (run start calls .past) → Frame x
 seen x (inl p) = known (handed x) p
 seen x (inr p) = known (emitted (p .0) x) (p .1)
 
+-- blocks and blames of round 2
+record Fields : Type 0 where
+  block-1 : kind b1 ≡ 1
+  block-3 : kind b3 ≡ 1
+  block-4 : kind b4 ≡ 1
+  blame-0 : round m0 ≡ 2
+  blame-2 : round m2 ≡ 2
+
+fields : Fields
+unfolding all
+fields = record { block-1 = refl; block-3 = refl; block-4 = refl; blame-0 = refl; blame-2 = refl }
+
+-- only round 2 was blamed, whose leader is not correct
 patient : Patient setup correct (run start calls)
-patient i x c p k = go (known (emitted i x) p)
+patient i x c p k = of (known (emitted i x) p)
   where
-    go : Block x → correct (leader setup (round x)) ≡ false
-    go (inl e) = absurd (omega (arith, ap kind e, signers .2, k))
-    go (inr e) = absurd (omega (arith, ap kind e, signers .3, k))
+    -- a block is no blame
+    block : (b : List ℕ) → kind b ≡ 1 → x ≡ b → correct (leader setup (round x)) ≡ false
+    block b f e = absurd (omega (arith, ap kind e, f, k))
+
+    blame-2 : (m : List ℕ) → round m ≡ 2 → x ≡ m → correct (leader setup (round x)) ≡ false
+    blame-2 m f e = ap (λ r. correct (leader setup r)) (ap (λ (y : List ℕ). round y) e ∙ f) ∙ (unfold correct leader setup in refl)
+
+    of : Frame x → correct (leader setup (round x)) ≡ false
+    of (inl e) = block b1 (fields .block-1) e
+    of (inr (inl e)) = block b3 (fields .block-3) e
+    of (inr (inr (inl e))) = block b4 (fields .block-4) e
+    of (inr (inr (inr (inl e)))) = blame-2 m0 (fields .blame-0) e
+    of (inr (inr (inr (inr e)))) = blame-2 m2 (fields .blame-2) e
 
 -- the frame with a given digest
 pick : List ℕ → List ℕ
-pick d = cond (same d (zeros 32)) genesis (cond (same d d1) b1 b2)
+pick d = cond (same d (zeros 32)) genesis (cond (same d d1) b1 (cond (same d d3) b3 (cond (same d d4) b4 (cond (same d e0) m0 m2))))
 
-picked : (genesis ≡ pick (digest genesis)) × (b1 ≡ pick (digest b1)) × (b2 ≡ pick (digest b2))
+record Picked : Type 0 where
+  none : genesis ≡ pick (digest genesis)
+  block-1 : b1 ≡ pick (digest b1)
+  block-3 : b3 ≡ pick (digest b3)
+  block-4 : b4 ≡ pick (digest b4)
+  blame-0 : m0 ≡ pick (digest m0)
+  blame-2 : m2 ≡ pick (digest m2)
+
+picked : Picked
 unfolding all pick
-picked = (refl, refl, refl)
+picked = record { none = refl; block-1 = refl; block-3 = refl; block-4 = refl; blame-0 = refl; blame-2 = refl }
 
 pick-is : (x : List ℕ) → (x ≡ genesis) ⊎ Seen x (run start calls .past) → x ≡ pick (digest x)
-pick-is x (inl e) = e ∙ picked .0 ∙ ap (λ y. pick (digest y)) (sym e)
-pick-is x (inr p) = go (seen x p)
+pick-is x p = of-any p
   where
-    go : Block x → x ≡ pick (digest x)
-    go (inl e) = e ∙ picked .1 ∙ ap (λ y. pick (digest y)) (sym e)
-    go (inr e) = e ∙ picked .2 ∙ ap (λ y. pick (digest y)) (sym e)
+    at : (b : List ℕ) → b ≡ pick (digest b) → x ≡ b → x ≡ pick (digest x)
+    at b f e = e ∙ f ∙ ap (λ y. pick (digest y)) (sym e)
+
+    of : Frame x → x ≡ pick (digest x)
+    of (inl e) = at b1 (picked .block-1) e
+    of (inr (inl e)) = at b3 (picked .block-3) e
+    of (inr (inr (inl e))) = at b4 (picked .block-4) e
+    of (inr (inr (inr (inl e)))) = at m0 (picked .blame-0) e
+    of (inr (inr (inr (inr e)))) = at m2 (picked .blame-2) e
+
+    of-any : (x ≡ genesis) ⊎ Seen x (run start calls .past) → x ≡ pick (digest x)
+    of-any (inl e) = at genesis (picked .none) e
+    of-any (inr q) = of (seen x q)
 
 distinct : Distinct (run start calls)
 distinct x y p q e = pick-is x p ∙ ap pick e ∙ sym (pick-is y q)
 
 pub premises : Premises setup correct calls
-premises = record { lawful = lawful; mostly = mostly; unforged = unforged; distinct = distinct; patient = patient }
+premises =
+    record {
+      lawful = lawful setup correct steps;
+      mostly = mostly;
+      unforged = unforged setup correct steps;
+      distinct = distinct;
+      patient = patient;
+    }
 
 -- so demand 3 speaks of it
 pub agreed : Agreed correct (run start calls)
 agreed = agreement setup correct calls premises
 
--- and replicas 0 and 1 have both committed the first block
+-- and replicas 0 and 2 have both committed the blocks of rounds 1 and 3
 abbrev Commits : ℕ → Type 0
-Commits i = (c : State) × (run start calls .states i ≡ some c) × (committed c ≡ b1 ∷ [])
+Commits i = (c : State) × (run start calls .states i ≡ some c) × (committed c ≡ b1 ∷ b3 ∷ [])
 
-pub commits : Commits 0 × Commits 1
-unfolding steps
+pub commits : Commits 0 × Commits 2
+unfolding worlds
 commits = (
-  (stateAt 0 3 2 1 log2, ap (λ (w : World). w .states 0) run4, unfold all committed chain in refl),
-  (stateAt 1 3 2 1 log2, ap (λ (w : World). w .states 1) run4, unfold all committed chain in refl),
+  (last-0, ap (λ (w : World). w .states 0) (goes setup correct steps), unfold all last-0 committed chain in refl),
+  (last-2, ap (λ (w : World). w .states 2) (goes setup correct steps), unfold all last-2 committed chain in refl),
 )
