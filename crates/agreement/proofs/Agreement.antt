@@ -14,7 +14,7 @@ use Rattle.apollo.specs.Frame.{signer, checked}
 use Rattle.apollo.specs.Log.{slot, chain}
 use Rattle.apollo.specs.Enter.{State}
 use Rattle.apollo.specs.Outcome.{Outcome}
-use Rattle.agreement.specs.Run.{Call, opening, act, Event, handed, emitted, In, Seen, World, start, framesIn, hand, note, after, opened, answer, callAt, step, run}
+use Rattle.agreement.specs.Run.{Call, opening, act, handed, emitted, In, Seen, World, start, framesIn, hand, after, opened, answer, callAt, step, run}
 use Rattle.apollo.specs.Calls.{openCall}
 use Rattle.agreement.specs.Premises.{Each, Lawful, Unforged}
 use Rattle.agreement.specs.Claim.{committed, Begins, Agreement, NeverInvalid, OnlyGrows}

@@ -5,7 +5,7 @@ use mathlib.Core.Path.{_≡_, refl, sym, ap, _∙_, subst}
 use mathlib.Core.Logic.{_⊎_, inl, inr}
 use mathlib.Core.Option.{some}
 use mathlib.Core.List.{List, [], _∷_}
-use mathlib.Core.Bool.{Bool, true, false, not, cond}
+use mathlib.Core.Bool.{Bool, false, not, cond}
 use native.Mathlib.Omega.{arith}
 use lib.Dec.{eqb}
 use Rattle.apollo.specs.Bytes.{zeros, same}
@@ -15,7 +15,7 @@ use Rattle.apollo.specs.Log.{genesis, chain}
 use Rattle.apollo.specs.Masks.{count}
 use Rattle.apollo.specs.Enter.{State}
 use Rattle.agreement.specs.Run.{Act, branch, blame, tick, Call, opening, act, Event, handed, emitted, answered, In, Seen, World, start, uncut, framesIn, emit, answer, run}
-use Rattle.agreement.specs.Premises.{Each, Lawful, Mostly, Unforged, Patient, Distinct, Premises}
+use Rattle.agreement.specs.Premises.{Mostly, Patient, Distinct, Premises}
 use Rattle.agreement.specs.Claim.{committed, Agreed}
 use Rattle.agreement.proofs.Agreement.{agreement}
 use Rattle.blocks.proofs.Blocks.{d1, d3, d4, e0, b1, b3, b4, m0, m2, checked1, checked3, checked4, checked-m0, checked-m2}
