@@ -43,7 +43,8 @@ step-grows : (w : World) (i : ℕ) (d : Call) → Grows (w .past) (step w i d .p
 unfolding step callAt opened after
 step-grows w i (opening id f timeout last log masks entry out) =
     let o : Outcome = openCall id f timeout last log masks entry out in
-    by-cond (λ (u : World). Grows (w .past) (u .past)) (eqb (o .answer .number) 0) (λ _. note-grows i o (w .past)) (λ _. note-grows i o (w .past))
+    by-cond (λ (u : World). Grows (w .past) (u .past)) (eqb (o .answer .number) 0) (λ _. note-grows i o (w .past))
+    (λ _. note-grows i o (w .past))
 step-grows w i (act a) = go (w .states i)
   where
     go : (c : Option State) → Grows (w .past) (callAt w i c (act a) .past)

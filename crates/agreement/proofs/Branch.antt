@@ -33,7 +33,9 @@ module _ (hash : List ℕ → List ℕ) (s : Setup) where
 
   faulty-low : (x : List ℕ) → Low (faulty hash s x)
   unfolding faulty
-  faulty-low x = by-cond Low (not (checked hash x)) (λ _. (refl, refl, refl)) (λ _. by-cond Low (not (blockForm s x)) (λ _. (refl, refl, refl)) (λ _. (refl, refl, refl)))
+  faulty-low x =
+      by-cond Low (not (checked hash x)) (λ _. (refl, refl, refl))
+      (λ _. by-cond Low (not (blockForm s x)) (λ _. (refl, refl, refl)) (λ _. (refl, refl, refl)))
 
   judged-low : (k : ℕ) (x : List ℕ) (ys : List (List ℕ)) → Low (judged hash s k x ys .number)
   unfolding judged

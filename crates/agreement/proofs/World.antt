@@ -201,7 +201,8 @@ module _ (s : Setup) where
   unfolding frames
   known-one past bytes k e =
       let one : length bytes / 512 ≡ 1 = omega arith in
-      let whole : (eqb (length bytes % 512) 0 && within 1 (length bytes / 512) 1) ≡ true = ap (λ n. eqb (n % 512) 0 && within 1 (n / 512) 1) e in
+      let whole : (eqb (length bytes % 512) 0 && within 1 (length bytes / 512) 1) ≡ true =
+      ap (λ n. eqb (n % 512) 0 && within 1 (n / 512) 1) e in
       let h : Known s sha256 past (frames 1 bytes) =
       subst (λ n. Known s sha256 past (frames n bytes)) one (known-uncut past 1 bytes k whole) in
       h bytes (inl (sym (take-all 512 bytes (omega arith))))

@@ -152,7 +152,8 @@ module _ (log : List ℕ) (n : ℕ) (holds : Holds log n) (most : n ≤ 6) where
   renewed id =
       let a : highest log (n - 1) ≡ n - 1 = highest-is (n - 1) (omega arith) in
       let b : height (slot log (highest log (n - 1))) ≡ n - 1 =
-      ap (λ k. height (slot log k)) a ∙ ap (λ (x : List ℕ). height x) (holds .slots (n - 1) (omega arith)) ∙ sized (n - 1) (omega arith) .1 in
+      ap (λ k. height (slot log k)) a ∙ ap (λ (x : List ℕ). height x) (holds .slots (n - 1) (omega arith))
+      ∙ sized (n - 1) (omega arith) .1 in
       ap₂ (withCommitted (record-of id n)) a b
 
   pub callable : (id : ℕ) (masks : List ℕ) → id < 3 → n < 6 → length masks ≡ 6 → leads (record-of id n) ≡ false
@@ -299,8 +300,8 @@ module _ (id n : ℕ) (log masks : List ℕ) (l : n < 5) (h : Holds log n) (c : 
           attaches log x n (omega arith) (record {
             below = omega arith;
             found =
-                rw (h .slots n (omega arith))
-                (both (filled (blk n)) (linked (blk n) x) (ap filled (sym (h .slots n (omega arith))) ∙ slot-full log n h (omega arith) n (omega arith) (omega arith)) (child-x .on));
+                both (filled (slot log n)) (linked (slot log n) x) (slot-full log n h (omega arith) n (omega arith) (omega arith))
+                (rw (h .slots n (omega arith)) (child-x .on));
             highest = λ q a b. absurd (omega arith);
           })
 

@@ -23,7 +23,8 @@ use Rattle.apollo.proofs.Slots.{length-zeros}
 use Rattle.apollo.proofs.BenchMade.{child, Child, children, unrelated, blk, Sized, sized, next, Holds, record-of, out, slot-full, renewed, callable, Made, opening, opening-0, opening-1, branch-waits, branch-leads, hears}
 
 -- a block at height 2 on block 1
-on-1 : (log : List ℕ) (n : ℕ) → Holds log n → 1 ≤ n → n ≤ 5 → (x : List ℕ) (r : ℕ) → 1 < r → r ≤ n + 1 → Child r 2 (blk 1) x → ParentIn log x 1
+on-1 : (log : List ℕ) (n : ℕ) → Holds log n → 1 ≤ n → n ≤ 5 → (x : List ℕ) (r : ℕ) → 1 < r → r ≤ n + 1 → Child r 2 (blk 1) x
+    → ParentIn log x 1
 on-1 log n h some-block most x r low top c =
     let e : round x ≡ r = c .at in
     let two : height x ≡ 2 = c .high in
@@ -115,8 +116,10 @@ both-9 : (held : State) (id : ℕ) → Made held id 2 (zeros 6) → id < 2 → B
 unfolding zeros bit setBit leads leader
 both-9 held id made i =
     let led : leads (record-of id 2) ≡ false = ne-eqb 2 id (λ z. omega arith) in (
-      met-9 (blamed held 0 2) id 1 _ (blamed-made held id 2 (zeros 6) made (omega arith) (omega arith) refl led 2 (omega arith) (omega arith) refl) i refl refl,
-      met-9 (twice held 2) id 3 _ (twice-made held id 2 (zeros 6) made (omega arith) (omega arith) refl led 2 (omega arith) (omega arith) refl refl) i refl refl,
+      met-9 (blamed held 0 2) id 1 _
+          (blamed-made held id 2 (zeros 6) made (omega arith) (omega arith) refl led 2 (omega arith) (omega arith) refl) i refl refl,
+      met-9 (twice held 2) id 3 _
+          (twice-made held id 2 (zeros 6) made (omega arith) (omega arith) refl led 2 (omega arith) (omega arith) refl refl) i refl refl,
     )
 
 pub item-9-met : Both9 held-0 0 × Both9 held-1 1
@@ -144,6 +147,10 @@ pub record Met10 (s : State) (m : ℕ) : Type 0 where
   pub above-four : round above ≡ 4
   pub masks-are : (mask (s .masks) 2 ≡ m) × (mask (s .masks) 3 ≡ m)
 
+child-of : (p x : List ℕ) {r h : ℕ} → Child r h p x → round p < round x → childOf p x ≡ true
+unfolding childOf
+child-of p x c l = both (linked p x) (ltb (round p) (round x)) (c .on) (lt-ltb (round p) (round x) l)
+
 module _ (log : List ℕ) (h : Holds log 3) where
   chained : chainRounds log 3 ≡ 1 ∷ 2 ∷ 3 ∷ []
   unfolding chainRounds
@@ -154,7 +161,7 @@ module _ (log : List ℕ) (h : Holds log 3) where
       rw (f1, f2, f3)
 
   held-3-blocks : Held (setup 1 6) log
-  unfolding blocks childOf
+  unfolding blocks
   held-3-blocks =
       let c1 : Child 1 1 (blk 0) (blk 1) = next 0 (omega arith) in
       let c2 : Child 2 2 (blk 1) (blk 2) = next 1 (omega arith) in
@@ -173,9 +180,9 @@ module _ (log : List ℕ) (h : Holds log 3) where
         linked =
             rw (s1, s2, s3)
             (both (block (setup 1 6) (blk 1)) _ (c1 .good)
-            (both (childOf (blk 1) (blk 2)) _ (both (linked (blk 1) (blk 2)) (ltb (round (blk 1)) (round (blk 2))) (c2 .on) (lt-ltb (round (blk 1)) (round (blk 2)) (omega arith)))
+            (both (childOf (blk 1) (blk 2)) _ (child-of (blk 1) (blk 2) c2 (omega arith))
             (both (block (setup 1 6) (blk 2)) _ (c2 .good)
-            (both (childOf (blk 2) (blk 3)) _ (both (linked (blk 2) (blk 3)) (ltb (round (blk 2)) (round (blk 3))) (c3 .on) (lt-ltb (round (blk 2)) (round (blk 3)) (omega arith)))
+            (both (childOf (blk 2) (blk 3)) _ (child-of (blk 2) (blk 3) c3 (omega arith))
             (c3 .good)))));
       }
 
@@ -214,5 +221,5 @@ item-10-met =
     let two : Made (twice held-3 2) 1 3 (0 ∷ 3 ∷ 0 ∷ 0 ∷ 0 ∷ 0 ∷ []) =
     twice-made held-3 1 3 (zeros 6) made-3 (omega arith) (omega arith) refl refl 2 (omega arith) (omega arith) refl refl in
     let three : Made (twice (twice held-3 2) 3) 1 3 (0 ∷ 3 ∷ 3 ∷ 0 ∷ 0 ∷ 0 ∷ []) =
-    twice-made (twice held-3 2) 1 3 (0 ∷ 3 ∷ 0 ∷ 0 ∷ 0 ∷ 0 ∷ []) two (omega arith) (omega arith) refl refl 3 (omega arith) (omega arith) refl refl in
-    (met-10 held-3 0 (zeros 6) made-3 refl refl refl, met-10 (twice (twice held-3 2) 3) 3 (0 ∷ 3 ∷ 3 ∷ 0 ∷ 0 ∷ 0 ∷ []) three refl refl refl)
+    twice-made (twice held-3 2) 1 3 _ two (omega arith) (omega arith) refl refl 3 (omega arith) (omega arith) refl refl in
+    (met-10 held-3 0 (zeros 6) made-3 refl refl refl, met-10 (twice (twice held-3 2) 3) 3 _ three refl refl refl)

@@ -141,7 +141,7 @@ pub record BenchSheet : Type 0 where
       × (s .replica .timeout .0 ≡ 2 → (number (tickCall s entry out) ≡ 0) × (tickCall s entry out .answer .frames ≡ 0)
       × Blames (setupOf (s .replica)) (tickCall (after (tickCall s entry out)) entry′ out′) (s .replica .id)
       (s .replica .round .0))
-  -- Taken only if round 2 is not committed, or the answer is 12. With R = 3 and f = 1 no call commits it.
+  -- It is taken if round 2 is not committed, else 12 may be the answer; with R = 3 and f = 1 no call commits it.
   pub item-9 : (s : State) (x entry out : List ℕ) → Item9 s x out → length entry ≤ 400
       → (mask (s .masks) 2 ≡ 1 → (number (branchCall s x entry out) ≡ 13) × (place (branchCall s x entry out) ≡ 2))
       × (mask (s .masks) 2 ≡ 3 → s .replica .«committed_round» .0 ≤ 1 → (number (branchCall s x entry out) ≡ 0)
