@@ -15,14 +15,15 @@ use Rattle.apollo.specs.Frame.{signer, checked}
 use Rattle.apollo.specs.Log.{slot, chain}
 use Rattle.apollo.specs.Enter.{State}
 use Rattle.apollo.specs.Outcome.{Outcome}
-use Rattle.agreement.specs.Run.{Call, opening, act, Event, handed, emitted, In, Seen, World, start, framesIn, hand, note, after, opened, answer, callAt, step, run}
+use Rattle.agreement.specs.Run.{Call, opening, act, handed, emitted, In, Seen, World, start, framesIn, hand, after, opened, answer, callAt, step, run}
 use Rattle.apollo.specs.Calls.{openCall}
 use Rattle.agreement.specs.Premises.{Each, Lawful, Unforged}
 use Rattle.agreement.specs.Claim.{committed, Begins, Agreement, NeverInvalid, OnlyGrows}
-use Rattle.agreement.proofs.Tests.{by-cond}
+use Rattle.agreement.proofs.Tests.{and-true, by-cond}
 use Rattle.agreement.proofs.Slots.{chain-slots, chain-more}
 use Rattle.agreement.proofs.Past.{Grows, hand-grows, Given, hand-back}
 use Rattle.agreement.proofs.Good.{Extends}
+use Rattle.agreement.proofs.Valid.{valid}
 use Rattle.agreement.proofs.World.{Inv, Stepped, note-grows, note-handed, step-stepped, start-inv, run-inv}
 use Rattle.agreement.proofs.Honest.{Honest, same-committed, no-revert, emitted-stands}
 
@@ -38,32 +39,37 @@ begins c d l e =
 begins-trans : (xs ys zs : List (List ℕ)) → Begins xs ys → Begins ys zs → Begins xs zs
 begins-trans xs ys zs p q = (p .0 ++ q .0, q .1 ∙ ap (λ us. us ++ q .0) (p .1) ∙ append-assoc xs (p .0) (q .0))
 
--- the past grew, with no frame handed in
-abbrev Added : List Event → List Event → Type 0
-Added past now = Grows past now × ((x : List ℕ) → In (handed x) now → In (handed x) past)
-
-noted : (i : ℕ) (o : Outcome) (past : List Event) → Added past (note i o past)
-noted i o past = (note-grows i o past, note-handed i o past)
-
-call-added : (w : World) (i : ℕ) (c : Option State) (d : Call) → Added (w .past) (callAt w i c d .past)
-unfolding callAt opened after
-call-added w i c (opening id f timeout last log masks entry out) =
-    let o : Outcome = openCall id f timeout last log masks entry out in
-    by-cond (λ (u : World). Added (w .past) (u .past)) (eqb (o .answer .number) 0) (λ _. noted i o (w .past)) (λ _. noted i o (w .past))
-call-added w i none (act a) = (λ e p. p, λ x p. p)
-call-added w i (some c) (act a) = noted i (answer c a) (w .past)
-
+-- the past grew
 step-grows : (w : World) (i : ℕ) (d : Call) → Grows (w .past) (step w i d .past)
-unfolding step
-step-grows w i d e p =
-    call-added (record { states = w .states; past = hand (framesIn d) (w .past) }) i (w .states i) d .0 e (hand-grows (framesIn d) (w .past) e p)
+unfolding step callAt opened after
+step-grows w i (opening id f timeout last log masks entry out) =
+    let o : Outcome = openCall id f timeout last log masks entry out in
+    by-cond (λ (u : World). Grows (w .past) (u .past)) (eqb (o .answer .number) 0) (λ _. note-grows i o (w .past))
+    (λ _. note-grows i o (w .past))
+step-grows w i (act a) = go (w .states i)
+  where
+    go : (c : Option State) → Grows (w .past) (callAt w i c (act a) .past)
+    go none e p = p
+    go (some c) e p = note-grows i (answer c a) (hand (framesIn c a) (w .past)) e (hand-grows (framesIn c a) (w .past) e p)
 
-step-handed : (w : World) (i : ℕ) (d : Call) (x : List ℕ) → In (handed x) (step w i d .past)
-    → In (handed x) (w .past) ⊎ Given (handed x) (framesIn d)
-unfolding step
-step-handed w i d x p =
-    hand-back (framesIn d) (w .past) (handed x)
-    (call-added (record { states = w .states; past = hand (framesIn d) (w .past) }) i (w .states i) d .1 x p)
+-- a frame handed in was handed in before, or by this call
+abbrev Handed : World → ℕ → Call → List ℕ → Type 0
+Handed w i (opening id f timeout last log masks entry out) x = In (handed x) (w .past)
+Handed w i (act a) x = In (handed x) (w .past) ⊎ ((c : State) × (w .states i ≡ some c) × Given (handed x) (framesIn c a))
+
+step-handed : (w : World) (i : ℕ) (d : Call) (x : List ℕ) → In (handed x) (step w i d .past) → Handed w i d x
+unfolding step callAt opened after
+step-handed w i (opening id f timeout last log masks entry out) x =
+    let o : Outcome = openCall id f timeout last log masks entry out in
+    by-cond (λ (u : World). In (handed x) (u .past) → In (handed x) (w .past)) (eqb (o .answer .number) 0)
+    (λ _. note-handed i o (w .past) x) (λ _. note-handed i o (w .past) x)
+step-handed w i (act a) x = go (w .states i) refl
+  where
+    go : (c : Option State) → w .states i ≡ c → In (handed x) (callAt w i c (act a) .past) → Handed w i (act a) x
+    go none e p = inl p
+    go (some c) e p =
+        ⊎-elim inl (λ q. inr (c, e, q))
+        (hand-back (framesIn c a) (w .past) (handed x) (note-handed i (answer c a) (hand (framesIn c a) (w .past)) x p))
 
 module _ (s : Setup) where
   run-grown : (es : List (ℕ × Call)) (w : World) → Each (Lawful s) w es → Inv s w → (i : ℕ) (c : State) → w .states i ≡ some c
@@ -91,13 +97,14 @@ module _ (s : Setup) where
     step-authentic w i d v u h x (inr p) l c =
         subst (λ k. In (emitted k x) (step w i d .past)) (sym (v .tidy .signed (p .0) x (p .1))) (p .1)
     step-authentic w i d v u h x (inl p) l c =
-        step-grows w i d (emitted (signer x) x)
-        (⊎-elim (λ q. h x (inl q) l c) (λ (q : Given (handed x) (framesIn d)). forged (q .0) (q .1) (q .2) (cc (q .3)))
-        (step-handed w i d x p))
+        step-grows w i d (emitted (signer x) x) (unforged d u (step-handed w i d x p))
       where
-        forged : (y : List ℕ) → In y (framesIn d) → checked sha256 y ≡ true → y ≡ x → In (emitted (signer x) x) (w .past)
-        forged y q r e =
-            u x (subst (λ z. In z (framesIn d)) e q) (ap (checked sha256) (sym e) ∙ r) l c
+        unforged : (d : Call) → Unforged s correct w i d → Handed w i d x → In (emitted (signer x) x) (w .past)
+        unforged (opening id f timeout last log masks entry out) u q = h x (inl q) l c
+        unforged (act a) u (inl q) = h x (inl q) l c
+        unforged (act a) u (inr q) =
+            let e : q .2 .0 ≡ x = cc (q .2 .3) in
+            u (q .0) x (q .1) (subst (λ z. In z (framesIn (q .0) a)) e (q .2 .1)) (ap (checked sha256) (sym e) ∙ q .2 .2) l c
 
     run-authentic : (es : List (ℕ × Call)) (w : World) → Each (Lawful s) w es → Each (Unforged s correct) w es → Inv s w → Authentic w
         → Authentic (run w es)
@@ -152,7 +159,17 @@ agreement s correct calls p =
             inr (begins-by j i d c ed ec (omega arith))
 
 pub never-invalid : NeverInvalid
-never-invalid s calls l = run-inv s calls start l (start-inv s) .valid
+never-invalid s calls l =
+    record {
+      states = λ i c e. and-true _ _ (valid s (w .past) i c (v .good i c e) (v .rests i c e));
+      answers = v .valid;
+    }
+  where
+    w : World
+    w = run start calls
+
+    v : Inv s w
+    v = run-inv s calls start l (start-inv s)
 
 run-append : (es bs : List (ℕ × Call)) (w : World) → run w (es ++ bs) ≡ run (run w es) bs
 unfolding run

@@ -3,7 +3,7 @@ use Prim.Native.Nat.{ℕ, _+_, _-_, _*_, _/_, _%_, _≤_}
 use mathlib.Core.Path.{_≡_, refl, sym, ap, _∙_}
 use mathlib.Core.Option.{Option, none, some}
 use mathlib.Core.List.{List, [], _∷_}
-use mathlib.Core.Bool.{false, not, _&&_}
+use mathlib.Core.Bool.{true, false, not, _&&_}
 use native.Mathlib.Omega.{arith}
 use lib.ListN.{length, take}
 use lib.Dec.{eqb, ltb}
@@ -29,22 +29,24 @@ use Rattle.agreement.proofs.Outcomes.{Fine, taken-fine, refused-fine, r
 
 -- the judgement of frames gives 0, 7, 8 or 9
 module _ (hash : List ℕ → List ℕ) (s : Setup) where
-  abbrev Low : ℕ → Type 0
-  Low k = (eqb k 2 ≡ false) × (eqb k 12 ≡ false)
+  abbrev pub Low : ℕ → Type 0
+  Low k = (eqb k 2 ≡ false) × (eqb k 12 ≡ false) × (eqb k 6 ≡ false)
 
   faulty-low : (x : List ℕ) → Low (faulty hash s x)
   unfolding faulty
-  faulty-low x = by-cond Low (not (checked hash x)) (λ _. (refl, refl)) (λ _. by-cond Low (not (blockForm s x)) (λ _. (refl, refl)) (λ _. (refl, refl)))
+  faulty-low x =
+      by-cond Low (not (checked hash x)) (λ _. (refl, refl, refl))
+      (λ _. by-cond Low (not (blockForm s x)) (λ _. (refl, refl, refl)) (λ _. (refl, refl, refl)))
 
   judged-low : (k : ℕ) (x : List ℕ) (ys : List (List ℕ)) → Low (judged hash s k x ys .number)
   unfolding judged
-  judged-low k x [] = (refl, refl)
+  judged-low k x [] = (refl, refl, refl)
   judged-low k x (y ∷ ys) =
       by-cond (λ (v : Verdict). Low (v .number)) (eqb (faulty hash s y) 0)
-      (λ _. by-cond (λ (v : Verdict). Low (v .number)) (childOf x y) (λ _. judged-low (k + 1) y ys) (λ _. (refl, refl)))
+      (λ _. by-cond (λ (v : Verdict). Low (v .number)) (childOf x y) (λ _. judged-low (k + 1) y ys) (λ _. (refl, refl, refl)))
       (λ _. faulty-low y)
 
-  judgedAll-low : (x : List ℕ) (ys : List (List ℕ)) → Low (judgedAll hash s x ys .number)
+  pub judgedAll-low : (x : List ℕ) (ys : List (List ℕ)) → Low (judgedAll hash s x ys .number)
   unfolding judgedAll
   judgedAll-low x ys =
       by-cond (λ (v : Verdict). Low (v .number)) (eqb (faulty hash s x) 0) (λ _. judged-low 1 x ys) (λ _. faulty-low x)
@@ -118,11 +120,13 @@ module _ (s : Setup) (hash : List ℕ → List ℕ) (wide : (xs : List ℕ) → 
           branch-row s hash x xs
           (ap (λ k. judgedAll hash k x xs .number) (sym (setup-is s i (c .replica) (st .good .fixed))) ∙ e)
 
-  pub branch-fine : (bytes out : List ℕ) → Known s hash past (frames (length bytes / 512) bytes)
+  pub branch-fine : (bytes out : List ℕ)
+      → ((eqb (length bytes % 512) 0 && within 1 (length bytes / 512) (c .replica .«last_round» .0)) ≡ true
+      → Known s hash past (frames (length bytes / 512) bytes))
       → Fine s past i c (branchWith hash c bytes entry out)
   unfolding branchWith
   branch-fine bytes out known =
       guarded-fine s past i c st rests entry out _
       (λ low fits. by-cond (Fine s past i c) (eqb (length bytes % 512) 0 && within 1 (length bytes / 512) (c .replica .«last_round» .0))
-      (λ _. branched-fine out (frames (length bytes / 512) bytes) fits known (frames-whole (length bytes / 512) bytes (omega arith)))
+      (λ e. branched-fine out (frames (length bytes / 512) bytes) fits (known e) (frames-whole (length bytes / 512) bytes (omega arith)))
       (λ _. refused-plain s past i c st rests out 6 0 refl refl))

@@ -20,4 +20,4 @@ pub mod Open
 pub mod World
 pub mod Honest
 pub mod Agreement
-pub mod Witness
+pub mod Cut

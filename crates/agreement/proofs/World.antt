@@ -1,10 +1,10 @@
 -- The invariant of every list of calls that keeps the rules about opens, with SHA-256 as the hash. Assumes nothing.
-use Prim.Native.Nat.{ℕ, _/_, _<_}
+use Prim.Native.Nat.{ℕ, _/_, _%_, _<_}
 use mathlib.Core.Path.{_≡_, refl, sym, ap, _∙_, subst}
 use mathlib.Core.Logic.{_⊎_, inl, inr, _≢_, ⊎-elim}
 use mathlib.Core.Option.{Option, none, some}
 use mathlib.Core.List.{List, [], _∷_}
-use mathlib.Core.Bool.{Bool, true, false, cond}
+use mathlib.Core.Bool.{Bool, true, false, _&&_, cond}
 use native.Mathlib.Omega.{arith}
 use lib.ListN.{length}
 use lib.Seq.{take-all}
@@ -13,14 +13,15 @@ use borrow.Author.Tests.{eqb-true, eqb-false}
 use Rattle.sha256.specs.Fips.{sha256}
 use Rattle.sha256.proofs.Hash.{digest-length}
 use Rattle.apollo.specs.declared.Setup.{Setup}
+use Rattle.apollo.specs.Bytes.{within}
 use Rattle.apollo.specs.Frame.{kind, round, frames, checked}
 use Rattle.apollo.specs.Replica.{leads}
 use Rattle.apollo.specs.Enter.{State}
 use Rattle.apollo.specs.Outcome.{Outcome}
 use Rattle.apollo.specs.Calls.{openCall}
-use Rattle.agreement.specs.Run.{Act, branch, blame, tick, Call, opening, act, Event, handed, emitted, answered, In, Seen, World, start, bytesIn, framesIn, hand, emit, emittedBy, note, stateOf, after, opened, answer, callAt, step, run}
+use Rattle.agreement.specs.Run.{Act, branch, blame, tick, Call, opening, act, Event, handed, emitted, answered, In, Seen, World, start, uncut, framesIn, hand, emit, emittedBy, note, stateOf, after, opened, answer, callAt, step, run}
 use Rattle.agreement.specs.Premises.{Each, Lawful}
-use Rattle.agreement.proofs.Tests.{by-cond}
+use Rattle.agreement.proofs.Tests.{by-cond, cond-true}
 use Rattle.agreement.proofs.Past.{Grows, emitted-is, emit-grows, emit-back, hand-grows, hand-in, Given, hand-back}
 use Rattle.agreement.proofs.Stored.{stored-map}
 use Rattle.agreement.proofs.Good.{Good, good-grows, Extends, extends-refl}
@@ -187,20 +188,31 @@ module _ (s : Setup) where
           reverting = λ p. reverted (note-answered i o (w .past) 12 p);
         }
 
+  -- the frames of a buffer that is not cut are seen
+  known-uncut : (past : List Event) (most : ℕ) (bytes : List ℕ) → Known s sha256 past (uncut most bytes)
+      → (eqb (length bytes % 512) 0 && within 1 (length bytes / 512) most) ≡ true
+      → Known s sha256 past (frames (length bytes / 512) bytes)
+  unfolding uncut
+  known-uncut past most bytes k e = subst (Known s sha256 past) (cond-true _ _ e) k
+
   -- the one frame of a blame is seen
-  known-one : (past : List Event) (bytes : List ℕ) → Known s sha256 past (frames (length bytes / 512) bytes) → length bytes ≡ 512
+  known-one : (past : List Event) (bytes : List ℕ) → Known s sha256 past (uncut 1 bytes) → length bytes ≡ 512
       → checked sha256 bytes ≡ true → Seen bytes past
   unfolding frames
   known-one past bytes k e =
       let one : length bytes / 512 ≡ 1 = omega arith in
-      let h : Known s sha256 past (frames 1 bytes) = subst (λ n. Known s sha256 past (frames n bytes)) one k in
+      let whole : (eqb (length bytes % 512) 0 && within 1 (length bytes / 512) 1) ≡ true =
+      ap (λ n. eqb (n % 512) 0 && within 1 (n / 512) 1) e in
+      let h : Known s sha256 past (frames 1 bytes) =
+      subst (λ n. Known s sha256 past (frames n bytes)) one (known-uncut past 1 bytes k whole) in
       h bytes (inl (sym (take-all 512 bytes (omega arith))))
 
   -- each call other than open keeps the state: the one place that names them
-  act-fine : (past : List Event) (i : ℕ) (c : State) (a : Act) → Known s sha256 past (frames (length (bytesIn a) / 512) (bytesIn a))
-      → Standing s past i c → leads (c .replica) ≡ false → Fine s past i c (answer c a)
-  unfolding answer bytesIn
-  act-fine past i c (branch bytes entry out) k st r = branch-fine s sha256 digest-length past i entry c st r bytes out k
+  act-fine : (past : List Event) (i : ℕ) (c : State) (a : Act) → Known s sha256 past (framesIn c a) → Standing s past i c
+      → leads (c .replica) ≡ false → Fine s past i c (answer c a)
+  unfolding answer framesIn
+  act-fine past i c (branch bytes entry out) k st r =
+      branch-fine s sha256 digest-length past i entry c st r bytes out (known-uncut past (c .replica .«last_round» .0) bytes k)
   act-fine past i c (blame bytes entry out) k st r = blame-fine s sha256 digest-length past i entry c st r bytes out (known-one past bytes k)
   act-fine past i c (tick entry out) k st r = tick-fine s sha256 digest-length past i entry c st r out
 
@@ -263,34 +275,31 @@ module _ (s : Setup) where
                 quiet (inl e) = let z : _≡_ {A = ℕ} 0 1 = cc in absurd (omega arith)
                 quiet (inr q) = unfold emit in q
 
-    call-stepped : (c : Option State) (d : Call) → w .states i ≡ c → Lawful s w i d → Known s sha256 (w .past) (framesIn d)
-        → Stepped w (callAt w i c d)
-    unfolding callAt framesIn
-    call-stepped none (opening id f timeout last log masks entry out) e l k = open-stepped id f timeout last log masks entry out l
-    call-stepped (some c) (opening id f timeout last log masks entry out) e l k = open-stepped id f timeout last log masks entry out l
-    call-stepped none (act a) e l k = absurd (some-none (w .states i) (l .0) e (l .1))
-    call-stepped (some c) (act a) e l k =
-        let fine : Fine s (w .past) i c (answer c a) =
-        act-fine (w .past) i c a k (record { good = v .good i c e; mine = v .mine i c e; tidy = v .tidy }) (v .rests i c e) in
+    act-stepped : (c : State) (a : Act) → w .states i ≡ some c
+        → Stepped w (after (record { states = w .states; past = hand (framesIn c a) (w .past) }) i (answer c a))
+    unfolding after
+    act-stepped c a e =
+        let past : List Event = hand (framesIn c a) (w .past) in
+        let u : World = record { states = w .states; past = past } in
+        let h : Inv u = hand-inv w (framesIn c a) v in
+        let fine : Fine s past i c (answer c a) =
+        act-fine past i c a (λ x p r. inl (hand-in (framesIn c a) (w .past) x p r))
+        (record { good = h .good i c e; mine = h .mine i c e; tidy = h .tidy }) (h .rests i c e) in
         record {
-          inv = after-inv w i (answer c a) v c fine (λ _. v .good i c e);
-          grown = after-grown (answer c a) (λ d h. let q : c ≡ d = cc in subst (λ k. Extends k (stateOf (answer c a))) q (fine .extends));
+          inv = after-inv u i (answer c a) h c fine (λ _. h .good i c e);
+          grown = after-grown (answer c a) (λ d g. let q : c ≡ d = cc in subst (λ k. Extends k (stateOf (answer c a))) q (fine .extends));
         }
+
+    call-stepped : (c : Option State) (d : Call) → w .states i ≡ c → Lawful s w i d → Stepped w (callAt w i c d)
+    unfolding callAt
+    call-stepped none (opening id f timeout last log masks entry out) e l = open-stepped id f timeout last log masks entry out l
+    call-stepped (some c) (opening id f timeout last log masks entry out) e l = open-stepped id f timeout last log masks entry out l
+    call-stepped none (act a) e l = absurd (some-none (w .states i) (l .0) e (l .1))
+    call-stepped (some c) (act a) e l = act-stepped c a e
 
   pub step-stepped : (w : World) (i : ℕ) (d : Call) → Inv w → Lawful s w i d → Stepped w (step w i d)
   unfolding step
-  step-stepped w i d v l =
-      let t : Stepped u (step w i d) =
-      call-stepped u i (hand-inv w (framesIn d) v) _ d refl (lawful d l)
-      (λ x p r. inl (hand-in (framesIn d) (w .past) x p r)) in
-      record { inv = t .inv; grown = t .grown }
-    where
-      u : World
-      u = record { states = w .states; past = hand (framesIn d) (w .past) }
-
-      lawful : (d : Call) → Lawful s w i d → Lawful s (record { states = w .states; past = hand (framesIn d) (w .past) }) i d
-      lawful (opening id f timeout last log masks entry out) p = p
-      lawful (act a) p = p
+  step-stepped w i d v l = call-stepped w i v (w .states i) d refl l
 
   pub start-inv : Inv start
   unfolding start

@@ -1,16 +1,17 @@
--- Demand 3's claim about a whole list of calls, and two facts beyond it.
+-- Demand 3's claim about a whole list of calls, and three facts beyond it.
 use Prim.Native.Nat.{ℕ, _≤_}
 use mathlib.Core.Path.{_≡_}
 use mathlib.Core.Logic.{_⊎_}
 use mathlib.Core.Option.{some}
-use mathlib.Core.List.{List, _++_}
+use mathlib.Core.List.{List, [], _++_}
 use mathlib.Core.Bool.{Bool, true}
 use Rattle.apollo.specs.declared.Setup.{Setup}
 use Rattle.apollo.specs.Frame.{kind, round}
 use Rattle.apollo.specs.Log.{slot, filled, chain}
+use Rattle.apollo.specs.Replica.{validReplica, validMasks}
 use Rattle.apollo.specs.Enter.{State}
-use Rattle.apollo.specs.Refusal.{badReplica, revertsCommitted}
-use Rattle.agreement.specs.Run.{Call, emitted, answered, In, World, start, run}
+use Rattle.apollo.specs.Refusal.{badReplica, badLength, revertsCommitted}
+use Rattle.agreement.specs.Run.{Act, Call, emitted, answered, In, World, start, framesIn, answer, run}
 use Rattle.agreement.specs.Premises.{Each, Lawful, Premises}
 
 -- a replica's "committed list": the frames of its chain up to the committed round
@@ -37,10 +38,16 @@ abbrev pub Agreement : Type 0
 Agreement =
     (s : Setup) (correct : ℕ → Bool) (calls : List (ℕ × Call)) → Premises s correct calls → Agreed correct (run start calls)
 
--- Beyond demand 3, with no premise about honesty or names: no call is answered 2 where the rules about opens are kept
+-- Beyond demand 3, with no premise about honesty or names: no state meets refusal 2, of these calls or of read and fetch
+pub record Valid (w : World) : Type 0 where
+  -- the record of each replica is valid with its log and its masks
+  pub states : (i : ℕ) (c : State) → w .states i ≡ some c
+      → (validReplica (c .replica) (c .log) ≡ true) × (validMasks (c .replica) (c .masks) ≡ true)
+  -- so no call of the list met it
+  pub answers : In (answered badReplica) (w .past) → ⊥
+
 abbrev pub NeverInvalid : Type 0
-NeverInvalid =
-    (s : Setup) (calls : List (ℕ × Call)) → Each (Lawful s) start calls → In (answered badReplica) (run start calls .past) → ⊥
+NeverInvalid = (s : Setup) (calls : List (ℕ × Call)) → Each (Lawful s) start calls → Valid (run start calls)
 
 -- and a replica's committed list only ever grows, whatever anyone sent
 abbrev pub OnlyGrows : Type 0
@@ -48,3 +55,7 @@ OnlyGrows =
     (s : Setup) (calls more : List (ℕ × Call)) → Each (Lawful s) start (calls ++ more)
     → (i : ℕ) (c : State) → run start calls .states i ≡ some c
     → (d : State) × (run start (calls ++ more) .states i ≡ some d) × Begins (committed c) (committed d)
+
+-- The frames of a buffer that a call refuses with 6 are not handed in: what `Unforged` and `Distinct` presume does not speak of them.
+abbrev pub CutHandsNothing : Type 0
+CutHandsNothing = (c : State) (a : Act) → answer c a .answer .number ≡ badLength → framesIn c a ≡ []

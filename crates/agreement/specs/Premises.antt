@@ -45,9 +45,10 @@ module _ (s : Setup) where
 
     -- nothing is "forged": a frame handed in with a right check that names a correct signer was emitted by it earlier
     abbrev pub Unforged : World → ℕ → Call → Type 0
-    Unforged w i d =
-        (x : List ℕ) → In x (framesIn d) → checked sha256 x ≡ true → signer x < replicas s → correct (signer x) ≡ true
-        → In (emitted (signer x) x) (w .past)
+    Unforged w i (opening id f timeout lastRound log masks entry out) = Unit {0}
+    Unforged w i (act a) =
+        (c : State) (x : List ℕ) → w .states i ≡ some c → In x (framesIn c a) → checked sha256 x ≡ true → signer x < replicas s
+        → correct (signer x) ≡ true → In (emitted (signer x) x) (w .past)
 
     -- no correct replica "blamed" (emitted a blame for) a round whose leader is correct
     abbrev pub Patient : World → Type 0

@@ -1,15 +1,16 @@
 -- Demand 3's list of calls, at all replicas in the order in which they came, and the world that it leaves. Read and fetch change
 -- no record, log or masks: they may stand anywhere, and are left out.
-use Prim.Native.Nat.{ℕ, _/_}
+use Prim.Native.Nat.{ℕ, _/_, _%_}
 use mathlib.Core.Path.{_≡_}
 use mathlib.Core.Logic.{_⊎_}
 use mathlib.Core.Option.{Option, none, some}
 use mathlib.Core.List.{List, [], _∷_}
-use mathlib.Core.Bool.{cond}
+use mathlib.Core.Bool.{_&&_, cond}
 use lib.ListN.{length}
 use lib.Dec.{eqb}
 use Rattle.sha256.specs.Fips.{sha256}
-use Rattle.apollo.specs.Frame.{frames, checked}
+use Rattle.apollo.specs.Bytes.{within}
+use Rattle.apollo.specs.Frame.{frames, framesOf, checked}
 use Rattle.apollo.specs.Enter.{State}
 use Rattle.apollo.specs.Outcome.{Outcome}
 use Rattle.apollo.specs.Calls.{openCall, branchCall, blameCall, tickCall}
@@ -49,15 +50,16 @@ pub record World : Type 0 where
 unfoldable pub start : World
 start = record { states = λ i. none; past = [] }
 
--- the bytes that a call hands in, and the whole frames in them, whatever it answers
-unfoldable pub bytesIn : Act → List ℕ
-bytesIn (branch bytes entry out) = bytes
-bytesIn (blame bytes entry out) = bytes
-bytesIn (tick entry out) = []
+-- the frames of a buffer of 1 to `most` whole frames; any other buffer is cut (refusal 6), and no frame is handed in by it
+unfoldable pub uncut : (most : ℕ) (bytes : List ℕ) → List (List ℕ)
+uncut most bytes =
+    cond (eqb (length bytes % 512) 0 && within 1 (length bytes / 512) most) (framesOf bytes) []
 
-unfoldable pub framesIn : Call → List (List ℕ)
-framesIn (opening id f timeout lastRound log masks entry out) = []
-framesIn (act a) = frames (length (bytesIn a) / 512) (bytesIn a)
+-- the frames that a call hands in at a replica in state c, whatever it answers
+unfoldable pub framesIn : State → Act → List (List ℕ)
+framesIn c (branch bytes entry out) = uncut (c .replica .«last_round» .0) bytes
+framesIn c (blame bytes entry out) = uncut 1 bytes
+framesIn c (tick entry out) = []
 
 -- the past after some frames were handed in: those with a right check count
 unfoldable pub hand : List (List ℕ) → List Event → List Event
@@ -95,16 +97,18 @@ answer c (branch bytes entry out) = branchCall c bytes entry out
 answer c (blame bytes entry out) = blameCall c bytes entry out
 answer c (tick entry out) = tickCall c entry out
 
--- a call at replica i with the state that its last call left; without one nothing happens, and the premises rule it out
+-- A call at replica i with the state that its last call left: its frames are handed in, and it is answered. Without a state
+-- nothing happens, and the premises rule it out.
 unfoldable pub callAt : World → ℕ → Option State → Call → World
 callAt w i c (opening id f timeout lastRound log masks entry out) =
     opened w i (openCall id f timeout lastRound log masks entry out)
 callAt w i none (act a) = w
-callAt w i (some c) (act a) = after w i (answer c a)
+callAt w i (some c) (act a) =
+    after (record { states = w .states; past = hand (framesIn c a) (w .past) }) i (answer c a)
 
--- one call at replica i: its frames are handed in, and it is answered
+-- one call at replica i
 unfoldable pub step : World → ℕ → Call → World
-step w i d = callAt (record { states = w .states; past = hand (framesIn d) (w .past) }) i (w .states i) d
+step w i d = callAt w i (w .states i) d
 
 -- the world after a list of calls, each at a replica
 unfoldable pub run : World → List (ℕ × Call) → World

@@ -45,7 +45,7 @@ module _ (entry out : List ℕ) (s : State) (x : List ℕ) (xs : List (List ℕ)
         cond-true _ _ (eq-eqb (firstUncertified (setupOf (s .replica)) (s .masks) a (x ∷ xs)) 0 none-short)
         ∙ cond-false _ _ (different _ _ ne)
 
-    adopts : take (512 * s .replica .«committed_round» .0) (grown (s .log) a (x ∷ xs)) ≡ take (512 * s .replica .«committed_round» .0) (s .log)
+    pub adopts : take (512 * s .replica .«committed_round» .0) (grown (s .log) a (x ∷ xs)) ≡ take (512 * s .replica .«committed_round» .0) (s .log)
         → placed sha256 entry out s x xs (some a) ≡ taken (adopting sha256 entry s a x xs) out
     unfolding placed
     adopts e =
@@ -79,7 +79,7 @@ module _ (s : Setup) (masks x : List ℕ) where
   unfolding firstUncertified gap
   skips-2 e = first-short (gap s masks 1 (round x - 1 - 1)) ∙ ap (λ k. gap s masks 1 (k - 1 - 1)) e
 
-  skips-none : (lo : ℕ) (xs : List (List ℕ)) → round x ≡ lo + 1
+  pub skips-none : (lo : ℕ) (xs : List (List ℕ)) → round x ≡ lo + 1
       → firstUncertified s masks lo (x ∷ xs) ≡ firstUncertified s masks (round x) xs
   unfolding firstUncertified gap
   skips-none lo xs e =
@@ -101,7 +101,7 @@ module _ (log x : List ℕ) (a : ℕ) (above : a < round x) (fit : 512 * round x
       let k : length (clearAbove log a) ≡ length log = length-clear log a (omega arith) in
       length-store (clearAbove log a) (round x) x (omega arith) (omega arith) whole ∙ k
 
-  grown-low : (q : ℕ) → q ≤ a → slot (grown log a (x ∷ [])) q ≡ slot log q
+  pub grown-low : (q : ℕ) → q ≤ a → slot (grown log a (x ∷ [])) q ≡ slot log q
   grown-low q b = grown-other q (omega arith) ∙ clear-low log a q (omega arith) b
 
   grown-between : (q : ℕ) → a < q → q < round x → slot (grown log a (x ∷ [])) q ≡ genesis
@@ -142,15 +142,13 @@ module _ {s : State} {x out : List ℕ} (h : Item9 s x out) (entry : List ℕ) (
   unfolding refused
   uncertified-9 m = (ap number (short-9 m), ap place (short-9 m))
 
-  module _ (m : mask (s .masks) 2 ≡ 3) where
+  module _ (m : mask (s .masks) 2 ≡ 3) (low : s .replica .«committed_round» .0 ≤ 1) where
     taken-9 : branchCall s x entry out ≡ taken (adopting sha256 entry s 1 x []) out
     taken-9 =
         let f : Valid (s .replica) (s .log) = valid (s .replica) (s .log) (h .callable .valid) in
         let size : length (s .log) ≡ 512 * s .replica .«last_round» .0 = f .setup .size in
         let last : s .replica .«last_round» .0 ≡ 6 = h .last in
         let r : round x ≡ 3 = h .round in
-        let tip : s .replica .«tip_round» .0 ≡ 1 = h .tip in
-        let low : s .replica .«committed_round» .0 ≤ s .replica .«tip_round» .0 = f .committed-most in
         at-9
         ∙ adopts entry out s x [] 1
         (skips-1 (setupOf (s .replica)) (s .masks) x (h .round) ∙ cond-true _ _ (mask-3 (setupOf (s .replica)) (s .masks) 2 (h .f) m))

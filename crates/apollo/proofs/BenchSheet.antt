@@ -33,7 +33,7 @@ benchSheet =
           (first-blames c entry l full, second-blames c entry l entry′ out′ l′ room full);
       item-9 =
           λ s x entry out h l.
-          (uncertified-9 h entry l, λ m. (number-9 h entry l m, replica-1 h entry l m, replica-0 h entry l m));
+          (uncertified-9 h entry l, λ m low. (number-9 h entry l m low, replica-1 h entry l m low, replica-0 h entry l m low));
       item-10 =
           λ s entry out h l. (
             committed-10 h,

@@ -1,302 +1,225 @@
--- The premises of items 9 and 10 of the bench sheet can be met: a state and frames for each. Assumes nothing.
+-- The premises of items 9 and 10 of the bench sheet can be met, by states that calls make from open on. Assumes nothing.
 use Prim.Native.Nat.{ℕ, _+_, _≤_, _<_}
-use mathlib.Core.Path.{_≡_, refl, sym, ap, ap₂, _∙_}
+use mathlib.Core.Path.{_≡_, refl, sym, subst}
 use mathlib.Core.List.{List, [], _∷_}
-use mathlib.Core.Bool.{Bool, true, false, _&&_}
+use mathlib.Core.Bool.{true, false}
 use native.Mathlib.Omega.{arith}
-use lib.ListN.{length, length-take, length-drop}
-use lib.Dec.{eqb, ltb}
-use borrow.Author.Tests.{lt-ltb, eq-eqb, ne-eqb, eqb-true, eqb-false}
+use lib.ListN.{length, length-set}
+use lib.Dec.{ltb}
+use borrow.Author.Tests.{lt-ltb, ne-eqb}
 use Rattle.sha256.specs.Fips.{sha256}
-use Rattle.apollo.specs.declared.Replica.{Replica}
-use Rattle.apollo.specs.Bytes.{number4, zeros, same}
+use Rattle.apollo.specs.Bytes.{zeros}
 use Rattle.apollo.specs.Setup.{setupOf, leader, setup}
-use Rattle.apollo.specs.Frame.{kind, round, height, parent, digest, linked, makeBlock}
-use Rattle.apollo.specs.Log.{genesis, slot, filled, store, highest}
-use Rattle.apollo.specs.Masks.{mask}
-use Rattle.apollo.specs.Replica.{leads, withCommitted}
-use Rattle.apollo.specs.Enter.{State, commitLimit, commit}
+use Rattle.apollo.specs.Frame.{round, height, linked, makeBlame}
+use Rattle.apollo.specs.Log.{slot, filled}
+use Rattle.apollo.specs.Masks.{bit, setBit, mask, addBlame}
+use Rattle.apollo.specs.Replica.{leads}
+use Rattle.apollo.specs.Enter.{State}
 use Rattle.apollo.specs.Branch.{childOf}
-use Rattle.apollo.specs.BenchSheet.{chainRounds, Callable, ParentIn, Item9, Item10, Held, block, blocks}
-use Rattle.apollo.proofs.Tests.{both, cond-true, same-of}
-use Rattle.apollo.proofs.Validity.{valid-of}
-use Rattle.apollo.proofs.Slots.{length-zeros, length-store, store-same, store-other}
-use Rattle.apollo.proofs.Made.{block-length, block-made, block-round, block-height, block-kind, block-parent}
-
--- an empty block of replica i for round r at height h on frame p, for f = 1 and T = 6
-child : (i r h : ℕ) (p : List ℕ) → List ℕ
-child i r h p = makeBlock sha256 i r h (digest p) []
-
-record Child (r h : ℕ) (p x : List ℕ) : Type 0 where
-  whole : length x ≡ 512
-  good : block (setup 1 6) x ≡ true
-  at : round x ≡ r
-  high : height x ≡ h
-  full : filled x ≡ true
-  on : linked p x ≡ true
-
-children : (i r h : ℕ) (p : List ℕ) → length p ≡ 512 → i ≡ leader (setup 1 6) r → 1 ≤ r → r ≤ 6 → 1 ≤ h → h ≤ r → height p + 1 ≡ h
-    → Child r h p (child i r h p)
-unfolding child linked
-children i r h p whole led one last low high next =
-    let wide : length (digest p) ≡ 32 = simp (length-take, length-drop, whole) refl in
-    let x : List ℕ = makeBlock sha256 i r h (digest p) [] in
-    let e : height x ≡ h = block-height i r h (digest p) [] wide (omega arith) (omega arith) in
-    record {
-      whole = block-length i r h (digest p) [] wide (omega arith);
-      good = block-made i r h (digest p) [] wide (omega arith) (setup 1 6) led one last (omega arith) low high;
-      at = block-round i r h (digest p) [] wide (omega arith) (omega arith);
-      high = e;
-      full = eq-eqb (kind x) 1 (block-kind i r h (digest p) [] wide (omega arith));
-      on =
-          both (same (digest p) (parent x)) (eqb (height p + 1) (height x))
-          (same-of (sym (block-parent i r h (digest p) [] wide (omega arith)))) (eq-eqb (height p + 1) (height x) (next ∙ sym e));
-    }
-
--- a frame at another height is no parent
-unrelated : (p x : List ℕ) → ¬ (height p + 1 ≡ height x) → (filled p && linked p x) ≡ false
-unfolding linked
-unrelated p x ne =
-    rw (ne-eqb (height p + 1) (height x) ne) (go (filled p) (same (digest p) (parent x)))
-  where
-    go : (a b : Bool) → (a && (b && false)) ≡ false
-    go true true = refl
-    go true false = refl
-    go false b = refl
-
-genesis-length : length genesis ≡ 512
-unfolding genesis
-genesis-length = length-zeros 512
-
-genesis-height : height genesis ≡ 0
-unfolding genesis number4 zeros
-genesis-height = refl
-
-b1 : List ℕ
-b1 = child 0 1 1 genesis
-
-c1 : Child 1 1 genesis b1
-unfolding b1 leader
-c1 = children 0 1 1 genesis genesis-length refl (omega arith) (omega arith) (omega arith) (omega arith) (omega (arith, genesis-height))
-
-b2 : List ℕ
-b2 = child 1 2 2 b1
-
-c2 : Child 2 2 b1 b2
-unfolding b2 leader
-c2 = let e : height b1 ≡ 1 = c1 .high in children 1 2 2 b1 (c1 .whole) refl (omega arith) (omega arith) (omega arith) (omega arith) (omega arith)
-
-b3 : List ℕ
-b3 = child 2 3 3 b2
-
-c3 : Child 3 3 b2 b3
-unfolding b3 leader
-c3 = let e : height b2 ≡ 2 = c2 .high in children 2 3 3 b2 (c2 .whole) refl (omega arith) (omega arith) (omega arith) (omega arith) (omega arith)
-
--- the log with blocks 1, 2 and 3
-log : List ℕ
-log = store (store (store (zeros 3072) 1 b1) 2 b2) 3 b3
-
-record Holds : Type 0 where
-  size : length log ≡ 3072
-  first : slot log 1 ≡ b1
-  second : slot log 2 ≡ b2
-  third : slot log 3 ≡ b3
-
-holds : Holds
-unfolding log
-holds =
-    let l0 : List ℕ = zeros 3072 in
-    let l1 : List ℕ = store l0 1 b1 in
-    let l2 : List ℕ = store l1 2 b2 in
-    let n0 : length l0 ≡ 3072 = length-zeros 3072 in
-    let n1 : length l1 ≡ length l0 = length-store l0 1 b1 (omega arith) (omega arith) (c1 .whole) in
-    let n2 : length l2 ≡ length l1 = length-store l1 2 b2 (omega arith) (omega arith) (c2 .whole) in
-    let n3 : length (store l2 3 b3) ≡ length l2 = length-store l2 3 b3 (omega arith) (omega arith) (c3 .whole) in
-    record {
-      size = omega arith;
-      first =
-          store-other l2 3 b3 1 (omega arith) (omega arith) (c3 .whole) (λ e. omega arith)
-          ∙ store-other l1 2 b2 1 (omega arith) (omega arith) (c2 .whole) (λ e. omega arith)
-          ∙ store-same l0 1 b1 (omega arith) (omega arith) (c1 .whole);
-      second =
-          store-other l2 3 b3 2 (omega arith) (omega arith) (c3 .whole) (λ e. omega arith)
-          ∙ store-same l1 2 b2 (omega arith) (omega arith) (c2 .whole);
-      third = store-same l2 3 b3 (omega arith) (omega arith) (c3 .whole);
-    }
-
--- a record with f = 1, T = 6 and a wait of 2
-abbrev record-of : (id round tip committed : ℕ) → Replica
-record-of id round tip committed =
-    record {
-      id = id;
-      f = 1;
-      timeout = record { 0 = 2 };
-      «last_round» = record { 0 = 6 };
-      round = record { 0 = round };
-      timer = record { 0 = 2 };
-      «tip_round» = record { 0 = tip };
-      «tip_height» = record { 0 = tip };
-      «committed_round» = record { 0 = committed };
-      «committed_height» = record { 0 = committed };
-    }
-
-abbrev state : (id round tip committed m : ℕ) → State
-state id round tip committed m =
-    record { replica = record-of id round tip committed; log = log; masks = 0 ∷ m ∷ m ∷ 0 ∷ 0 ∷ 0 ∷ [] }
-
-callable : (id round tip committed m : ℕ) → id < 3 → 1 ≤ round → round ≤ 6 → tip < round → committed ≤ tip
-    → leads (record-of id round tip committed) ≡ false → Callable (state id round tip committed m) (zeros 1024)
-callable id round tip committed m i low high t c led =
-    record {
-      valid =
-          valid-of (record-of id round tip committed) log (record {
-            setup =
-                record {
-                  id-below = i;
-                  f-least = omega arith;
-                  f-most = omega arith;
-                  timeout-least = omega arith;
-                  timeout-most = omega arith;
-                  last-least = omega arith;
-                  last-most = omega arith;
-                  size = holds .size;
-                };
-            round-least = low;
-            round-most = omega arith;
-            timer-most = omega arith;
-            tip-below = t;
-            tip-height = omega arith;
-            committed-most = c;
-            committed-height-most = c;
-            committed-height = omega arith;
-            waits = led;
-          });
-      lent = refl;
-      running = high;
-      room = omega (arith, length-zeros 1024);
-    }
+use Rattle.apollo.specs.Calls.{branchCall, blameCall}
+use Rattle.apollo.specs.BenchSheet.{chainRounds, after, ParentIn, Item9, Item10, Held, block, blocks}
+use Rattle.apollo.proofs.Tests.{both}
+use Rattle.apollo.proofs.Slots.{length-zeros}
+use Rattle.apollo.proofs.BenchMade.{child, Child, children, unrelated, blk, Sized, sized, next, Holds, record-of, out, slot-full, renewed, callable, Made, opening, opening-0, opening-1, branch-waits, branch-leads, hears}
 
 -- a block at height 2 on block 1
-on-1 : (x : List ℕ) (r : ℕ) → 1 < r → r ≤ 4 → Child r 2 b1 x → ParentIn log x 1
-on-1 x r low top c =
+on-1 : (log : List ℕ) (n : ℕ) → Holds log n → 1 ≤ n → n ≤ 5 → (x : List ℕ) (r : ℕ) → 1 < r → r ≤ n + 1 → Child r 2 (blk 1) x
+    → ParentIn log x 1
+on-1 log n h some-block most x r low top c =
     let e : round x ≡ r = c .at in
-    let h : height x ≡ 2 = c .high in
-    let h2 : height b2 ≡ 2 = c2 .high in
-    let h3 : height b3 ≡ 3 = c3 .high in
+    let two : height x ≡ 2 = c .high in
     record {
       below = omega arith;
-      found = rw (holds .first) (both (filled b1) (linked b1 x) (c1 .full) (c .on));
-      highest = λ q a b. go q (eqb q 2) refl (omega arith) (omega arith) h h2 h3;
-    }
-  where
-    go : (q : ℕ) (t : Bool) → eqb q 2 ≡ t → 1 < q → q < 4 → height x ≡ 2 → height b2 ≡ 2 → height b3 ≡ 3
-        → (filled (slot log q) && linked (slot log q) x) ≡ false
-    go q true t a b h h2 h3 = rw (eqb-true q 2 t, holds .second) (unrelated b2 x (λ z. omega arith))
-    go q false t a b h h2 h3 =
-        let ne : ¬ (q ≡ 2) = eqb-false q 2 t in
-        let three : q ≡ 3 = omega arith in
-        rw (three, holds .third) (unrelated b3 x (λ z. omega arith))
-
--- item 9, at replica 0 and 1, with any mask of round 2
-pub item-9-met : (id m : ℕ) → id < 2
-    → (s : State) × (x : List ℕ) × Item9 s x (zeros 1024) × (s .replica .id ≡ id) × (mask (s .masks) 2 ≡ m)
-unfolding leads leader
-item-9-met id m i =
-    let x : List ℕ = child 2 3 2 b1 in
-    let h1 : height b1 ≡ 1 = c1 .high in
-    let c : Child 3 2 b1 x =
-    children 2 3 2 b1 (c1 .whole) refl (omega arith) (omega arith) (omega arith) (omega arith) (omega arith) in (
-      state id 3 1 0 m,
-      x,
-      record {
-        callable =
-            callable id 3 1 0 m (omega arith) (omega arith) (omega arith) (omega arith) (omega arith)
-            (ne-eqb 2 id (λ z. omega arith));
-        f = refl;
-        last = refl;
-        awaited = refl;
-        tip = refl;
-        form = c .good;
-        round = c .at;
-        parent = on-1 x 3 (omega arith) (omega arith) c;
-      },
-      refl,
-      refl,
-    )
-
-chained : chainRounds log 3 ≡ 1 ∷ 2 ∷ 3 ∷ []
-unfolding chainRounds
-chained =
-    let f1 : filled (slot log 1) ≡ true = ap filled (holds .first) ∙ c1 .full in
-    let f2 : filled (slot log 2) ≡ true = ap filled (holds .second) ∙ c2 .full in
-    let f3 : filled (slot log 3) ≡ true = ap filled (holds .third) ∙ c3 .full in
-    rw (f1, f2, f3)
-
-renewed : record-of 1 4 3 2 ≡ commit (record-of 1 4 3 2) log
-unfolding commit commitLimit highest
-renewed =
-    let a : highest log 2 ≡ 2 = cond-true _ _ (ap filled (holds .second) ∙ c2 .full) in
-    let b : height (slot log (highest log 2)) ≡ 2 =
-    ap (λ k. height (slot log k)) a ∙ ap (λ (x : List ℕ). height x) (holds .second) ∙ c2 .high in
-    sym (ap₂ (withCommitted (record-of 1 4 3 2)) a b)
-
-branch : blocks (setup 1 6) b1 (b2 ∷ b3 ∷ []) ≡ true
-unfolding blocks childOf
-branch =
-    let r1 : round b1 ≡ 1 = c1 .at in
-    let r2 : round b2 ≡ 2 = c2 .at in
-    let r3 : round b3 ≡ 3 = c3 .at in
-    both (block (setup 1 6) b1) _ (c1 .good)
-    (both (childOf b1 b2) _ (both (linked b1 b2) (ltb (round b1) (round b2)) (c2 .on) (lt-ltb (round b1) (round b2) (omega arith)))
-    (both (block (setup 1 6) b2) _ (c2 .good)
-    (both (childOf b2 b3) _ (both (linked b2 b3) (ltb (round b2) (round b3)) (c3 .on) (lt-ltb (round b2) (round b3) (omega arith)))
-    (c3 .good))))
-
-held : Held (setup 1 6) log
-held =
-    record {
-      first = ap (λ (x : List ℕ). round x) (holds .first) ∙ c1 .at;
-      second = ap (λ (x : List ℕ). round x) (holds .second) ∙ c2 .at;
-      third = ap (λ (x : List ℕ). round x) (holds .third) ∙ c3 .at;
-      root = rw (holds .first) (c1 .on);
-      linked = rw (holds .first, holds .second, holds .third) branch;
+      found =
+          both (filled (slot log 1)) (linked (slot log 1) x) (slot-full log n h (omega arith) 1 (omega arith) some-block)
+          (rw (h .slots 1 some-block) (c .on));
+      highest = λ q a b. rw (h .slots q (omega arith)) (unrelated (blk q) x (λ z. omega (arith, sized q (omega arith) .1)));
     }
 
--- item 10, with any mask of rounds 2 and 3
-pub item-10-met : (m : ℕ)
-    → (s : State) × (x y : List ℕ) × Item10 s (zeros 1024) × (block (setupOf (s .replica)) x ≡ true) × (round x ≡ 4)
-    × ParentIn (s .log) x 1 × Held (setupOf (s .replica)) (s .log) × (block (setupOf (s .replica)) y ≡ true)
-    × (linked (slot (s .log) 3) y ≡ true) × (round y ≡ 4) × (mask (s .masks) 2 ≡ m) × (mask (s .masks) 3 ≡ m)
+-- a block for round r on block 1
+aside : (i r : ℕ) → i ≡ leader (setup 1 6) r → 2 ≤ r → r ≤ 6 → Child r 2 (blk 1) (child i r 2 (blk 1))
+aside i r led low most =
+    let s : Sized 1 = sized 1 (omega arith) in
+    let h : height (blk 1) ≡ 1 = s .1 in
+    children i r 2 (blk 1) (s .0) led (omega arith) most (omega arith) low (omega arith)
+
+-- Item 9, at replicas 0 and 1. Each has opened and holds blocks 1 and 2, its own and the other's; it hears one blame for round 2, and
+-- a second; then the block for round 3 on block 1 comes.
+unfoldable pub held-0 : State
+held-0 = after (branchCall (opening 0) (blk 2) [] out)
+
+unfoldable pub held-1 : State
+held-1 = after (branchCall (opening 1) (blk 1) [] out)
+
+unfoldable pub blamed : State → (i r : ℕ) → State
+blamed s i r = after (blameCall s (makeBlame sha256 i r) [] out)
+
+unfoldable pub twice : State → (r : ℕ) → State
+twice s r = blamed (blamed s 0 r) 1 r
+
+-- what item 9 presumes, with mask m for round 2
+pub record Met9 (s : State) (id m : ℕ) : Type 0 where
+  pub block : List ℕ
+  pub item : Item9 s block out
+  pub id-is : s .replica .id ≡ id
+  pub mask-is : mask (s .masks) 2 ≡ m
+  pub low : s .replica .«committed_round» .0 ≤ 1
+
+made-0 : Made held-0 0 2 (zeros 6)
+unfolding held-0 leads leader
+made-0 = branch-waits (opening 0) 0 1 (zeros 6) opening-0 (omega arith) (omega arith) (length-zeros 6) refl refl
+
+made-1 : Made held-1 1 2 (zeros 6)
+unfolding held-1 leads leader
+made-1 = branch-leads (opening 1) 1 0 (zeros 6) opening-1 (omega arith) (omega arith) (length-zeros 6) refl refl refl
+
+met-9 : (s : State) (id m : ℕ) (masks : List ℕ) → Made s id 2 masks → id < 2 → length masks ≡ 6 → mask masks 2 ≡ m → Met9 s id m
 unfolding leads leader
-item-10-met m =
-    let x : List ℕ = child 0 4 2 b1 in
-    let y : List ℕ = child 0 4 4 b3 in
-    let h1 : height b1 ≡ 1 = c1 .high in
-    let h3 : height b3 ≡ 3 = c3 .high in
-    let c : Child 4 2 b1 x =
-    children 0 4 2 b1 (c1 .whole) refl (omega arith) (omega arith) (omega arith) (omega arith) (omega arith) in
-    let d : Child 4 4 b3 y =
-    children 0 4 4 b3 (c3 .whole) refl (omega arith) (omega arith) (omega arith) (omega arith) (omega arith) in (
-      state 1 4 3 2 m,
-      x,
-      y,
-      record {
-        callable = callable 1 4 3 2 m (omega arith) (omega arith) (omega arith) (omega arith) (omega arith) refl;
-        f = refl;
-        id = refl;
-        awaited = refl;
-        tip = refl;
-        chain = chained;
-        renewed = renewed;
-      },
-      c .good,
-      c .at,
-      on-1 x 4 (omega arith) (omega arith) c,
-      held,
-      d .good,
-      rw (holds .third) (d .on),
-      d .at,
-      refl,
-      refl,
+met-9 s id m masks made i lent e =
+    let c : Child 3 2 (blk 1) (child 2 3 2 (blk 1)) = aside 2 3 refl (omega arith) (omega arith) in
+    subst (λ u. Met9 u id m) (sym (made .is)) (record {
+      block = child 2 3 2 (blk 1);
+      item =
+          record {
+            callable =
+                callable (made .log) 2 (made .holds) (omega arith) id masks (omega arith) (omega arith) lent
+                (ne-eqb 2 id (λ z. omega arith));
+            f = refl;
+            last = refl;
+            awaited = refl;
+            form = c .good;
+            round = c .at;
+            parent = on-1 (made .log) 2 (made .holds) (omega arith) (omega arith) (child 2 3 2 (blk 1)) 3 (omega arith) (omega arith) c;
+          };
+      id-is = refl;
+      mask-is = e;
+      low = omega arith;
+    })
+
+-- a replica with blocks 1 to n hears the blames of replicas 0 and 1 for round r
+module _ (s : State) (id n : ℕ) (masks : List ℕ) (made : Made s id n masks) (i : id < 3) (l : n < 5) (lent : length masks ≡ 6)
+    (waits : leads (record-of id n) ≡ false) (r : ℕ) (one : 1 ≤ r) (past : r ≤ n) where
+  blamed-made : bit 0 (mask masks r) ≡ false → Made (blamed s 0 r) id n (addBlame masks r 0)
+  unfolding blamed
+  blamed-made z = hears s id n masks made i l lent waits 0 r (omega arith) one past z
+
+  twice-made : bit 0 (mask masks r) ≡ false → bit 1 (mask (addBlame masks r 0) r) ≡ false
+      → Made (twice s r) id n (addBlame (addBlame masks r 0) r 1)
+  unfolding twice blamed
+  twice-made z u =
+      hears (blamed s 0 r) id n (addBlame masks r 0) (blamed-made z) i l (simp length-set lent) waits 1 r (omega arith) one past u
+
+abbrev Both9 : (held : State) (id : ℕ) → Type 0
+Both9 held id = Met9 (blamed held 0 2) id 1 × Met9 (twice held 2) id 3
+
+both-9 : (held : State) (id : ℕ) → Made held id 2 (zeros 6) → id < 2 → Both9 held id
+unfolding zeros bit setBit leads leader
+both-9 held id made i =
+    let led : leads (record-of id 2) ≡ false = ne-eqb 2 id (λ z. omega arith) in (
+      met-9 (blamed held 0 2) id 1 _
+          (blamed-made held id 2 (zeros 6) made (omega arith) (omega arith) refl led 2 (omega arith) (omega arith) refl) i refl refl,
+      met-9 (twice held 2) id 3 _
+          (twice-made held id 2 (zeros 6) made (omega arith) (omega arith) refl led 2 (omega arith) (omega arith) refl refl) i refl refl,
     )
+
+pub item-9-met : Both9 held-0 0 × Both9 held-1 1
+item-9-met = (both-9 held-0 0 made-0 (omega arith), both-9 held-1 1 made-1 (omega arith))
+
+-- Item 10, at replica 1, which then took block 3: with no blame heard, and with two for each of rounds 2 and 3.
+unfoldable pub held-3 : State
+held-3 = after (branchCall held-1 (blk 3) [] out)
+
+made-3 : Made held-3 1 3 (zeros 6)
+unfolding held-3 leads leader
+made-3 = branch-waits held-1 1 2 (zeros 6) made-1 (omega arith) (omega arith) (length-zeros 6) refl refl
+
+-- what item 10 presumes of a block on block 1 and of one on block 3, with mask m for rounds 2 and 3
+pub record Met10 (s : State) (m : ℕ) : Type 0 where
+  pub aside : List ℕ
+  pub above : List ℕ
+  pub item : Item10 s out
+  pub good : block (setupOf (s .replica)) aside ≡ true
+  pub four : round aside ≡ 4
+  pub parent : ParentIn (s .log) aside 1
+  pub held : Held (setupOf (s .replica)) (s .log)
+  pub above-good : block (setupOf (s .replica)) above ≡ true
+  pub above-child : linked (slot (s .log) 3) above ≡ true
+  pub above-four : round above ≡ 4
+  pub masks-are : (mask (s .masks) 2 ≡ m) × (mask (s .masks) 3 ≡ m)
+
+child-of : (p x : List ℕ) {r h : ℕ} → Child r h p x → round p < round x → childOf p x ≡ true
+unfolding childOf
+child-of p x c l = both (linked p x) (ltb (round p) (round x)) (c .on) (lt-ltb (round p) (round x) l)
+
+module _ (log : List ℕ) (h : Holds log 3) where
+  chained : chainRounds log 3 ≡ 1 ∷ 2 ∷ 3 ∷ []
+  unfolding chainRounds
+  chained =
+      let f1 : filled (slot log 1) ≡ true = slot-full log 3 h (omega arith) 1 (omega arith) (omega arith) in
+      let f2 : filled (slot log 2) ≡ true = slot-full log 3 h (omega arith) 2 (omega arith) (omega arith) in
+      let f3 : filled (slot log 3) ≡ true = slot-full log 3 h (omega arith) 3 (omega arith) (omega arith) in
+      rw (f1, f2, f3)
+
+  held-3-blocks : Held (setup 1 6) log
+  unfolding blocks
+  held-3-blocks =
+      let c1 : Child 1 1 (blk 0) (blk 1) = next 0 (omega arith) in
+      let c2 : Child 2 2 (blk 1) (blk 2) = next 1 (omega arith) in
+      let c3 : Child 3 3 (blk 2) (blk 3) = next 2 (omega arith) in
+      let r1 : round (blk 1) ≡ 1 = c1 .at in
+      let r2 : round (blk 2) ≡ 2 = c2 .at in
+      let r3 : round (blk 3) ≡ 3 = c3 .at in
+      let s1 : slot log 1 ≡ blk 1 = h .slots 1 (omega arith) in
+      let s2 : slot log 2 ≡ blk 2 = h .slots 2 (omega arith) in
+      let s3 : slot log 3 ≡ blk 3 = h .slots 3 (omega arith) in
+      record {
+        first = rw s1 r1;
+        second = rw s2 r2;
+        third = rw s3 r3;
+        root = rw s1 (unfold blk in c1 .on);
+        linked =
+            rw (s1, s2, s3)
+            (both (block (setup 1 6) (blk 1)) _ (c1 .good)
+            (both (childOf (blk 1) (blk 2)) _ (child-of (blk 1) (blk 2) c2 (omega arith))
+            (both (block (setup 1 6) (blk 2)) _ (c2 .good)
+            (both (childOf (blk 2) (blk 3)) _ (child-of (blk 2) (blk 3) c3 (omega arith))
+            (c3 .good)))));
+      }
+
+met-10 : (s : State) (m : ℕ) (masks : List ℕ) → Made s 1 3 masks → length masks ≡ 6 → mask masks 2 ≡ m → mask masks 3 ≡ m → Met10 s m
+unfolding leads leader
+met-10 s m masks made lent two three =
+    let x : List ℕ = child 0 4 2 (blk 1) in
+    let c : Child 4 2 (blk 1) x = aside 0 4 refl (omega arith) (omega arith) in
+    let d : Child 4 4 (blk 3) (blk 4) = next 3 (omega arith) in
+    subst (λ u. Met10 u m) (sym (made .is)) (record {
+      aside = x;
+      above = blk 4;
+      item =
+          record {
+            callable = callable (made .log) 3 (made .holds) (omega arith) 1 masks (omega arith) (omega arith) lent refl;
+            f = refl;
+            id = refl;
+            awaited = refl;
+            tip = refl;
+            chain = chained (made .log) (made .holds);
+            renewed = sym (renewed (made .log) 3 (made .holds) (omega arith) 1);
+          };
+      good = c .good;
+      four = c .at;
+      parent = on-1 (made .log) 3 (made .holds) (omega arith) (omega arith) x 4 (omega arith) (omega arith) c;
+      held = held-3-blocks (made .log) (made .holds);
+      above-good = d .good;
+      above-child = rw (made .holds .slots 3 (omega arith)) (d .on);
+      above-four = d .at;
+      masks-are = (two, three);
+    })
+
+pub item-10-met : Met10 held-3 0 × Met10 (twice (twice held-3 2) 3) 3
+unfolding zeros bit setBit leads leader
+item-10-met =
+    let two : Made (twice held-3 2) 1 3 (0 ∷ 3 ∷ 0 ∷ 0 ∷ 0 ∷ 0 ∷ []) =
+    twice-made held-3 1 3 (zeros 6) made-3 (omega arith) (omega arith) refl refl 2 (omega arith) (omega arith) refl refl in
+    let three : Made (twice (twice held-3 2) 3) 1 3 (0 ∷ 3 ∷ 3 ∷ 0 ∷ 0 ∷ 0 ∷ []) =
+    twice-made (twice held-3 2) 1 3 _ two (omega arith) (omega arith) refl refl 3 (omega arith) (omega arith) refl refl in
+    (met-10 held-3 0 (zeros 6) made-3 refl refl refl, met-10 (twice (twice held-3 2) 3) 3 _ three refl refl refl)

@@ -10,4 +10,5 @@ pub mod BenchTicks
 pub mod BenchOpen
 pub mod BenchBranches
 pub mod BenchSheet
+pub mod BenchMade
 pub mod BenchWitness

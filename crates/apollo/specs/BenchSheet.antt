@@ -76,13 +76,12 @@ pub record Blames (s : Setup) (o : Outcome) (i r : ℕ) : Type 0 where
   pub by : signer (o .out) ≡ i
   pub for : round (o .out) ≡ r
 
--- 9: f = 1, T = 6, R = 3, the tip in round 1, x a block for round 3 whose parent is in round 1
+-- 9: f = 1, T = 6, R = 3, x a block for round 3 whose parent is in round 1
 pub record Item9 (s : State) (x out : List ℕ) : Type 0 where
   pub callable : Callable s out
   pub f : s .replica .f ≡ 1
   pub last : s .replica .«last_round» .0 ≡ 6
   pub awaited : s .replica .round .0 ≡ 3
-  pub tip : s .replica .«tip_round» .0 ≡ 1
   pub form : block (setup 1 6) x ≡ true
   pub round : round x ≡ 3
   pub parent : ParentIn (s .log) x 1
@@ -143,9 +142,10 @@ pub record BenchSheet : Type 0 where
       × (s .replica .timeout .0 ≡ 2 → (number (tickCall s entry out) ≡ 0) × (tickCall s entry out .answer .frames ≡ 0)
       × Blames (setupOf (s .replica)) (tickCall (after (tickCall s entry out)) entry′ out′) (s .replica .id)
       (s .replica .round .0))
+  -- It is taken if round 2 is not committed, else 12 may be the answer; with R = 3 and f = 1 no call commits it.
   pub item-9 : (s : State) (x entry out : List ℕ) → Item9 s x out → length entry ≤ 400
       → (mask (s .masks) 2 ≡ 1 → (number (branchCall s x entry out) ≡ 13) × (place (branchCall s x entry out) ≡ 2))
-      × (mask (s .masks) 2 ≡ 3 → (number (branchCall s x entry out) ≡ 0)
+      × (mask (s .masks) 2 ≡ 3 → s .replica .«committed_round» .0 ≤ 1 → (number (branchCall s x entry out) ≡ 0)
       × (s .replica .id ≡ 1 → newRound (branchCall s x entry out) ≡ 4)
       × (s .replica .id ≡ 0 → newRound (branchCall s x entry out) ≡ 5))
   -- the committed round; a block x for round 4 whose parent is in round 1; a child y of the held frame 3 in round 4

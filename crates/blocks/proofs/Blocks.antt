@@ -1,40 +1,115 @@
--- The first blocks of replicas 0 and 1, both with an empty entry, and their digests as SHA-256 computes them. Assumes nothing.
+-- The frames of the witness of demand 3, their digests as SHA-256 computes them: the blocks of rounds 1, 3 and 4, with empty entries,
+-- each on the one before, and the blames of replicas 0 and 2 for round 2. Assumes nothing.
 use Prim.Native.Nat.{ℕ}
-use mathlib.Core.Path.{_≡_, refl}
+use mathlib.Core.Path.{_≡_, refl, sym}
 use mathlib.Core.List.{List, [], _∷_, _++_}
+use mathlib.Core.Bool.{true}
 use Rattle.sha256.specs.Fips.{K, padded, schedule, t1, round, rounds, plus, compress, hash, sha256}
 use Rattle.apollo.specs.Bytes.{zeros}
-use Rattle.apollo.specs.Frame.{blockHead}
+use Rattle.apollo.specs.Frame.{checked, blockHead, blameHead}
+use Rattle.apollo.proofs.Tests.{same-of}
 
--- the digests of the two blocks
+-- the digests of the blocks and of the blames
 unfoldable pub d1 : List ℕ
 d1 =
     0x37 ∷ 0x5b ∷ 0xf9 ∷ 0x05 ∷ 0x66 ∷ 0x8c ∷ 0xc6 ∷ 0x53 ∷ 0x66 ∷ 0xa8 ∷ 0xc3 ∷ 0xa4 ∷ 0x7b ∷ 0x24 ∷ 0xba ∷ 0x94
     ∷ 0x26 ∷ 0xd2 ∷ 0x3d ∷ 0x29 ∷ 0xfc ∷ 0x2d ∷ 0x2a ∷ 0x61 ∷ 0x5f ∷ 0xd1 ∷ 0x30 ∷ 0x93 ∷ 0x2b ∷ 0x11 ∷ 0xbc ∷ 0x60
     ∷ []
 
-unfoldable pub d2 : List ℕ
-d2 =
-    0xbc ∷ 0x4a ∷ 0xf5 ∷ 0xa4 ∷ 0xba ∷ 0x67 ∷ 0x60 ∷ 0xe8 ∷ 0x40 ∷ 0x21 ∷ 0x5f ∷ 0x8a ∷ 0xc8 ∷ 0xa8 ∷ 0x8b ∷ 0x8d
-    ∷ 0x3f ∷ 0x3b ∷ 0xac ∷ 0xc2 ∷ 0xfa ∷ 0x35 ∷ 0xe4 ∷ 0x9b ∷ 0xe6 ∷ 0x88 ∷ 0x4d ∷ 0xe6 ∷ 0x41 ∷ 0x7b ∷ 0x98 ∷ 0xef
+unfoldable pub d3 : List ℕ
+d3 =
+    0x1a ∷ 0x34 ∷ 0xd9 ∷ 0xb2 ∷ 0xad ∷ 0x12 ∷ 0x4d ∷ 0xb7 ∷ 0x24 ∷ 0x69 ∷ 0x09 ∷ 0x05 ∷ 0x36 ∷ 0x44 ∷ 0x15 ∷ 0xd7
+    ∷ 0x88 ∷ 0xc0 ∷ 0xaa ∷ 0xc1 ∷ 0x2d ∷ 0xfb ∷ 0x88 ∷ 0xb2 ∷ 0x4e ∷ 0xfb ∷ 0x77 ∷ 0x26 ∷ 0x78 ∷ 0xa3 ∷ 0x60 ∷ 0xfc
     ∷ []
 
+unfoldable pub d4 : List ℕ
+d4 =
+    0x77 ∷ 0xe5 ∷ 0x43 ∷ 0x5c ∷ 0xea ∷ 0x7e ∷ 0x73 ∷ 0x39 ∷ 0xdd ∷ 0xb0 ∷ 0xac ∷ 0xea ∷ 0x05 ∷ 0xc7 ∷ 0xc8 ∷ 0x67
+    ∷ 0xed ∷ 0x9b ∷ 0x7f ∷ 0xd1 ∷ 0xb2 ∷ 0x52 ∷ 0xc1 ∷ 0x1f ∷ 0x66 ∷ 0xee ∷ 0x24 ∷ 0x34 ∷ 0x6c ∷ 0x9d ∷ 0xd8 ∷ 0xe8
+    ∷ []
+
+unfoldable pub e0 : List ℕ
+e0 =
+    0xc0 ∷ 0x1f ∷ 0xa5 ∷ 0x85 ∷ 0x20 ∷ 0x87 ∷ 0xf2 ∷ 0xaa ∷ 0x48 ∷ 0xe5 ∷ 0xe5 ∷ 0xcd ∷ 0x82 ∷ 0x41 ∷ 0x56 ∷ 0xf8
+    ∷ 0x1d ∷ 0xc3 ∷ 0xca ∷ 0x94 ∷ 0x58 ∷ 0xd1 ∷ 0x4a ∷ 0x21 ∷ 0x89 ∷ 0x9c ∷ 0x45 ∷ 0x0c ∷ 0x5a ∷ 0xd1 ∷ 0x12 ∷ 0xe1
+    ∷ []
+
+unfoldable pub e2 : List ℕ
+e2 =
+    0xa4 ∷ 0x8c ∷ 0x77 ∷ 0x15 ∷ 0x27 ∷ 0x7c ∷ 0xfb ∷ 0x8f ∷ 0x1a ∷ 0xce ∷ 0x1f ∷ 0xb7 ∷ 0x2b ∷ 0x5c ∷ 0x28 ∷ 0x9d
+    ∷ 0xee ∷ 0x65 ∷ 0xf6 ∷ 0xf0 ∷ 0x35 ∷ 0x9a ∷ 0x52 ∷ 0x45 ∷ 0x20 ∷ 0x3c ∷ 0xbf ∷ 0x7e ∷ 0x4d ∷ 0xaa ∷ 0x6d ∷ 0x2b
+    ∷ []
+
+-- bytes 0–479 of each
 unfoldable pub head1 : List ℕ
 head1 = blockHead 0 1 1 (zeros 32) []
 
-unfoldable pub head2 : List ℕ
-head2 = blockHead 1 2 2 d1 []
+unfoldable pub head3 : List ℕ
+head3 = blockHead 2 3 2 d1 []
 
+unfoldable pub head4 : List ℕ
+head4 = blockHead 0 4 3 d3 []
+
+unfoldable pub head-m0 : List ℕ
+head-m0 = blameHead 0 2
+
+unfoldable pub head-m2 : List ℕ
+head-m2 = blameHead 2 2
+
+-- the frames
+unfoldable pub b1 : List ℕ
+b1 = head1 ++ d1
+
+unfoldable pub b3 : List ℕ
+b3 = head3 ++ d3
+
+unfoldable pub b4 : List ℕ
+b4 = head4 ++ d4
+
+unfoldable pub m0 : List ℕ
+m0 = head-m0 ++ e0
+
+unfoldable pub m2 : List ℕ
+m2 = head-m2 ++ e2
+
+-- the digests are right
 pub name1 : sha256 head1 ≡ d1
 unfolding K padded schedule t1 round rounds plus compress hash sha256 head1 d1 blockHead zeros
 name1 = refl
 
-pub name2 : sha256 head2 ≡ d2
-unfolding K padded schedule t1 round rounds plus compress hash sha256 head2 d1 d2 blockHead zeros
-name2 = refl
+pub name3 : sha256 head3 ≡ d3
+unfolding K padded schedule t1 round rounds plus compress hash sha256 head3 d1 d3 blockHead zeros
+name3 = refl
 
-unfoldable pub b1 : List ℕ
-b1 = head1 ++ d1
+pub name4 : sha256 head4 ≡ d4
+unfolding K padded schedule t1 round rounds plus compress hash sha256 head4 d3 d4 blockHead zeros
+name4 = refl
 
-unfoldable pub b2 : List ℕ
-b2 = head2 ++ d2
+pub name-m0 : sha256 head-m0 ≡ e0
+unfolding K padded schedule t1 round rounds plus compress hash sha256 head-m0 e0 blameHead zeros
+name-m0 = refl
+
+pub name-m2 : sha256 head-m2 ≡ e2
+unfolding K padded schedule t1 round rounds plus compress hash sha256 head-m2 e2 blameHead zeros
+name-m2 = refl
+
+-- so the checks are
+pub checked1 : checked sha256 b1 ≡ true
+unfolding checked b1 head1 d1 blockHead zeros
+checked1 = same-of (sym name1)
+
+pub checked3 : checked sha256 b3 ≡ true
+unfolding checked b3 head3 d1 d3 blockHead zeros
+checked3 = same-of (sym name3)
+
+pub checked4 : checked sha256 b4 ≡ true
+unfolding checked b4 head4 d3 d4 blockHead zeros
+checked4 = same-of (sym name4)
+
+pub checked-m0 : checked sha256 m0 ≡ true
+unfolding checked m0 head-m0 e0 blameHead zeros
+checked-m0 = same-of (sym name-m0)
+
+pub checked-m2 : checked sha256 m2 ≡ true
+unfolding checked m2 head-m2 e2 blameHead zeros
+checked-m2 = same-of (sym name-m2)

@@ -1,0 +1,401 @@
+-- States that calls make from open on, with f = 1, T = 6 and a wait of 2: a replica that took the blocks 1, 2, .. in order, with empty
+-- entries, and heard blames for their rounds. Assumes nothing.
+use Prim.Native.Nat.{ℕ, zero, suc, _+_, _-_, _%_, _≤_, _<_}
+use mathlib.Core.Path.{_≡_, refl, sym, ap, ap₂, _∙_, subst}
+use mathlib.Core.List.{List, [], _∷_, append-nil, flatten}
+use mathlib.Core.Option.{some}
+use mathlib.Core.Bool.{Bool, true, false, _&&_, not}
+use native.Mathlib.Numerals.{add-one}
+use native.Mathlib.Omega.{arith}
+use lib.ListN.{length, length-take, length-drop}
+use lib.Dec.{eqb}
+use borrow.Author.Tests.{le-ltb, eq-eqb, ne-eqb, eqb-true, eqb-false}
+use Rattle.sha256.specs.Fips.{sha256}
+use Rattle.apollo.specs.declared.Replica.{Replica}
+use Rattle.apollo.specs.Bytes.{number4, zeros, same}
+use Rattle.apollo.specs.Setup.{leader, setup}
+use Rattle.apollo.specs.Frame.{kind, signer, round, height, parent, digest, linked, sealed, blameHead, makeBlock, makeBlame}
+use Rattle.apollo.specs.Log.{genesis, slot, filled, store, clearAbove, attach, highest}
+use Rattle.apollo.specs.Masks.{bit, mask, addBlame}
+use Rattle.apollo.specs.Replica.{fresh, leads, validSetup, withCommitted}
+use Rattle.apollo.specs.Enter.{State, Effect, commitLimit, commit, tipped, waiting, hearing, holding, ownBlock, proposing, enterRound, settle}
+use Rattle.apollo.specs.Outcome.{taken}
+use Rattle.apollo.specs.Branch.{lastOf, firstUncertified, storeAll, grown, adopting, placed}
+use Rattle.apollo.specs.Blame.{heard, blameWith}
+use Rattle.apollo.specs.Calls.{openCall, branchCall, blameCall}
+use Rattle.apollo.specs.BenchSheet.{after, Callable, block, blocks}
+use Rattle.apollo.proofs.Tests.{both, cond-true, cond-false, same-of}
+use Rattle.apollo.proofs.Validity.{valid-of}
+use Rattle.apollo.proofs.Slots.{length-zeros, length-store, store-same, store-other, length-clear, clear-low, take-slots}
+use Rattle.apollo.proofs.Judging.{passes, fresh-branch, attaches}
+use Rattle.apollo.proofs.Made.{block-length, block-made, block-round, block-height, block-kind, block-parent, blame-length, blame-round, blame-form, blame-checked}
+use Rattle.apollo.proofs.BenchOpen.{open-fits}
+use Rattle.apollo.proofs.BenchBranches.{adopts, skips-none, grown-low}
+
+-- an empty block of replica i for round r at height h on frame p, for f = 1 and T = 6
+pub child : (i r h : ℕ) (p : List ℕ) → List ℕ
+child i r h p = makeBlock sha256 i r h (digest p) []
+
+pub record Child (r h : ℕ) (p x : List ℕ) : Type 0 where
+  pub whole : length x ≡ 512
+  pub good : block (setup 1 6) x ≡ true
+  pub at : round x ≡ r
+  pub high : height x ≡ h
+  pub full : filled x ≡ true
+  pub on : linked p x ≡ true
+
+pub children : (i r h : ℕ) (p : List ℕ) → length p ≡ 512 → i ≡ leader (setup 1 6) r → 1 ≤ r → r ≤ 6 → 1 ≤ h → h ≤ r → height p + 1 ≡ h
+    → Child r h p (child i r h p)
+unfolding child linked
+children i r h p whole led one last low high next =
+    let wide : length (digest p) ≡ 32 = simp (length-take, length-drop, whole) refl in
+    let x : List ℕ = makeBlock sha256 i r h (digest p) [] in
+    let e : height x ≡ h = block-height i r h (digest p) [] wide (omega arith) (omega arith) in
+    record {
+      whole = block-length i r h (digest p) [] wide (omega arith);
+      good = block-made i r h (digest p) [] wide (omega arith) (setup 1 6) led one last (omega arith) low high;
+      at = block-round i r h (digest p) [] wide (omega arith) (omega arith);
+      high = e;
+      full = eq-eqb (kind x) 1 (block-kind i r h (digest p) [] wide (omega arith));
+      on =
+          both (same (digest p) (parent x)) (eqb (height p + 1) (height x))
+          (same-of (sym (block-parent i r h (digest p) [] wide (omega arith)))) (eq-eqb (height p + 1) (height x) (next ∙ sym e));
+    }
+
+-- a frame at another height is no parent
+pub unrelated : (p x : List ℕ) → ¬ (height p + 1 ≡ height x) → (filled p && linked p x) ≡ false
+unfolding linked
+unrelated p x ne =
+    rw (ne-eqb (height p + 1) (height x) ne) (go (filled p) (same (digest p) (parent x)))
+  where
+    go : (a b : Bool) → (a && (b && false)) ≡ false
+    go true true = refl
+    go true false = refl
+    go false b = refl
+
+genesis-length : length genesis ≡ 512
+unfolding genesis
+genesis-length = length-zeros 512
+
+genesis-height : height genesis ≡ 0
+unfolding genesis number4 zeros
+genesis-height = refl
+
+-- block k of the chain, by the leader of round k at height k on the one before; block 0 is the genesis
+unfoldable pub blk : ℕ → List ℕ
+blk zero = genesis
+blk (suc k) = child (k % 3) (k + 1) (k + 1) (blk k)
+
+-- its length and its height
+abbrev pub Sized : ℕ → Type 0
+Sized k = (length (blk k) ≡ 512) × (height (blk k) ≡ k)
+
+linked-from : (k : ℕ) → k < 6 → Sized k → Child (k + 1) (k + 1) (blk k) (blk (suc k))
+unfolding blk leader
+linked-from k low s =
+    let e : height (blk k) ≡ k = s .1 in
+    let led : k % 3 ≡ (k + 1 - 1) % 3 = ap (λ n. n % 3) (let z : k ≡ k + 1 - 1 = omega arith in z) in
+    children (k % 3) (k + 1) (k + 1) (blk k) (s .0) led (omega arith) (omega arith) (omega arith) (omega arith) (omega arith)
+
+pub sized : (k : ℕ) → k ≤ 6 → Sized k
+sized zero l = (unfold blk in genesis-length, unfold blk in genesis-height)
+sized (suc k) l =
+    let c : Child (k + 1) (k + 1) (blk k) (blk (suc k)) = linked-from k (omega arith) (sized k (omega arith)) in
+    let h : height (blk (suc k)) ≡ k + 1 = c .high in
+    (c .whole, omega arith)
+
+-- block n + 1
+pub next : (n : ℕ) → n < 6 → Child (n + 1) (n + 1) (blk n) (blk (n + 1))
+next n l = subst (λ m. Child (n + 1) (n + 1) (blk n) (blk m)) (sym (add-one n)) (linked-from n l (sized n (omega arith)))
+
+-- a log with T = 6 whose slots 1 to n hold these blocks
+pub record Holds (log : List ℕ) (n : ℕ) : Type 0 where
+  pub size : length log ≡ 3072
+  pub slots : (k : ℕ) → k ≤ n → slot log k ≡ blk k
+
+-- a record with f = 1, T = 6 and a wait of 2, all rounds up to the tip n filled
+abbrev pub record-of : (id n : ℕ) → Replica
+record-of id n =
+    record {
+      id = id;
+      f = 1;
+      timeout = record { 0 = 2 };
+      «last_round» = record { 0 = 6 };
+      round = record { 0 = n + 1 };
+      timer = record { 0 = 2 };
+      «tip_round» = record { 0 = n };
+      «tip_height» = record { 0 = n };
+      «committed_round» = record { 0 = n - 1 };
+      «committed_height» = record { 0 = n - 1 };
+    }
+
+abbrev pub state : (id n : ℕ) (log masks : List ℕ) → State
+state id n log masks = record { replica = record-of id n; log = log; masks = masks }
+
+unfoldable pub out : List ℕ
+out = zeros 1024
+
+module _ (log : List ℕ) (n : ℕ) (holds : Holds log n) (most : n ≤ 6) where
+  pub slot-full : (k : ℕ) → 1 ≤ k → k ≤ n → filled (slot log k) ≡ true
+  slot-full zero one l = absurd (omega arith)
+  slot-full (suc k) one l =
+      ap filled (holds .slots (suc k) l) ∙ linked-from k (omega arith) (sized k (omega arith)) .full
+
+  highest-is : (k : ℕ) → k ≤ n → highest log k ≡ k
+  unfolding highest
+  highest-is zero l = refl
+  highest-is (suc k) l = cond-true _ _ (slot-full (suc k) (omega arith) l)
+
+  -- committed as commit sets it
+  pub renewed : (id : ℕ) → commit (record-of id n) log ≡ record-of id n
+  unfolding commit commitLimit
+  renewed id =
+      let a : highest log (n - 1) ≡ n - 1 = highest-is (n - 1) (omega arith) in
+      let b : height (slot log (highest log (n - 1))) ≡ n - 1 =
+      ap (λ k. height (slot log k)) a ∙ ap (λ (x : List ℕ). height x) (holds .slots (n - 1) (omega arith))
+      ∙ sized (n - 1) (omega arith) .1 in
+      ap₂ (withCommitted (record-of id n)) a b
+
+  pub callable : (id : ℕ) (masks : List ℕ) → id < 3 → n < 6 → length masks ≡ 6 → leads (record-of id n) ≡ false
+      → Callable (state id n log masks) out
+  unfolding out
+  callable id masks i l m led =
+      record {
+        valid =
+            valid-of (record-of id n) log (record {
+              setup =
+                  record {
+                    id-below = i;
+                    f-least = omega arith;
+                    f-most = omega arith;
+                    timeout-least = omega arith;
+                    timeout-most = omega arith;
+                    last-least = omega arith;
+                    last-most = omega arith;
+                    size = holds .size;
+                  };
+              round-least = omega arith;
+              round-most = omega arith;
+              timer-most = omega arith;
+              tip-below = omega arith;
+              tip-height = omega arith;
+              committed-most = omega arith;
+              committed-height-most = omega arith;
+              committed-height = omega arith;
+              waits = led;
+            });
+        lent = eq-eqb (length masks) 6 m;
+        running = omega arith;
+        room = omega (arith, length-zeros 1024);
+      }
+
+-- one more block is held
+held : (id n : ℕ) (log new masks : List ℕ) → n < 6 → Holds new (n + 1)
+    → holding (state id n log masks) new (n + 1) (n + 1) ≡ state id (n + 1) new masks
+unfolding holding tipped commit commitLimit
+held id n log new masks l h =
+    ap (λ r. record { replica = r; log = new; masks = masks }) (renewed new (n + 1) h (omega arith) id)
+
+-- what entering leaves, by whether the replica leads
+entered-waits : (id n : ℕ) (log masks : List ℕ) → leads (record-of id n) ≡ false
+    → enterRound sha256 [] (state id n log masks) ≡ record { state = state id n log masks; emitted = [] }
+unfolding enterRound waiting
+entered-waits id n log masks e = cond-false _ _ e
+
+-- a state that calls made, with the blocks 1 to n in its log
+pub record Made (s : State) (id n : ℕ) (masks : List ℕ) : Type 0 where
+  pub log : List ℕ
+  pub is : s ≡ state id n log masks
+  pub holds : Holds log n
+
+store-holds : (log : List ℕ) (n : ℕ) → n < 6 → Holds log n → Holds (store log (n + 1) (blk (n + 1))) (n + 1)
+store-holds log n l h =
+    let size : length log ≡ 3072 = h .size in
+    record {
+      size = length-store log (n + 1) (blk (n + 1)) (omega arith) (omega arith) (next n l .whole) ∙ size;
+      slots = λ k m. by-test k m (eqb k (n + 1)) refl size;
+    }
+  where
+    by-test : (k : ℕ) → k ≤ n + 1 → (b : Bool) → eqb k (n + 1) ≡ b → length log ≡ 3072 → slot (store log (n + 1) (blk (n + 1))) k ≡ blk k
+    by-test k m true t size =
+        let e : k ≡ n + 1 = eqb-true k (n + 1) t in
+        rw e (store-same log (n + 1) (blk (n + 1)) (omega arith) (omega arith) (next n l .whole))
+    by-test k m false t size =
+        let ne : ¬ (k ≡ n + 1) = eqb-false k (n + 1) t in
+        store-other log (n + 1) (blk (n + 1)) k (omega arith) (omega arith) (next n l .whole) ne ∙ h .slots k (omega arith)
+
+entered-leads : (id n : ℕ) (log masks : List ℕ) → n < 6 → Holds log n → id ≡ n % 3 → leads (record-of id n) ≡ true
+    → Made (enterRound sha256 [] (state id n log masks) .state) id (n + 1) masks
+unfolding enterRound proposing ownBlock
+entered-leads id n log masks l h i e =
+    let own : makeBlock sha256 id (n + 1) (n + 1) (digest (slot log n)) [] ≡ blk (n + 1) =
+    ap₂ (λ j (p : List ℕ). makeBlock sha256 j (n + 1) (n + 1) (digest p) []) i (h .slots n (omega arith))
+    ∙ (unfold blk child in ap blk (sym (add-one n))) in
+    record {
+      log = store log (n + 1) (blk (n + 1));
+      is =
+          ap (λ (m : Effect). m .state) (cond-true _ _ e)
+          ∙ ap (λ x. holding (state id n log masks) (store log (n + 1) x) (n + 1) (n + 1)) own
+          ∙ held id n log (store log (n + 1) (blk (n + 1))) masks l (store-holds log n l h);
+      holds = store-holds log n l h;
+    }
+
+-- The calls. Open, by a replica that leads round 1 and by one that does not:
+no-blocks : Holds (zeros 3072) 0
+unfolding slot blk
+no-blocks = record { size = length-zeros 3072; slots = λ k l. let z : k ≡ 0 = omega arith in rw z refl }
+
+unfoldable pub opening : (id : ℕ) → State
+opening id = after (openCall id 1 2 6 (zeros 3072) (zeros 6) [] out)
+
+opened : (id : ℕ) → validSetup (fresh id 1 2 6) (zeros 3072) ≡ true
+    → opening id ≡ enterRound sha256 [] (state id 0 (zeros 3072) (zeros 6)) .state
+unfolding opening out taken fresh
+opened id valid =
+    ap after (open-fits id 1 2 6 (zeros 3072) (zeros 6) [] (zeros 1024) valid (unfold zeros in refl)
+    (omega (arith, length-zeros 1024)) (omega arith))
+
+pub opening-0 : Made (opening 0) 0 1 (zeros 6)
+opening-0 =
+    let m : Made (enterRound sha256 [] (state 0 0 (zeros 3072) (zeros 6)) .state) 0 1 (zeros 6) =
+    entered-leads 0 0 (zeros 3072) (zeros 6) (omega arith) no-blocks refl (unfold leads leader in refl) in
+    record { log = m .log; is = opened 0 (unfold validSetup fresh zeros in refl) ∙ m .is; holds = m .holds }
+
+pub opening-1 : Made (opening 1) 1 0 (zeros 6)
+opening-1 =
+    record {
+      log = zeros 3072;
+      is =
+          opened 1 (unfold validSetup fresh zeros in refl)
+          ∙ ap (λ (m : Effect). m .state) (entered-waits 1 0 (zeros 3072) (zeros 6) (unfold leads leader in refl));
+      holds = no-blocks;
+    }
+
+-- a branch of the next block
+module _ (id n : ℕ) (log masks : List ℕ) (l : n < 5) (h : Holds log n) (c : Callable (state id n log masks) out) where
+  abbrev x : List ℕ
+  x = blk (n + 1)
+
+  abbrev new : List ℕ
+  new = grown log n (x ∷ [])
+
+  child-x : Child (n + 1) (n + 1) (blk n) x
+  child-x = next n (omega arith)
+
+  at-x : round x ≡ n + 1
+  at-x = child-x .at
+
+  attached : attach log x (round x - 1) ≡ some n
+  unfolding attach
+  attached = by-parent n refl
+    where
+      by-parent : (k : ℕ) → n ≡ k → attach log x (round x - 1) ≡ some n
+      by-parent zero z =
+          let e : round x ≡ n + 1 = at-x in
+          let first : round x - 1 ≡ 0 = omega arith in
+          let on : linked genesis x ≡ true = unfold blk in subst (λ k. linked (blk k) x ≡ true) z (child-x .on) in
+          ap (attach log x) first ∙ cond-true _ _ on ∙ ap some (sym z)
+      by-parent (suc k) z =
+          let e : round x ≡ n + 1 = at-x in
+          attaches log x n (omega arith) (record {
+            below = omega arith;
+            found =
+                both (filled (slot log n)) (linked (slot log n) x) (slot-full log n h (omega arith) n (omega arith) (omega arith))
+                (rw (h .slots n (omega arith)) (child-x .on));
+            highest = λ q a b. absurd (omega arith);
+          })
+
+  new-holds : Holds new (n + 1)
+  unfolding grown storeAll
+  new-holds =
+      let size : length log ≡ 3072 = h .size in
+      let below : Holds (clearAbove log n) n =
+      record {
+        size = length-clear log n (omega arith) ∙ size;
+        slots = λ k m. clear-low log n k (omega arith) m ∙ h .slots k m;
+      } in
+      subst (λ r. Holds (store (clearAbove log n) r x) (n + 1)) (sym at-x) (store-holds (clearAbove log n) n (omega arith) below)
+
+  taken-x : branchCall (state id n log masks) x [] out ≡ taken (enterRound sha256 [] (state id (n + 1) new masks)) out
+  unfolding adopting lastOf flatten
+  taken-x =
+      let e : round x ≡ n + 1 = at-x in
+      ap (λ (b : List ℕ). branchCall (state id n log masks) b [] out) (sym (append-nil x))
+      ∙ fresh-branch c [] (omega arith) x [] (omega arith) (unfold blocks in child-x .good) (omega arith)
+      ∙ ap (placed sha256 [] out (state id n log masks) x []) attached
+      ∙ adopts [] out (state id n log masks) x [] n
+      (skips-none (setup 1 6) masks x n [] e ∙ (unfold firstUncertified in refl))
+      (take-slots new log (n - 1) (λ q a b. grown-low log x n (omega arith) (omega (arith, h .size)) (child-x .whole) q (omega arith)))
+      ∙ ap (λ s. taken (enterRound sha256 [] s) out)
+      (ap₂ (holding (state id n log masks) new) e (child-x .high) ∙ held id n log new masks (omega arith) new-holds)
+
+-- the same of a state that calls made: a call on it leaves such a state
+module _ (s : State) (id n : ℕ) (masks : List ℕ) (made : Made s id n masks) (i : id < 3) (l : n < 5) (lent : length masks ≡ 6)
+    (waits : leads (record-of id n) ≡ false) where
+  abbrev here : State
+  here = state id n (made .log) masks
+
+  here-callable : Callable here out
+  here-callable = callable (made .log) n (made .holds) (omega arith) id masks i (omega arith) lent waits
+
+  abbrev there : State
+  there = state id (n + 1) (new id n (made .log) masks l (made .holds) here-callable) masks
+
+  branch-left : after (branchCall s (blk (n + 1)) [] out) ≡ enterRound sha256 [] there .state
+  unfolding taken
+  branch-left =
+      ap (λ u. after (branchCall u (blk (n + 1)) [] out)) (made .is)
+      ∙ ap after (taken-x id n (made .log) masks l (made .holds) here-callable)
+
+  pub branch-waits : leads (record-of id (n + 1)) ≡ false → Made (after (branchCall s (blk (n + 1)) [] out)) id (n + 1) masks
+  branch-waits e =
+      record {
+        log = there .log;
+        is = branch-left ∙ ap (λ (m : Effect). m .state) (entered-waits id (n + 1) (there .log) masks e);
+        holds = new-holds id n (made .log) masks l (made .holds) here-callable;
+      }
+
+  pub branch-leads : id ≡ (n + 1) % 3 → leads (record-of id (n + 1)) ≡ true
+      → Made (after (branchCall s (blk (n + 1)) [] out)) id (n + 1 + 1) masks
+  branch-leads led e =
+      let m : Made (enterRound sha256 [] there .state) id (n + 1 + 1) masks =
+      entered-leads id (n + 1) (there .log) masks (omega arith) (new-holds id n (made .log) masks l (made .holds) here-callable) led e in
+      record { log = m .log; is = branch-left ∙ m .is; holds = m .holds }
+
+  -- a blame of replica j for a round below R, its bit not yet set
+  module _ (j r : ℕ) (signs : j < 3) (one : 1 ≤ r) (past : r ≤ n) (fresh-bit : bit j (mask masks r) ≡ false) where
+    abbrev y : List ℕ
+    y = makeBlame sha256 j r
+
+    at-y : round y ≡ r
+    at-y = ap (λ (z : List ℕ). round z) (sym (append-nil y)) ∙ blame-round j r [] (omega arith)
+
+    by-y : signer y ≡ j
+    unfolding makeBlame sealed blameHead
+    by-y = refl
+
+    settled : settle sha256 [] (hearing here r j) r ≡ record { state = hearing here r j; emitted = [] }
+    unfolding settle hearing
+    settled =
+        let e : eqb r (n + 1) ≡ false = ne-eqb r (n + 1) (λ z. omega arith) in
+        rw e refl
+
+    heard-y : blameCall here y [] out ≡ taken (record { state = hearing here r j; emitted = [] }) out
+    unfolding blameWith heard
+    heard-y =
+        let e : round y ≡ r = at-y in
+        passes here-callable [] (omega arith) _ ∙ cond-true _ _ (eq-eqb (length y) 512 (blame-length j r))
+        ∙ cond-false _ _ (ap not (blame-checked j r))
+        ∙ cond-false _ _ (ap not (blame-form (setup 1 6) j r signs one (omega arith) (omega arith)))
+        ∙ cond-false _ _ (le-ltb (n + 1) (round y) (omega arith))
+        ∙ cond-false _ _ (ap₂ (λ k q. bit k (mask masks q)) by-y e ∙ fresh-bit)
+        ∙ ap (λ m. taken m out) (ap₂ (λ q k. settle sha256 [] (hearing here q k) q) e by-y ∙ settled)
+
+    pub hears : Made (after (blameCall s y [] out)) id n (addBlame masks r j)
+    unfolding taken hearing
+    hears =
+        record {
+          log = made .log;
+          is = ap (λ u. after (blameCall u y [] out)) (made .is) ∙ ap after heard-y;
+          holds = made .holds;
+        }

@@ -1,0 +1,245 @@
+-- A list of calls that meets demand 3's premises, with SHA-256 itself, where a leader is missing, its round is blamed and skipped, and
+-- two replicas commit a block above it. Assumes nothing.
+use Prim.Native.Nat.{ℕ}
+use mathlib.Core.Path.{_≡_, refl, sym, ap, _∙_, subst}
+use mathlib.Core.Logic.{_⊎_, inl, inr}
+use mathlib.Core.Option.{some}
+use mathlib.Core.List.{List, [], _∷_}
+use mathlib.Core.Bool.{Bool, false, not, cond}
+use native.Mathlib.Omega.{arith}
+use lib.Dec.{eqb}
+use Rattle.apollo.specs.Bytes.{zeros, same}
+use Rattle.apollo.specs.declared.Setup.{Setup}
+use Rattle.apollo.specs.Setup.{leader}
+use Rattle.apollo.specs.Frame.{kind, signer, round, digest}
+use Rattle.apollo.specs.Log.{genesis, chain}
+use Rattle.apollo.specs.Masks.{count}
+use Rattle.apollo.specs.Enter.{State}
+use Rattle.agreement.specs.Run.{Act, branch, blame, tick, Call, opening, act, Event, handed, emitted, answered, In, Seen, World, start, uncut, framesIn, emit, answer, run}
+use Rattle.agreement.specs.Premises.{Mostly, Patient, Distinct, Premises}
+use Rattle.agreement.specs.Claim.{committed, Agreed}
+use Rattle.agreement.proofs.Agreement.{agreement}
+use Rattle.blocks.proofs.Blocks.{d1, d3, d4, e0, b1, b3, b4, m0, m2, checked1, checked3, checked4, checked-m0, checked-m2}
+use Rattle.witness.proofs.Answers.{out, log0, all, opened-0, opened-2, first-2, blaming-0, heard-2, skipped-2, skipped-0, last-0, last-2, open-0, open-2, take-1, tick-0, hear-0, tick-2, hear-2, take-3, take-4}
+use Rattle.witness.proofs.Worlds.{given, next, Goes, stay, goes, lawful, unforged, opens, acts}
+
+-- The list: f = 1, T = 4, a timeout of one tick; replica 1, the leader of round 2, is missing.
+--   0 opens and emits block 1; 2 opens; 2 takes block 1
+--   0 ticks and blames round 2; 2 hears that
+--   2 ticks and blames round 2, which is now certified: it enters round 3 and emits block 3 on block 1
+--   0 hears that blame and passes round 2; it takes block 3, emits block 4 and commits block 3
+--   2 takes block 4 and commits block 3
+openAt : ℕ → Call
+openAt i = opening i 1 1 4 log0 (zeros 4) [] out
+
+taking : List ℕ → Act
+taking b = branch b [] out
+
+hearing : List ℕ → Act
+hearing m = blame m [] out
+
+ticking : Act
+ticking = tick [] out
+
+pub calls : List (ℕ × Call)
+calls =
+    (0, openAt 0) ∷ (2, openAt 2) ∷ (2, act (taking b1)) ∷ (0, act ticking) ∷ (2, act (hearing m0)) ∷ (2, act ticking)
+    ∷ (0, act (hearing m2)) ∷ (0, act (taking b3)) ∷ (2, act (taking b4)) ∷ []
+
+-- the worlds that it goes through
+w1 : World
+w1 = next start 0 [] opened-0 (b1 ∷ [])
+
+w2 : World
+w2 = next w1 2 [] opened-2 []
+
+w3 : World
+w3 = next w2 2 (b1 ∷ []) first-2 []
+
+w4 : World
+w4 = next w3 0 [] blaming-0 (m0 ∷ [])
+
+w5 : World
+w5 = next w4 2 (m0 ∷ []) heard-2 []
+
+w6 : World
+w6 = next w5 2 [] skipped-2 (m2 ∷ b3 ∷ [])
+
+w7 : World
+w7 = next w6 0 (m2 ∷ []) skipped-0 []
+
+w8 : World
+w8 = next w7 0 (b3 ∷ []) last-0 (b4 ∷ [])
+
+w9 : World
+w9 = next w8 2 (b4 ∷ []) last-2 []
+
+worlds : Unit {0}
+unfolding openAt taking hearing ticking calls start given next emit w1 w2 w3 w4 w5 w6 w7 w8 w9
+worlds = tt
+
+-- replicas 0 and 2 are correct
+pub setup : Setup
+setup = record { f = 1; «last_round» = record { 0 = 4 } }
+
+pub correct : ℕ → Bool
+correct i = not (eqb i 1)
+
+-- a frame was emitted by the replica that it names
+by : (x : List ℕ) (i : ℕ) → signer x ≡ i → emitted (signer x) x ≡ emitted i x
+by x i e = ap (λ k. emitted k x) e
+
+steps : Goes setup correct start calls w9
+unfolding worlds setup framesIn uncut answer all opened-0 opened-2 first-2 blaming-0 heard-2 skipped-2 skipped-0
+steps =
+    opens setup correct start 0 1 log0 (zeros 4) [] opened-0 (b1 ∷ []) refl open-0 (refl, tt)
+    (opens setup correct w1 2 1 log0 (zeros 4) [] opened-2 [] refl open-2 tt
+    (acts setup correct w2 2 (taking b1) opened-2 first-2 (b1 ∷ []) [] refl refl (checked1, tt) (inr (inr (inl (by b1 0 refl))), tt) take-1 tt
+    (acts setup correct w3 0 ticking opened-0 blaming-0 [] (m0 ∷ []) refl refl tt tt tick-0 (refl, tt)
+    (acts setup correct w4 2 (hearing m0) first-2 heard-2 (m0 ∷ []) [] refl refl (checked-m0, tt) (inr (inl (by m0 0 refl)), tt) hear-0 tt
+    (acts setup correct w5 2 ticking heard-2 skipped-2 [] (m2 ∷ b3 ∷ []) refl refl tt tt tick-2 (refl, (refl, tt))
+    (acts setup correct w6 0 (hearing m2) blaming-0 skipped-0 (m2 ∷ []) [] refl refl (checked-m2, tt)
+    (inr (inr (inl (by m2 2 refl))), tt) hear-2 tt
+    (acts setup correct w7 0 (taking b3) skipped-0 last-0 (b3 ∷ []) (b4 ∷ []) refl refl (checked3, tt)
+    (inr (inr (inr (inl (by b3 2 refl)))), tt) take-3 (refl, tt)
+    (acts setup correct w8 2 (taking b4) skipped-2 last-2 (b4 ∷ []) [] refl refl (checked4, tt) (inr (inl (by b4 0 refl)), tt) take-4 tt
+    stay))))))))
+
+mostly : Mostly setup correct
+unfolding setup correct count
+mostly = omega arith
+
+-- the frames seen are the three blocks and the two blames
+abbrev Frame : List ℕ → Type 0
+Frame x = (x ≡ b1) ⊎ ((x ≡ b3) ⊎ ((x ≡ b4) ⊎ ((x ≡ m0) ⊎ (x ≡ m2))))
+
+abbrev Known : Event → Type 0
+Known (handed x) = Frame x
+Known (emitted i x) = Frame x
+Known (answered k) = Unit {0}
+
+abbrev KnownAll : List Event → Type 0
+KnownAll [] = Unit {0}
+KnownAll (e ∷ es) = Known e × KnownAll es
+
+known-in : (es : List Event) → KnownAll es → (e : Event) → In e es → Known e
+known-in [] a e p = absurd p
+known-in (d ∷ es) a e (inl q) = subst Known (sym q) (a .0)
+known-in (d ∷ es) a e (inr q) = known-in es (a .1) e q
+
+is1 : Frame b1
+is1 = inl refl
+
+is3 : Frame b3
+is3 = inr (inl refl)
+
+is4 : Frame b4
+is4 = inr (inr (inl refl))
+
+is0 : Frame m0
+is0 = inr (inr (inr (inl refl)))
+
+is2 : Frame m2
+is2 = inr (inr (inr (inr refl)))
+
+known-all : KnownAll (w9 .past)
+unfolding worlds
+known-all = (tt, (is4, (tt, (is4, (is3, (tt, (is2, (tt, (is3, (is2, (tt, (is0, (tt, (is0, (tt, (is1, (tt, (tt, (is1, tt)))))))))))))))))))
+
+known : (e : Event) → In e (run start calls .past) → Known e
+known e p = known-in (w9 .past) known-all e (subst (λ (w : World). In e (w .past)) (goes setup correct steps) p)
+
+seen : (x : List ℕ) → Seen x (run start calls .past) → Frame x
+seen x (inl p) = known (handed x) p
+seen x (inr p) = known (emitted (p .0) x) (p .1)
+
+-- blocks and blames of round 2
+record Fields : Type 0 where
+  block-1 : kind b1 ≡ 1
+  block-3 : kind b3 ≡ 1
+  block-4 : kind b4 ≡ 1
+  blame-0 : round m0 ≡ 2
+  blame-2 : round m2 ≡ 2
+
+fields : Fields
+unfolding all
+fields = record { block-1 = refl; block-3 = refl; block-4 = refl; blame-0 = refl; blame-2 = refl }
+
+-- only round 2 was blamed, whose leader is not correct
+patient : Patient setup correct (run start calls)
+patient i x c p k = of (known (emitted i x) p)
+  where
+    -- a block is no blame
+    block : (b : List ℕ) → kind b ≡ 1 → x ≡ b → correct (leader setup (round x)) ≡ false
+    block b f e = absurd (omega (arith, ap kind e, f, k))
+
+    blame-2 : (m : List ℕ) → round m ≡ 2 → x ≡ m → correct (leader setup (round x)) ≡ false
+    blame-2 m f e = ap (λ r. correct (leader setup r)) (ap (λ (y : List ℕ). round y) e ∙ f) ∙ (unfold correct leader setup in refl)
+
+    of : Frame x → correct (leader setup (round x)) ≡ false
+    of (inl e) = block b1 (fields .block-1) e
+    of (inr (inl e)) = block b3 (fields .block-3) e
+    of (inr (inr (inl e))) = block b4 (fields .block-4) e
+    of (inr (inr (inr (inl e)))) = blame-2 m0 (fields .blame-0) e
+    of (inr (inr (inr (inr e)))) = blame-2 m2 (fields .blame-2) e
+
+-- the frame with a given digest
+pick : List ℕ → List ℕ
+pick d = cond (same d (zeros 32)) genesis (cond (same d d1) b1 (cond (same d d3) b3 (cond (same d d4) b4 (cond (same d e0) m0 m2))))
+
+record Picked : Type 0 where
+  none : genesis ≡ pick (digest genesis)
+  block-1 : b1 ≡ pick (digest b1)
+  block-3 : b3 ≡ pick (digest b3)
+  block-4 : b4 ≡ pick (digest b4)
+  blame-0 : m0 ≡ pick (digest m0)
+  blame-2 : m2 ≡ pick (digest m2)
+
+picked : Picked
+unfolding all pick
+picked = record { none = refl; block-1 = refl; block-3 = refl; block-4 = refl; blame-0 = refl; blame-2 = refl }
+
+pick-is : (x : List ℕ) → (x ≡ genesis) ⊎ Seen x (run start calls .past) → x ≡ pick (digest x)
+pick-is x p = of-any p
+  where
+    at : (b : List ℕ) → b ≡ pick (digest b) → x ≡ b → x ≡ pick (digest x)
+    at b f e = e ∙ f ∙ ap (λ y. pick (digest y)) (sym e)
+
+    of : Frame x → x ≡ pick (digest x)
+    of (inl e) = at b1 (picked .block-1) e
+    of (inr (inl e)) = at b3 (picked .block-3) e
+    of (inr (inr (inl e))) = at b4 (picked .block-4) e
+    of (inr (inr (inr (inl e)))) = at m0 (picked .blame-0) e
+    of (inr (inr (inr (inr e)))) = at m2 (picked .blame-2) e
+
+    of-any : (x ≡ genesis) ⊎ Seen x (run start calls .past) → x ≡ pick (digest x)
+    of-any (inl e) = at genesis (picked .none) e
+    of-any (inr q) = of (seen x q)
+
+distinct : Distinct (run start calls)
+distinct x y p q e = pick-is x p ∙ ap pick e ∙ sym (pick-is y q)
+
+pub premises : Premises setup correct calls
+premises =
+    record {
+      lawful = lawful setup correct steps;
+      mostly = mostly;
+      unforged = unforged setup correct steps;
+      distinct = distinct;
+      patient = patient;
+    }
+
+-- so demand 3 speaks of it
+pub agreed : Agreed correct (run start calls)
+agreed = agreement setup correct calls premises
+
+-- and replicas 0 and 2 have both committed the blocks of rounds 1 and 3
+abbrev Commits : ℕ → Type 0
+Commits i = (c : State) × (run start calls .states i ≡ some c) × (committed c ≡ b1 ∷ b3 ∷ [])
+
+pub commits : Commits 0 × Commits 2
+unfolding worlds
+commits = (
+  (last-0, ap (λ (w : World). w .states 0) (goes setup correct steps), unfold all last-0 committed chain in refl),
+  (last-2, ap (λ (w : World). w .states 2) (goes setup correct steps), unfold all last-2 committed chain in refl),
+)

@@ -1,0 +1,112 @@
+-- Lists of calls that are all taken, each lawful and with nothing forged, and the worlds that they go through. Assumes nothing.
+use Prim.Native.Nat.{ℕ}
+use mathlib.Core.Path.{_≡_, refl, sym, ap, ap₂, _∙_, subst}
+use mathlib.Core.Logic.{inl, inr}
+use mathlib.Core.Option.{none, some}
+use mathlib.Core.List.{List, [], _∷_}
+use mathlib.Core.Bool.{Bool, true, cond}
+use lib.Dec.{eqb}
+use Rattle.sha256.specs.Fips.{sha256}
+use Rattle.apollo.specs.declared.Setup.{Setup}
+use Rattle.apollo.specs.Frame.{signer, checked}
+use Rattle.apollo.specs.Enter.{State}
+use Rattle.apollo.specs.Outcome.{taken}
+use Rattle.apollo.specs.Calls.{openCall}
+use Rattle.apollo.proofs.Tests.{cond-true}
+use Rattle.agreement.specs.Run.{Act, Call, opening, act, Event, handed, emitted, answered, In, World, framesIn, hand, emit, emittedBy, note, after, opened, answer, callAt, step, run}
+use Rattle.agreement.specs.Premises.{Each, Lawful, Unforged}
+use Rattle.agreement.proofs.Frames.{Whole, frames-flatten}
+use Rattle.witness.proofs.Answers.{out, made}
+
+-- the past after frames with a right check were handed in
+unfoldable pub given : List (List ℕ) → List Event → List Event
+given [] past = past
+given (x ∷ xs) past = given xs (handed x ∷ past)
+
+-- the world after a call at replica i that is taken: the frames handed in, the state left, the frames emitted
+unfoldable pub next : World → (i : ℕ) (frames : List (List ℕ)) → State → (emitted : List (List ℕ)) → World
+next w i xs c ys =
+    record {
+      states = λ j. cond (eqb i j) (some c) (w .states j);
+      past = answered 0 ∷ emit i ys (given xs (w .past));
+    }
+
+-- every frame has a right check
+abbrev pub Checked : List (List ℕ) → Type 0
+Checked [] = Unit {0}
+Checked (x ∷ xs) = (checked sha256 x ≡ true) × Checked xs
+
+hand-given : (xs : List (List ℕ)) (past : List Event) → Checked xs → hand xs past ≡ given xs past
+unfolding hand given
+hand-given [] past k = refl
+hand-given (x ∷ xs) past k = ap (hand xs) (cond-true _ _ (k .0)) ∙ hand-given xs (handed x ∷ past) (k .1)
+
+after-made : (w : World) (i : ℕ) (c : State) (ys : List (List ℕ)) → Whole ys → after w i (made c ys) ≡ next w i [] c ys
+unfolding after note emittedBy made taken next given
+after-made w i c ys whole =
+    ap (λ zs. record { states = λ j. cond (eqb i j) (some c) (w .states j); past = answered 0 ∷ emit i zs (w .past) })
+    (frames-flatten ys _ whole)
+
+opened-so : (w : World) (i id f timeout last : ℕ) (log masks entry : List ℕ) (c : State) (ys : List (List ℕ))
+    → openCall id f timeout last log masks entry out ≡ made c ys → Whole ys
+    → step w i (opening id f timeout last log masks entry out) ≡ next w i [] c ys
+unfolding step callAt opened made taken
+opened-so w i id f timeout last log masks entry c ys e whole = ap (opened w i) e ∙ after-made w i c ys whole
+
+acted : (w : World) (i : ℕ) (a : Act) (c d : State) (xs ys : List (List ℕ)) → w .states i ≡ some c → framesIn c a ≡ xs → Checked xs
+    → answer c a ≡ made d ys → Whole ys → step w i (act a) ≡ next w i xs d ys
+unfolding step callAt next given
+acted w i a c d xs ys at hands right e whole =
+    ap (λ o. callAt w i o (act a)) at
+    ∙ ap₂ (λ past o. after (record { states = w .states; past = past }) i o)
+    (ap (λ zs. hand zs (w .past)) hands ∙ hand-given xs (w .past) right) e
+    ∙ after-made (record { states = w .states; past = given xs (w .past) }) i d ys whole
+
+-- each of some frames was emitted before, by the replica that it names
+abbrev pub Earlier : World → List (List ℕ) → Type 0
+Earlier w [] = Unit {0}
+Earlier w (x ∷ xs) = In (emitted (signer x) x) (w .past) × Earlier w xs
+
+earlier : (w : World) (xs : List (List ℕ)) → Earlier w xs → (x : List ℕ) → In x xs → In (emitted (signer x) x) (w .past)
+earlier w [] h x p = absurd p
+earlier w (y ∷ ys) h x (inl e) = subst (λ z. In (emitted (signer z) z) (w .past)) (sym e) (h .0)
+earlier w (y ∷ ys) h x (inr p) = earlier w ys (h .1) x p
+
+module _ (s : Setup) (correct : ℕ → Bool) where
+  -- a list of calls that leads from one world to another, each call lawful and with nothing forged
+  pub data Goes : World → List (ℕ × Call) → World → Type 0 where
+    stay : {w : World} → Goes w [] w
+    go : {w u v : World} {i : ℕ} {d : Call} {es : List (ℕ × Call)} → Lawful s w i d → Unforged s correct w i d → step w i d ≡ u
+        → Goes u es v → Goes w ((i, d) ∷ es) v
+
+  pub goes : {w v : World} {es : List (ℕ × Call)} → Goes w es v → run w es ≡ v
+  unfolding run
+  goes stay = refl
+  goes (go {es} l h e g) = ap (λ u. run u es) e ∙ goes g
+
+  pub lawful : {w v : World} {es : List (ℕ × Call)} → Goes w es v → Each (Lawful s) w es
+  lawful stay = tt
+  lawful (go {es} l h e g) = (l, subst (λ u. Each (Lawful s) u es) (sym e) (lawful g))
+
+  pub unforged : {w v : World} {es : List (ℕ × Call)} → Goes w es v → Each (Unforged s correct) w es
+  unforged stay = tt
+  unforged (go {es} l h e g) = (h, subst (λ u. Each (Unforged s correct) u es) (sym e) (unforged g))
+
+  module _ (w : World) (i : ℕ) {v : World} {es : List (ℕ × Call)} where
+    -- an open that is taken comes first
+    pub opens : (timeout : ℕ) (log masks entry : List ℕ) (c : State) (ys : List (List ℕ)) → w .states i ≡ none
+        → openCall i (s .f) timeout (s .«last_round» .0) log masks entry out ≡ made c ys → Whole ys
+        → Goes (next w i [] c ys) es v → Goes w ((i, opening i (s .f) timeout (s .«last_round» .0) log masks entry out) ∷ es) v
+    opens timeout log masks entry c ys new e whole =
+        go {d = opening i (s .f) timeout (s .«last_round» .0) log masks entry out} (λ _. (new, refl, refl, refl)) tt
+        (opened-so w i i (s .f) timeout (s .«last_round» .0) log masks entry c ys e whole)
+
+    -- any other call
+    pub acts : (a : Act) (c d : State) (xs ys : List (List ℕ)) → w .states i ≡ some c → framesIn c a ≡ xs → Checked xs → Earlier w xs
+        → answer c a ≡ made d ys → Whole ys → Goes (next w i xs d ys) es v → Goes w ((i, act a) ∷ es) v
+    acts a c d xs ys at hands right old e whole = go {d = act a} (c, at) honest (acted w i a c d xs ys at hands right e whole)
+      where
+        honest : Unforged s correct w i (act a)
+        honest b x f p r l k =
+            let q : c ≡ b = cc in
+            earlier w xs old x (subst (In x) (ap (λ u. framesIn u a) (sym q) ∙ hands) p)
