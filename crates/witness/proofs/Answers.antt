@@ -17,7 +17,7 @@ use Rattle.apollo.specs.Branch.{lastOf, firstUncertified, storeAll, grown, faul
 use Rattle.apollo.specs.Blame.{heard, blameWith}
 use Rattle.apollo.specs.Tick.{blaming, ticked, tickWith}
 use Rattle.apollo.specs.Calls.{openCall, branchCall, blameCall, tickCall}
-use Rattle.blocks.proofs.Blocks.{d1, d3, d4, e0, e2, head1, head3, head4, head-m0, head-m2, b1, b3, b4, m0, m2, name1, name3, name4, name-m0, name-m2, checked1, checked3, checked4, checked-m0, checked-m2}
+use Rattle.witness.proofs.Frames.{d1, d3, d4, e0, e2, head1, head3, head4, head-m0, head-m2, b1, b3, b4, m0, m2, name1, name3, name4, name-m0, name-m2, checked1, checked3, checked4, checked-m0, checked-m2}
 
 unfoldable pub out : List ℕ
 out = zeros 1024

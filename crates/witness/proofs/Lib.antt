@@ -1,3 +1,4 @@
+pub mod Frames
 pub mod Answers
 pub mod Worlds
 pub mod Witness

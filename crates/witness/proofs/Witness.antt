@@ -19,7 +19,7 @@ use Rattle.agreement.specs.Run.{Act, branch, blame, tick, Call, opening, act, E
 use Rattle.agreement.specs.Premises.{Mostly, Patient, Distinct, Premises}
 use Rattle.agreement.specs.Claim.{committed, Agreed}
 use Rattle.agreement.proofs.Agreement.{agreement}
-use Rattle.blocks.proofs.Blocks.{d1, d3, d4, e0, b1, b3, b4, m0, m2, checked1, checked3, checked4, checked-m0, checked-m2}
+use Rattle.witness.proofs.Frames.{d1, d3, d4, e0, b1, b3, b4, m0, m2, checked1, checked3, checked4, checked-m0, checked-m2}
 use Rattle.witness.proofs.Answers.{out, log0, all, opened-0, opened-2, first-2, blaming-0, heard-2, skipped-2, skipped-0, last-0, last-2, open-0, open-2, take-1, tick-0, hear-0, tick-2, hear-2, take-3, take-4}
 use Rattle.witness.proofs.Worlds.{given, next, Goes, stay, goes, lawful, unforged, opens, acts}
 
