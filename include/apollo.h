@@ -39,6 +39,11 @@
 extern "C" {
 #endif
 
+/* Header and archive belong together: a host starts only where apollo_version() == APOLLO_VERSION. The number grows with every change of a
+ * struct, of a call's parameters, of a refusal or of what a call does. Compiled code of one version is not linked with another. */
+#define APOLLO_VERSION 1u
+uint32_t apollo_version(void);
+
 enum {
   APOLLO_FRAME = 512,       /* bytes of a frame and of a slot of the log */
   APOLLO_OUT = 1024,        /* an out buffer's least size: two frames */

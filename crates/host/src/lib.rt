@@ -14,6 +14,14 @@ ghost use Rattle.apollo.specs.Calls.{openCall, branchCall, blameCall, tickCall,
 ghost use Rattle.replica.specs.Call.{state, outcome};
 ghost use Rattle.reads.specs.Answers.{fetched};
 
+// The version of the interface: APOLLO_VERSION of the header that belongs to this archive.
+#[no_mangle]
+pub extern "C" fn apollo_version() -> u32
+    ensures { λ v. ⌜ v ≡ 1 ⌝ }
+{
+    1
+}
+
 #[no_mangle]
 pub extern "C" fn apollo_open(
     id: u8,
