@@ -411,6 +411,17 @@ static int report_blames(void) {
   return count == 0;
 }
 
+/* How the library answered the cards that keep the rules. */
+static void report_answers(void) {
+  printf("answers");
+  for (int k = 0; k < 16; k++) {
+    uint32_t count = 0;
+    for (int i = 0; i < cabinet.n; i++) count += keeps_rules(i) ? cabinet.cards[i].answers[k] : 0;
+    if (count > 0) printf("  %d: %u", k, count);
+  }
+  putchar('\n');
+}
+
 static void print_list(int i) {
   for (uint32_t h = 1;; h++) {
     const card *c = &cabinet.cards[i];
@@ -425,6 +436,7 @@ static int report(void) {
   for (int i = 0; i < cabinet.n; i++)
     if (keeps_rules(i) && (!keeps_rules(best) || cabinet.acted[i] > cabinet.acted[best])) best = i;
   if (cabinet.show_list) print_list(best);
+  report_answers();
   int lists = report_lists(best), entries = report_entries(best), patient = report_blames();
   int good = lists && entries && patient && !cabinet.alarms[ALARM_STATE] && !cabinet.alarms[ALARM_UNDONE];
   printf("%d cards, fault %s, %u lies, timeout %u, %u ticks: %s, %s\n", cabinet.n, fault_names[cabinet.kind], cabinet.lies,

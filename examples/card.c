@@ -162,8 +162,7 @@ static void sign(card *c, const uint8_t *frame, proposal *lent) {
   }
 }
 
-/* Takes over a call's answer: keeps the record, signs and sends what was emitted, and tells a new round's leader what it needs.
- * A card that is to live on after a restart writes the call, or its state, to disk before anything is sent. */
+/* Takes over a call's answer: keeps the record, signs and sends what was emitted, and tells a new round's leader what it needs. */
 static void take(card *c, apollo_answer a, const uint8_t *out, proposal *lent) {
   uint32_t before = waited(c);
   c->answers[a.number & 15]++;
@@ -172,8 +171,10 @@ static void take(card *c, apollo_answer a, const uint8_t *out, proposal *lent) {
   if (a.number != APOLLO_TAKEN) return;
   c->record = a.replica;
   for (int k = 0; k < a.frames; k++) sign(c, out + k * APOLLO_FRAME, lent);
-  if (a.frames > 0 && out[0] == APOLLO_BLAME) send_own_blame(c, round_of(out));
   act(c);
+  /* A card that is to live on after a restart writes its state, or the call with all that it was lent, to disk here: before it sends.
+   */
+  if (a.frames > 0 && out[0] == APOLLO_BLAME) send_own_blame(c, round_of(out));
   if (waited(c) == before) return;
   c->moved = c->now;
   c->progress++;
@@ -215,7 +216,7 @@ static int in_log(const card *c, const uint8_t *digest, uint32_t below) {
 }
 
 /* The branch that ends in a kept block: down its parents to one that is in the log. Their count, lowest last. */
-static int trace(card *c, kept_block *top, kept_block *chain[WINDOW]) {
+static int trace_branch(card *c, kept_block *top, kept_block *chain[WINDOW]) {
   int count = 0;
   for (kept_block *b = top; b && count < WINDOW;) {
     const uint8_t *frame = b->block.frame;
@@ -245,7 +246,7 @@ static void learn(card *c, int sender, kept_block *chain[WINDOW], int count, apo
 static void hand_in_block(card *c, int sender, kept_block *top) {
   kept_block *chain[WINDOW];
   uint8_t out[APOLLO_OUT];
-  int count = trace(c, top, chain);
+  int count = trace_branch(c, top, chain);
   proposal *p = lend(c);
   for (int k = 0; k < count; k++) memcpy(c->branch + k * APOLLO_FRAME, chain[count - 1 - k]->block.frame, APOLLO_FRAME);
   apollo_answer a = apollo_branch(c->record, c->log, log_len(c), c->masks, c->setup.rounds, c->branch, (size_t)count * APOLLO_FRAME,
@@ -337,8 +338,8 @@ static void hear_status(card *c, int from, const card_status *s) {
       !(filled(c, s->committed) && same(digest_of(slot(c, s->committed)), s->digest)))
     host_alarm(c->setup.id, ALARM_PARTED, from, s->committed);
   if (s->round > waited(c)) c->ask |= bit(from);
-  if (s->round > waited(c) || s->committed >= waited(c) || c->now < c->answered[from]) return;
-  c->answered[from] = c->now + c->setup.retry;
+  if (s->round > waited(c) || s->committed >= waited(c) || c->now < c->closed[from]) return;
+  c->closed[from] = c->now + c->setup.retry;
   if (s->round < waited(c)) send_rounds(c, from, s->committed + 1);
   else if (!card_is_over(c)) send_blames(c, from, s->round, (uint16_t)~s->signers);
 }
@@ -373,8 +374,12 @@ static void call_tick(card *c) {
 /* No new round for a while: sends again what others may lack, and asks f + 1 cards, one of them correct, and the leader. */
 static void send_again(card *c) {
   int peers = card_is_over(c) ? 1 : c->setup.f + 1;
-  while (peers-- > 0) c->ask |= bit(c->next_peer = (c->next_peer + 1) % cards(c));
-  if (card_is_over(c)) return;
+  for (; peers > 0; peers--) {
+    do c->next_peer = (c->next_peer + 1) % cards(c);
+    while (c->next_peer == c->setup.id);
+    c->ask |= bit(c->next_peer);
+  }
+  if (card_is_over(c)) return; /* that one question compares the lists */
   c->ask |= bit(leader_of(c, waited(c)));
   send_tip(c, leader_of(c, waited(c)));
   send_own_blame(c, waited(c));
@@ -387,7 +392,7 @@ void card_tick(card *c) {
   settle(c);
   if ((c->now - c->moved) % c->setup.retry == 0) send_again(c);
   for (int to = 0; to < cards(c); to++)
-    if (c->ask >> to & 1 && to != c->setup.id) send_status(c, to);
+    if (c->ask >> to & 1) send_status(c, to);
   c->ask = 0;
 }
 

@@ -89,11 +89,11 @@ typedef struct {
   uint8_t branch[WINDOW * APOLLO_FRAME]; /* the frames of the call under way */
   proposal line[LINE];                   /* entries until they are on the list, oldest first */
   size_t lined;
-  uint32_t now, moved;          /* ticks since the opening, and at the last new round */
-  uint32_t answered[MAX_CARDS]; /* when a card that is behind was last sent what it lacks */
-  uint32_t seen[MAX_CARDS];     /* the highest round in a frame that this card signed */
-  uint32_t acted;               /* rounds whose entries were handed to host_act */
-  uint16_t heard, ask;          /* cards that were heard; cards to ask at the end of the tick */
+  uint32_t now, moved;        /* ticks since the opening, and at the last new round */
+  uint32_t closed[MAX_CARDS]; /* until when a card's questions are not answered again */
+  uint32_t seen[MAX_CARDS];   /* the highest round in a frame that this card signed */
+  uint32_t acted;             /* rounds whose entries were handed to host_act */
+  uint16_t heard, ask;        /* cards that were heard; cards to ask at the end of the tick */
   int next_peer;
   uint32_t progress;    /* grows with every new frame and every new round: only then is anything tried again */
   uint32_t again;       /* entries put back in line because their blocks were passed over */
