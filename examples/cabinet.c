@@ -21,7 +21,8 @@ enum {
   ENTRIES = 30, /* most entries that each card is given, one every */
   EVERY = 40,   /* so many ticks */
   TEXT = 64,
-  TERM = 2 /* this term's number; frames of term 1 are among the junk */
+  TERM = 2,         /* this term's number; frames of term 1 are among the junk */
+  LEAST_ROUNDS = 30 /* so that entries can come on the list with 15 cards too */
 };
 
 /* How a card fails. A deaf one hears nothing for a while, a mute one is not heard; from TWO on a card lies. */
@@ -47,7 +48,7 @@ static struct {
   int is_open[MAX_CARDS], given[MAX_CARDS];
   uint32_t behind[MAX_CARDS]; /* how many rounds a deaf card was behind when it came back, */
   int late[MAX_CARDS];        /* and whether the term was over then */
-  uint32_t start[MAX_CARDS];
+  uint32_t start[MAX_CARDS];  /* the tick at which a card is opened */
   fault faults[MAX_CARDS];
   cable in[MAX_CARDS];
   uint32_t *acts[MAX_CARDS], acted[MAX_CARDS]; /* the rounds whose entries a card acted on */
@@ -148,6 +149,7 @@ void host_act(int id, uint32_t round, const uint8_t *entry, size_t len) {
   cabinet.acts[id][cabinet.acted[id]++] = round;
 }
 
+/* The first alarm of each kind is printed, all are counted. */
 void host_alarm(int id, alarm_kind kind, int other, uint32_t round) {
   if (!keeps_rules(id)) return;
   if (cabinet.alarms[kind]++ > 0) return;
@@ -450,7 +452,7 @@ static const char usage[] =
     "usage: cabinet [OPTIONS] [CARDS [SEED [ROUNDS]]]\n"
     "  --cards N      3 to 15, odd (3)\n"
     "  --seed S       of the random numbers (1)\n"
-    "  --rounds T     of the term, 1 to 4096 (120)\n"
+    "  --rounds T     of the term, 30 to 4096 (120)\n"
     "  --fault KIND   how f = (N - 1) / 2 cards fail (dead): none, dead, deaf or mute (for 900 ticks, then back), two (two blocks for "
     "a\n"
     "                 round), blames (of everybody), junk, hide (a block shown to one card only), all (all lies), mixed (one of each)\n"
@@ -493,7 +495,7 @@ static int option(const char *word, const char *value) {
   if (strcmp(word, "--fault") == 0) cabinet.kind = fault_named(value);
   else if (strcmp(word, "--cards") == 0) cabinet.n = (int)number(value, 3, MAX_CARDS);
   else if (strcmp(word, "--seed") == 0) cabinet.seed = number(value, 0, UINT32_MAX);
-  else if (strcmp(word, "--rounds") == 0) cabinet.rounds = number(value, 1, APOLLO_MAX_ROUNDS);
+  else if (strcmp(word, "--rounds") == 0) cabinet.rounds = number(value, LEAST_ROUNDS, APOLLO_MAX_ROUNDS);
   else if (strcmp(word, "--delay") == 0) cabinet.delay = number(value, 1, 1000);
   else if (strcmp(word, "--loss") == 0) cabinet.loss = number(value, 0, 1000);
   else if (strcmp(word, "--timeout") == 0) cabinet.timeout = number(value, 1, APOLLO_MAX_TIMEOUT);

@@ -117,8 +117,8 @@ static proposal *lend(card *c) {
   return is_behind(c) || waited(c) + turns > last_useful(c) ? NULL : next_proposal(c);
 }
 
-/* Hands on what was committed since the last call. An own entry leaves the line when its block is among it; where another card's block
- * or none stands in its place, the block was passed over for good and the entry is proposed again. */
+/* Hands on what was committed since the last call. An own entry leaves the line when its block is among that; where the block's slot is
+ * empty, it was passed over for good, and the entry is proposed again. */
 static void act(card *c) {
   size_t left = 0;
   for (; c->acted < committed(c); c->acted++) {

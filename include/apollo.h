@@ -21,8 +21,8 @@
  *     before the frame is handed in; the sender's says nothing.
  *   - It covers the whole frame and what all cards share: n, f, T and the term's number. Frames carry no term, and the last term's
  *     block 1 would be answered 0 in the next. Hand in no frame of another term.
- *   - Keep the signature of each block in the log and of each blame, to pass it on. A blame is a function of round and signer (table
- *     below): these two and a signature are enough on the wire.
+ *   - Keep the signature of each block in the log and of each blame, to pass it on as long as the term lasts. A blame is a function of
+ *     round and signer (table below): these two and a signature are enough on the wire.
  *   - Sign what the card's calls emit, the first `answer.frames` frames of 512 bytes in the out buffer, and nothing else.
  *
  * Sending
@@ -68,8 +68,8 @@
  *
  * Every call takes any bytes and any record and answers with a number: 0 taken, else a refusal, and a refusal changes no record and no
  * lent buffer. What C cannot check is the caller's part: a pointer is valid for its length, in elements, and writable where it is not
- * const; no two buffers of one call overlap; no other thread writes any of them during the call. A pointer with length 0 may be null:
- * an empty entry is NULL, 0. Calls on different cards' buffers may run at the same time.
+ * const; no two buffers of one call overlap; no other thread touches them during the call. A pointer with length 0 may be null: an
+ * empty entry is NULL, 0. Calls on different cards' buffers may run at the same time.
  */
 #ifndef APOLLO_H
 #define APOLLO_H
@@ -82,7 +82,7 @@ extern "C" {
 #endif
 
 /* Header and archive belong together: a host starts only where apollo_version() == APOLLO_VERSION. The number grows with every change
- * of a struct, of a call's parameters, of a refusal or of what a call does. Compiled code of one version is not linked with another. */
+ * of a declaration here, or of what a call does; the next one makes the record longer. */
 #define APOLLO_VERSION 1u
 uint32_t apollo_version(void);
 
