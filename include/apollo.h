@@ -82,7 +82,7 @@ extern "C" {
 #endif
 
 /* Header and archive belong together: a host starts only where apollo_version() == APOLLO_VERSION. The number grows with every change
- * of a declaration here, or of what a call does; the next one makes the record longer. */
+ * of a declaration here, or of what a call does. */
 #define APOLLO_VERSION 1u
 uint32_t apollo_version(void);
 
