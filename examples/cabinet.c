@@ -55,7 +55,7 @@ static struct {
   uint32_t alarms[ALARM_KINDS], lies;          /* lies: packets made up, changed or withheld */
 } cabinet;
 
-static void stop(const char *why) {
+static _Noreturn void stop(const char *why) {
   fprintf(stderr, "cabinet: %s\n", why);
   exit(2);
 }
@@ -234,7 +234,7 @@ static void send_junk(int from, int to) {
   p.from = (uint8_t)from;
   if (p.kind == PACKET_BLOCK && chance(4)) junk_block(from, &p.block);
   if (p.kind == PACKET_BLAMES) p.blames.round = cabinet.cards[from].record.round.value; /* in others' names */
-  if (p.kind == PACKET_STATUS && chance(2)) p.status.round = 1, p.status.committed = 0; /* asks for all, always */
+  if (p.kind == PACKET_STATUS && chance(2)) p.status = (card_status){.round = 1};       /* asks for all, always */
   host_send(from, to, &p);
   cabinet.lies++;
 }
@@ -453,8 +453,7 @@ static const char usage[] =
     "  --cards N      3 to 15, odd (3)\n"
     "  --seed S       of the random numbers (1)\n"
     "  --rounds T     of the term, 30 to 4096 (120)\n"
-    "  --fault KIND   how f = (N - 1) / 2 cards fail (dead): none, dead, deaf or mute (for 900 ticks, then back), two (two blocks for "
-    "a\n"
+    "  --fault KIND   how f = (N - 1) / 2 cards fail (dead): none, dead, deaf or mute (for 900 ticks, then back), two (blocks for one\n"
     "                 round), blames (of everybody), junk, hide (a block shown to one card only), all (all lies), mixed (one of each)\n"
     "  --delay D      packets come after 1 to D ticks (6)\n"
     "  --loss K       one packet in K is lost, 0 for none (8)\n"
@@ -463,21 +462,22 @@ static const char usage[] =
     "  --list         print the committed list\n"
     "Ends with 0 if all lists agree, no entry is lost and every premise was kept; with 1 if not.\n";
 
+static _Noreturn void wrong_usage(void) {
+  fputs(usage, stderr);
+  exit(2);
+}
+
 static uint32_t number(const char *text, uint32_t low, uint32_t high) {
-  char *end;
+  char *end = NULL;
   unsigned long v = text ? strtoul(text, &end, 10) : 0;
-  if (!text || end == text || *end || v < low || v > high) {
-    fputs(usage, stderr);
-    exit(2);
-  }
+  if (!text || end == text || *end || v < low || v > high) wrong_usage();
   return (uint32_t)v;
 }
 
 static fault fault_named(const char *text) {
   for (int k = 0; k < FAULTS && text; k++)
     if (strcmp(text, fault_names[k]) == 0) return (fault)k;
-  fputs(usage, stderr);
-  exit(2);
+  wrong_usage();
 }
 
 /* Reads one option; the count of words that it took. */
@@ -499,7 +499,7 @@ static int option(const char *word, const char *value) {
   else if (strcmp(word, "--delay") == 0) cabinet.delay = number(value, 1, 1000);
   else if (strcmp(word, "--loss") == 0) cabinet.loss = number(value, 0, 1000);
   else if (strcmp(word, "--timeout") == 0) cabinet.timeout = number(value, 1, APOLLO_MAX_TIMEOUT);
-  else number(NULL, 0, 0);
+  else wrong_usage();
   return 2;
 }
 
@@ -519,7 +519,7 @@ static void read_options(int argc, char **argv) {
     if (argv[i][0] == '-' || plain == 3) i += option(argv[i], i + 1 < argc ? argv[i + 1] : NULL);
     else option(names[plain++], argv[i++]);
   }
-  if (cabinet.n % 2 == 0) number(NULL, 0, 0);
+  if (cabinet.n % 2 == 0) wrong_usage();
   cabinet.f = (cabinet.n - 1) / 2;
   if (!cabinet.rounds) cabinet.rounds = 120;
   if (!cabinet.timeout) cabinet.timeout = safe_timeout();

@@ -130,7 +130,10 @@ static void act(card *c) {
     proposal *p = &c->line[i];
     int decided = p->round > 0 && p->round <= committed(c);
     if (decided && filled(c, p->round) && p->round <= last_useful(c)) continue;
-    if (decided) p->round = 0, c->again++;
+    if (decided) {
+      p->round = 0;
+      c->again++;
+    }
     if (left < i) c->line[left] = *p;
     left++;
   }
@@ -401,9 +404,9 @@ void card_tick(card *c) {
 int card_open(card *c, card_setup setup) {
   size_t t = setup.rounds;
   uint8_t out[APOLLO_OUT];
-  if (apollo_version() != APOLLO_VERSION || t < 1 || t > APOLLO_MAX_ROUNDS) return 0;
   memset(c, 0, sizeof *c);
   c->setup = setup;
+  if (apollo_version() != APOLLO_VERSION || t < 1 || t > APOLLO_MAX_ROUNDS || setup.retry < 1) return 0;
   c->log = malloc(t * APOLLO_FRAME);
   c->masks = malloc(t * sizeof *c->masks);
   c->signature = calloc(t, sizeof *c->signature);

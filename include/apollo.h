@@ -30,13 +30,12 @@
  *   - An emitted block goes to all, after its parent and the blames of every round between the two: without them it is answered 13.
  *   - When a call moves the card to another round and emits no block, the leader that the answer names is sent the newest block, its
  *     parent, and the blames of every round that was passed over between them and since.
- *   - Cables lose frames. While the card stays in a round, send all this again every few ticks, and ask other cards for what is
- *     missing: f + 1 of them, so that one is correct.
- *   - A card that asks is behind, or was away. Send it, for each round from its committed one (not included) up to the round waited
- *     for, lowest first, the block in the slot, or the round's blames where the slot is empty. The host keeps those frames: a mask only
- *     says who blamed.
- *   - Compare lists: tell other cards the committed round and the digest of its block. Whoever has committed that round must have the
- *     same.
+ *   - Cables lose frames. While the card stays in a round, send all this again every few ticks, and ask other cards, f + 1 of them, so
+ *     that one is correct. A question tells the round waited for, the committed round and the digest of its block.
+ *   - Who is asked by a card in an earlier round sends it, for each round above that card's committed one and below the own R, lowest
+ *     first, the block in the slot, or the round's blames where the slot is empty. In the same round: its blames. The host keeps those
+ *     frames: a mask only says who blamed.
+ *   - Questions also compare lists: whoever has committed that round must have the same digest there.
  *
  * Handing in: blocks by apollo_branch, blames by apollo_blame (byte 0 says which)
  *   - Keep each block until its round is committed, also one that is answered 10: a later block may need it as its parent, in one
