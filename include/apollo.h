@@ -3,7 +3,8 @@
  * n = 2f + 1 cards (3 to 15) keep one list of entries alike, though f of them may fail in any manner. This library is one card's step
  * machine. It keeps nothing between calls, allocates nothing and never blocks: all state is in the record, the log and the masks, which
  * the host holds and lends to each call. What follows is the host's part: the agreement of the lists rests on it. docs/HOSTS.md has the
- * life of a card step by step, the reasons and a table for the repairer; examples/card.c is a host that keeps these rules.
+ * life of a card step by step, the reasons and a table for the repairer; examples/card.c is a host that keeps these rules. T is the
+ * last round of a term, R the round that a card waits for.
  *
  * State
  *   - One record, one log of 512 * T bytes and one array of T masks for each card. Hand each call the record, log and masks exactly as
