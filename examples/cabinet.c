@@ -16,7 +16,7 @@ enum {
   IDLE = 2,       /* ticks that a leader with nothing to propose waits */
   SKEW = 100,     /* the cards start at random within so many ticks */
   GRACE = 200,    /* ticks that a card waits at the start for the others */
-  CUT_FROM = 250, /* when deaf and mute cards fall so, and for how long */
+  CUT_FROM = 250, /* when deaf and mute cards fall so and lost ones lose their state; and for how long the former are cut off */
   CUT_FOR = 900,
   ENTRIES = 30, /* most entries that each card is given, one every */
   EVERY = 40,   /* so many ticks */
@@ -25,9 +25,11 @@ enum {
   LEAST_ROUNDS = 30 /* so that entries can come on the list with 15 cards too */
 };
 
-/* How a card fails. A deaf one hears nothing for a while, a mute one is not heard; from TWO on a card lies. */
-typedef enum { NONE, DEAD, DEAF, MUTE, TWO, BLAMES, JUNK, HIDE, ALL, MIXED, FAULTS } fault;
-static const char *const fault_names[FAULTS] = {"none", "dead", "deaf", "mute", "two", "blames", "junk", "hide", "all", "mixed"};
+/* How a card fails. A deaf one hears nothing for a while, a mute one is not heard. A lost one loses its state, is opened afresh and
+ * only follows: it asks, and sends no frame any more. From TWO on a card lies. */
+typedef enum { NONE, DEAD, DEAF, MUTE, LOST, TWO, BLAMES, JUNK, HIDE, ALL, MIXED, FAULTS } fault;
+static const char *const fault_names[FAULTS] = {"none",   "dead", "deaf", "mute", "lost", "two",
+                                                "blames", "junk", "hide", "all",  "mixed"};
 
 typedef struct {
   packet p;
@@ -46,7 +48,7 @@ static struct {
   uint8_t key[MAX_CARDS][APOLLO_DIGEST];
   card cards[MAX_CARDS];
   int is_open[MAX_CARDS], given[MAX_CARDS];
-  uint32_t behind[MAX_CARDS]; /* how many rounds a deaf card was behind when it came back, */
+  uint32_t behind[MAX_CARDS]; /* how many rounds a deaf card was behind when it came back, a lost one when it began again, */
   int late[MAX_CARDS];        /* and whether the term was over then */
   uint32_t start[MAX_CARDS];  /* the tick at which a card is opened */
   fault faults[MAX_CARDS];
@@ -71,8 +73,9 @@ static int is_cut_now(int i, fault how) {
   return cabinet.faults[i] == how && cabinet.now >= CUT_FROM && cabinet.now < CUT_FROM + CUT_FOR;
 }
 static int lies(int i) { return cabinet.faults[i] >= TWO; }
-/* A deaf or mute card does, though it is counted among the f that fail. */
-static int keeps_rules(int i) { return cabinet.faults[i] == NONE || is_cut(i); }
+static int follows(int i) { return cabinet.faults[i] == LOST && cabinet.now >= CUT_FROM; }
+/* Deaf, mute and lost cards do, though they are counted among the f that fail: their lists must agree with the others'. */
+static int keeps_rules(int i) { return cabinet.faults[i] == NONE || cabinet.faults[i] == LOST || is_cut(i); }
 static int leader_of(uint32_t round) { return (int)((round - 1) % (uint32_t)cabinet.n); }
 static const uint8_t *slot(int i, uint32_t round) { return cabinet.cards[i].log + (size_t)(round - 1) * APOLLO_FRAME; }
 
@@ -123,7 +126,8 @@ static int twist(int from, int to, packet *p);
 void host_send(int from, int to, const packet *p) {
   packet sent = *p;
   if (lies(from) && !twist(from, to, &sent)) return;
-  if (is_cut_now(from, MUTE) || cabinet.faults[to] == DEAD || (cabinet.loss && chance(cabinet.loss) == 0)) return;
+  if (is_cut_now(from, MUTE) || cabinet.faults[to] == DEAD || (follows(from) && p->kind != PACKET_STATUS)) return;
+  if (cabinet.loss && chance(cabinet.loss) == 0) return;
   put(&cabinet.in[to], &sent);
   if (cabinet.loss && chance(cabinet.loss) == 0) put(&cabinet.in[to], &sent);
 }
@@ -251,7 +255,7 @@ static void lie(int from) {
 
 /* f cards in a row fail, so that their rounds follow each other. */
 static void choose_faults(void) {
-  static const fault mixed[] = {DEAD, DEAF, ALL, MUTE, TWO, HIDE, JUNK};
+  static const fault mixed[] = {DEAD, DEAF, ALL, MUTE, LOST, TWO, HIDE};
   int first = (int)chance((uint32_t)cabinet.n);
   for (int k = 0; k < cabinet.f; k++) cabinet.faults[(first + k) % cabinet.n] = cabinet.kind == MIXED ? mixed[k] : cabinet.kind;
 }
@@ -282,13 +286,21 @@ static void note_lag(int i) {
   }
 }
 
+static void lose_state(int i) {
+  card_close(&cabinet.cards[i]);
+  open_card(i);
+  cabinet.acted[i] = 0;
+  note_lag(i);
+}
+
 static void turn(int i) {
   if (cabinet.faults[i] == DEAD) return;
   if (cabinet.now == cabinet.start[i]) open_card(i);
+  if (cabinet.faults[i] == LOST && cabinet.now == CUT_FROM) lose_state(i);
   if (cabinet.faults[i] == DEAF && cabinet.now == CUT_FROM + CUT_FOR) note_lag(i);
   deliver(i);
   if (!cabinet.is_open[i]) return;
-  if (cabinet.now % EVERY == cabinet.start[i] % EVERY && cabinet.given[i] < ENTRIES) give_entry(i);
+  if (cabinet.now % EVERY == cabinet.start[i] % EVERY && cabinet.given[i] < ENTRIES && !follows(i)) give_entry(i);
   card_tick(&cabinet.cards[i]);
   if (lies(i)) lie(i);
 }
@@ -341,6 +353,7 @@ static int report_lists(int best) {
            r->committed_height.value, r->committed_round.value);
     if (cabinet.faults[i] == DEAF)
       printf("; was %u rounds behind when it came back%s", cabinet.behind[i], cabinet.late[i] ? ", the term being over" : "");
+    if (cabinet.faults[i] == LOST) printf("; was %u rounds behind when it began again, to follow", cabinet.behind[i]);
     putchar('\n');
     for (int j = 0; j < i; j++)
       if (keeps_rules(i) && keeps_rules(j) && parting(i, j)) {
@@ -371,13 +384,14 @@ static int in_line(int i, const char *text, size_t len) {
   return 0;
 }
 
-/* Each entry of a card that keeps the rules is on the list once, or still in its card's line for the next term. */
+/* Each entry of a card that keeps the rules and its state is on the list once, or still in its card's line for the next term. */
 static int report_entries(int best) {
   int all = 0, listed = 0, waiting = 0, lost = 0, twice = 0;
   uint32_t again = 0;
   for (int i = 0; i < cabinet.n; i++) {
-    again += keeps_rules(i) ? cabinet.cards[i].again : 0;
-    for (int k = 0; k < cabinet.given[i] && keeps_rules(i); k++) {
+    if (cabinet.faults[i] != NONE && !is_cut(i)) continue;
+    again += cabinet.cards[i].again;
+    for (int k = 0; k < cabinet.given[i]; k++) {
       char text[TEXT];
       size_t len = entry_text(i, k, text);
       int times = on_list(best, text, len), waits = in_line(i, text, len);
@@ -453,8 +467,9 @@ static const char usage[] =
     "  --cards N      3 to 15, odd (3)\n"
     "  --seed S       of the random numbers (1)\n"
     "  --rounds T     of the term, 30 to 4096 (120)\n"
-    "  --fault KIND   how f = (N - 1) / 2 cards fail (dead): none, dead, deaf or mute (for 900 ticks, then back), two (blocks for one\n"
-    "                 round), blames (of everybody), junk, hide (a block shown to one card only), all (all lies), mixed (one of each)\n"
+    "  --fault KIND   how f = (N - 1) / 2 cards fail (dead): none, dead, deaf or mute (for 900 ticks, then back), lost (the state:\n"
+    "                 they follow), two (blocks for one round), blames (of everybody), junk, hide (a block shown to one card only),\n"
+    "                 all (all lies), mixed (one of each)\n"
     "  --delay D      packets come after 1 to D ticks (6)\n"
     "  --loss K       one packet in K is lost, 0 for none (8)\n"
     "  --timeout W    ticks until a leader is blamed (by the rule of docs/HOSTS.md)\n"

@@ -174,9 +174,9 @@ static void take(card *c, apollo_answer a, const uint8_t *out, proposal *lent) {
   if (a.number != APOLLO_TAKEN) return;
   c->record = a.replica;
   for (int k = 0; k < a.frames; k++) sign(c, out + k * APOLLO_FRAME, lent);
+  /* A card that is to live on after a restart writes its state, or the call with all that it was lent, to disk here: before it acts on
+   * anything or sends it. */
   act(c);
-  /* A card that is to live on after a restart writes its state, or the call with all that it was lent, to disk here: before it sends.
-   */
   if (a.frames > 0 && out[0] == APOLLO_BLAME) send_own_blame(c, round_of(out));
   if (waited(c) == before) return;
   c->moved = c->now;
