@@ -1,50 +1,65 @@
-/* A small, complete host: the cards of one cabinet in one process, with cables that lose, repeat and delay frames.
+/* cabinet.c: the cards of one cabinet in one process. card.c is the host of each card; this file brings what a real program has round
+ * it (cables, keys, a clock) as a simulation with a seed, lets cards fail, and says at the end whether all lists agree. `cabinet
+ * --help` shows the options.
  *
- *   cabinet [N] [SEED] [ROUNDS]      3 to 15 cards (an odd number), a seed for the cables, the rounds of the term
- *
- * The last f of the 2 f + 1 cards are dead, so their rounds are blamed and passed over. The committed entries are printed, and the
- * program fails if two cards' committed lists disagree, if nothing was committed, or if a call answers what a host that keeps the rules
- * never sees. To make a host of your own, keep `card`, `apply` and `hand_in`; put real cables, signatures and a clock in the place of
- * `send`, `deliver` and `run`. */
-#include "apollo.h"
+ * Signatures are simulated honestly: a frame travels with a signature that is made with its signer's key and checked when it comes in.
+ * The liars of this file sign with their own keys only, and pass on what others signed. In place of public keys the check looks up the
+ * signer's key; a real program takes a signature scheme such as Ed25519. */
+#include "card.h"
 
 #include <stdio.h>
 #include <stdlib.h>
 #include <string.h>
 
-enum { MAX_CARDS = 15, TIMEOUT = 80, RESEND = 4, MAX_DELAY = 6, MAX_KEPT = 64 };
+enum {
+  RETRY = 4,      /* ticks until a card sends again */
+  IDLE = 2,       /* ticks that a leader with nothing to propose waits */
+  SKEW = 100,     /* the cards start at random within so many ticks */
+  GRACE = 200,    /* ticks that a card waits at the start for the others */
+  CUT_FROM = 250, /* when deaf and mute cards fall so and lost ones lose their state; and for how long the former are cut off */
+  CUT_FOR = 900,
+  ENTRIES = 30, /* most entries that each card is given, one every */
+  EVERY = 40,   /* so many ticks */
+  TEXT = 64,
+  TERM = 2,         /* this term's number; frames of term 1 are among the junk */
+  LEAST_ROUNDS = 30 /* so that entries can come on the list with 15 cards too */
+};
+
+/* How a card fails. A deaf one hears nothing for a while, a mute one is not heard. A lost one loses its state, is opened afresh and
+ * only follows: it asks, and sends no frame any more. From TWO on a card lies. */
+typedef enum { NONE, DEAD, DEAF, MUTE, LOST, TWO, BLAMES, JUNK, HIDE, ALL, MIXED, FAULTS } fault;
+static const char *const fault_names[FAULTS] = {"none",   "dead", "deaf", "mute", "lost", "two",
+                                                "blames", "junk", "hide", "all",  "mixed"};
 
 typedef struct {
-  uint8_t bytes[APOLLO_FRAME];
-  int from, due; /* the sender, and when the frame arrives */
+  packet p;
+  uint32_t due;
 } message;
 
 typedef struct {
   message *list;
   size_t count, room;
-} cable; /* frames under way to one card */
-
-typedef struct {
-  apollo_replica record;
-  uint8_t *log;
-  uint16_t *masks;
-  cable in;
-  message kept[MAX_KEPT]; /* frames to hand in again */
-  size_t kept_count;
-  uint8_t sent[2][APOLLO_FRAME]; /* its newest blame and block, sent again until others move on */
-  int has_sent[2];
-  unsigned proposals;
-} card;
+} cable; /* packets under way to one card */
 
 static struct {
-  int n, f, alive, now;
-  uint32_t rounds, seed;
+  int n, f, show_list;
+  fault kind;
+  uint32_t rounds, seed, timeout, delay, loss, now;
+  uint8_t key[MAX_CARDS][APOLLO_DIGEST];
   card cards[MAX_CARDS];
+  int is_open[MAX_CARDS], given[MAX_CARDS];
+  uint32_t behind[MAX_CARDS]; /* how many rounds a deaf card was behind when it came back, a lost one when it began again, */
+  int late[MAX_CARDS];        /* and whether the term was over then */
+  uint32_t start[MAX_CARDS];  /* the tick at which a card is opened */
+  fault faults[MAX_CARDS];
+  cable in[MAX_CARDS];
+  uint32_t *acts[MAX_CARDS], acted[MAX_CARDS]; /* the rounds whose entries a card acted on */
+  uint32_t alarms[ALARM_KINDS], lies;          /* lies: packets made up, changed or withheld */
 } cabinet;
 
-static void fail(const char *what, int who, unsigned number) {
-  fprintf(stderr, "cabinet: card %d: %s (%u)\n", who, what, number);
-  exit(1);
+static _Noreturn void stop(const char *why) {
+  fprintf(stderr, "cabinet: %s\n", why);
+  exit(2);
 }
 
 /* A small generator, so that a seed gives the same run everywhere. */
@@ -53,214 +68,489 @@ static uint32_t chance(uint32_t below) {
   return (cabinet.seed >> 8) % below;
 }
 
+static int is_cut(int i) { return cabinet.faults[i] == DEAF || cabinet.faults[i] == MUTE; }
+static int is_cut_now(int i, fault how) {
+  return cabinet.faults[i] == how && cabinet.now >= CUT_FROM && cabinet.now < CUT_FROM + CUT_FOR;
+}
+static int lies(int i) { return cabinet.faults[i] >= TWO; }
+static int follows(int i) { return cabinet.faults[i] == LOST && cabinet.now >= CUT_FROM; }
+/* Deaf, mute and lost cards do, though they are counted among the f that fail: their lists must agree with the others'. */
+static int keeps_rules(int i) { return cabinet.faults[i] == NONE || cabinet.faults[i] == LOST || is_cut(i); }
+static int leader_of(uint32_t round) { return (int)((round - 1) % (uint32_t)cabinet.n); }
+static const uint8_t *slot(int i, uint32_t round) { return cabinet.cards[i].log + (size_t)(round - 1) * APOLLO_FRAME; }
+
+/* ---- keys */
+
+/* A signature covers all that the cards share: n, f, T and the term (and the public keys, where there are some). Without the term
+ * an old term's block 1 would be taken again. */
+static void sign_in_term(int signer, uint8_t term, const uint8_t *frame, uint8_t signature[SIGNATURE]) {
+  uint8_t text[APOLLO_DIGEST + 8 + APOLLO_FRAME] = {0};
+  uint8_t *shared = text + APOLLO_DIGEST;
+  memcpy(text, cabinet.key[signer], APOLLO_DIGEST);
+  shared[0] = (uint8_t)cabinet.n;
+  shared[1] = (uint8_t)cabinet.f;
+  shared[2] = (uint8_t)(cabinet.rounds >> 8);
+  shared[3] = (uint8_t)cabinet.rounds;
+  shared[4] = term;
+  memcpy(shared + 8, frame, APOLLO_FRAME);
+  apollo_digest(text, sizeof text, signature);
+}
+
+void host_sign(int signer, const uint8_t frame[APOLLO_FRAME], uint8_t signature[SIGNATURE]) {
+  sign_in_term(signer, TERM, frame, signature);
+}
+
+int host_verify(const uint8_t frame[APOLLO_FRAME], const uint8_t signature[SIGNATURE]) {
+  uint8_t right[SIGNATURE];
+  if (frame[1] >= cabinet.n) return 0;
+  sign_in_term(frame[1], TERM, frame, right);
+  return memcmp(signature, right, SIGNATURE) == 0;
+}
+
 /* ---- cables */
 
-static void put(cable *to, const uint8_t *frame, int from, int due) {
+static void put(cable *to, const packet *p) {
   if (to->count == to->room) {
-    to->room = to->room ? 2 * to->room : 16;
+    to->room = to->room ? 2 * to->room : 64;
     to->list = realloc(to->list, to->room * sizeof *to->list);
-    if (!to->list) exit(1);
+    if (!to->list) stop("no memory");
   }
   message *m = &to->list[to->count++];
-  memcpy(m->bytes, frame, APOLLO_FRAME);
-  m->from = from;
-  m->due = due;
+  m->p = *p;
+  m->due = cabinet.now + 1 + chance(cabinet.delay);
 }
 
-/* To every other living card: one copy in eight is lost, one in eight comes twice, and all come late by a random time. */
-static void send(int from, const uint8_t *frame) {
-  for (int to = 0; to < cabinet.alive; to++) {
-    if (to == from || chance(8) == 0) continue;
-    put(&cabinet.cards[to].in, frame, from, cabinet.now + 1 + (int)chance(MAX_DELAY));
-    if (chance(8) == 0) put(&cabinet.cards[to].in, frame, from, cabinet.now + 1 + (int)chance(MAX_DELAY));
-  }
+static int twist(int from, int to, packet *p);
+
+/* One packet in `loss` is lost, one in `loss` comes twice, and all come late by a random time. */
+void host_send(int from, int to, const packet *p) {
+  packet sent = *p;
+  if (lies(from) && !twist(from, to, &sent)) return;
+  if (is_cut_now(from, MUTE) || cabinet.faults[to] == DEAD || (follows(from) && p->kind != PACKET_STATUS)) return;
+  if (cabinet.loss && chance(cabinet.loss) == 0) return;
+  put(&cabinet.in[to], &sent);
+  if (cabinet.loss && chance(cabinet.loss) == 0) put(&cabinet.in[to], &sent);
 }
 
-/* ---- one card */
-
-/* What this card proposes when it leads a round. */
-static size_t next_entry(int who, uint8_t entry[APOLLO_ENTRY]) {
-  return (size_t)snprintf((char *)entry, APOLLO_ENTRY, "card %d: group %u to night service", who, cabinet.cards[who].proposals);
-}
-
-/* Takes over a call's answer: keeps the record and sends what was emitted. */
-static void apply(int who, apollo_answer a, const uint8_t *out) {
-  card *c = &cabinet.cards[who];
-  c->record = a.replica;
-  for (int i = 0; i < a.frames; i++) {
-    const uint8_t *frame = out + i * APOLLO_FRAME;
-    int block = frame[0] == 1;
-    memcpy(c->sent[block], frame, APOLLO_FRAME);
-    c->has_sent[block] = 1;
-    c->proposals += (unsigned)block;
-    send(who, frame);
-  }
-}
-
-static void keep(card *c, const message *m) {
-  if (c->kept_count == MAX_KEPT) memmove(c->kept, c->kept + 1, --c->kept_count * sizeof *c->kept);
-  c->kept[c->kept_count++] = *m;
-}
-
-static apollo_answer branch(int who, const uint8_t *frames, size_t len) {
-  card *c = &cabinet.cards[who];
-  uint8_t entry[APOLLO_ENTRY], out[APOLLO_OUT];
-  apollo_answer a = apollo_branch(c->record, c->log, cabinet.rounds * APOLLO_FRAME, c->masks, cabinet.rounds, frames, len, entry,
-                                  next_entry(who, entry), out, sizeof out);
-  if (a.number == APOLLO_TAKEN) apply(who, a, out);
-  return a;
-}
-
-static apollo_answer blame(int who, const uint8_t *frame) {
-  card *c = &cabinet.cards[who];
-  uint8_t entry[APOLLO_ENTRY], out[APOLLO_OUT];
-  apollo_answer a = apollo_blame(c->record, c->log, cabinet.rounds * APOLLO_FRAME, c->masks, cabinet.rounds, frame, APOLLO_FRAME, entry,
-                                 next_entry(who, entry), out, sizeof out);
-  if (a.number == APOLLO_TAKEN) apply(who, a, out);
-  return a;
-}
-
-/* Asks a neighbour for all that it holds above this card's committed height, and hands it in as one branch. */
-static void catch_up(int who, int from) {
-  card *c = &cabinet.cards[who], *other = &cabinet.cards[from];
-  size_t len = cabinet.rounds * APOLLO_FRAME;
-  uint8_t *frames = malloc(len + APOLLO_OUT);
-  if (!frames) exit(1);
-  apollo_fetched got = apollo_fetch(other->record, other->log, len, c->record.committed_height, frames, len + APOLLO_OUT);
-  if (got.number == APOLLO_TAKEN) branch(who, frames, got.count * APOLLO_FRAME);
-  free(frames);
-}
-
-/* Hands in one frame as it came off the cable. */
-static void hand_in(int who, const message *m) {
-  apollo_answer a = m->bytes[0] == 1 ? branch(who, m->bytes, APOLLO_FRAME) : blame(who, m->bytes);
-  switch (a.number) {
-    case APOLLO_TAKEN:
-    case APOLLO_ROUNDS_OVER:
-    case APOLLO_STALE: break; /* taken, or known already */
-    case APOLLO_UNATTACHED: catch_up(who, m->from); break;
-    case APOLLO_NOT_CERTIFIED: /* blames are missing */
-    case APOLLO_EARLY: keep(&cabinet.cards[who], m); break;
-    default: fail("a frame from a living card is refused", who, a.number);
-  }
-}
-
-/* ---- the cabinet */
-
-static void deliver(int who) {
-  card *c = &cabinet.cards[who];
-  for (size_t i = 0; i < c->in.count;) {
-    message m = c->in.list[i];
+/* All that has come is heard before the tick. */
+static void deliver(int to) {
+  cable *in = &cabinet.in[to];
+  for (size_t i = 0; i < in->count;) {
+    message m = in->list[i];
     if (m.due > cabinet.now) {
       i++;
       continue;
     }
-    c->in.list[i] = c->in.list[--c->in.count]; /* frames overtake each other here */
-    hand_in(who, &m);
+    in->list[i] = in->list[--in->count]; /* packets overtake each other here */
+    if (cabinet.is_open[to] && !is_cut_now(to, DEAF)) card_hear(&cabinet.cards[to], &m.p);
   }
 }
 
-/* Hands in once more what was refused with 13 or 14. */
-static void again(int who) {
-  card *c = &cabinet.cards[who];
-  size_t count = c->kept_count;
-  static message old[MAX_KEPT];
-  memcpy(old, c->kept, count * sizeof *old);
-  c->kept_count = 0;
-  for (size_t i = 0; i < count; i++) hand_in(who, &old[i]);
+/* ---- what the cards tell */
+
+void host_act(int id, uint32_t round, const uint8_t *entry, size_t len) {
+  (void)entry, (void)len; /* a real program switches something here */
+  cabinet.acts[id][cabinet.acted[id]++] = round;
 }
 
-static void tick(int who) {
-  card *c = &cabinet.cards[who];
-  uint8_t entry[APOLLO_ENTRY], out[APOLLO_OUT];
-  apollo_answer a = apollo_tick(c->record, c->log, cabinet.rounds * APOLLO_FRAME, c->masks, cabinet.rounds, entry,
-                                next_entry(who, entry), out, sizeof out);
-  if (a.number == APOLLO_TAKEN) apply(who, a, out);
-  else if (a.number != APOLLO_ROUNDS_OVER) fail("a tick is refused", who, a.number);
-  if (cabinet.now % RESEND == 0)
-    for (int i = 0; i < 2; i++)
-      if (c->has_sent[i]) send(who, c->sent[i]);
+/* The first alarm of each kind is printed, all are counted. */
+void host_alarm(int id, alarm_kind kind, int other, uint32_t round) {
+  if (!keeps_rules(id)) return;
+  if (cabinet.alarms[kind]++ > 0) return;
+  static const char *const what[ALARM_KINDS] = {"its record, log or masks were changed (2)",
+                                                "a block would undo what is committed (12)",
+                                                "another block is committed there, or this card lies"};
+  printf("tick %u: alarm of card %d: round %u, card %d: %s\n", cabinet.now, id, round, other, what[kind]);
 }
 
-static void open_card(int who) {
-  card *c = &cabinet.cards[who];
-  uint8_t entry[APOLLO_ENTRY], out[APOLLO_OUT];
-  c->log = malloc(cabinet.rounds * APOLLO_FRAME);
-  c->masks = malloc(cabinet.rounds * sizeof *c->masks);
-  if (!c->log || !c->masks) exit(1);
-  apollo_answer a = apollo_open((uint8_t)who, (uint8_t)cabinet.f, (apollo_ticks){TIMEOUT}, (apollo_round){cabinet.rounds}, c->log,
-                                cabinet.rounds * APOLLO_FRAME, c->masks, cabinet.rounds, entry, next_entry(who, entry), out,
-                                sizeof out);
-  if (a.number != APOLLO_TAKEN) fail("open is refused", who, a.number);
-  apply(who, a, out);
+/* ---- lying cards: they run the code of card.c, and what they send is changed or made up here */
+
+static void put32(uint8_t *p, uint32_t v) {
+  for (int k = 0; k < 4; k++) p[k] = (uint8_t)(v >> (24 - 8 * k));
 }
 
-static int over(void) {
-  for (int i = 0; i < cabinet.alive; i++)
-    if (cabinet.cards[i].record.round.value <= cabinet.rounds) return 0;
-  return 1;
+static uint32_t get32(const uint8_t *p) { return (uint32_t)p[0] << 24 | (uint32_t)p[1] << 16 | (uint32_t)p[2] << 8 | p[3]; }
+
+/* Changes a block's entry, and makes its check and the liar's signature again. */
+static void make_twin(int liar, signed_block *b) {
+  static const char other[] = "a twin";
+  memset(b->frame + 44, 0, APOLLO_ENTRY);
+  memcpy(b->frame + 44, other, sizeof other - 1);
+  b->frame[2] = 0;
+  b->frame[3] = sizeof other - 1;
+  apollo_digest(b->frame, 480, b->frame + 480);
+  host_sign(liar, b->frame, b->signature);
 }
 
-static void run(void) {
-  for (int i = 0; i < cabinet.alive; i++) open_card(i);
-  for (cabinet.now = 0; cabinet.now < 200 * (int)cabinet.rounds && !over(); cabinet.now++)
-    for (int i = 0; i < cabinet.alive; i++) {
-      deliver(i);
-      again(i);
-      tick(i);
+/* The liar's own blocks: one for the odd cards and another for the even ones, or hidden from all but one card. 0: not sent. */
+static int twist(int from, int to, packet *p) {
+  fault kind = cabinet.faults[from];
+  if (p->kind != PACKET_BLOCK || p->block.frame[1] != from) return 1;
+  uint32_t round = get32(p->block.frame + 4);
+  if (kind == ALL) kind = round / (uint32_t)cabinet.n % 2 ? TWO : HIDE;
+  int hidden = kind == HIDE && to != leader_of(round + 1 + round % 3), doubled = kind == TWO && to % 2;
+  if (doubled) make_twin(from, &p->block);
+  cabinet.lies += (uint32_t)(hidden || doubled);
+  return !hidden;
+}
+
+/* Blames the round waited for and the two after it, signed as itself, whoever leads them. */
+static void blame_all(int from) {
+  uint32_t first = cabinet.cards[from].record.round.value;
+  for (uint32_t r = first; r < first + 3 && r <= cabinet.rounds; r++)
+    for (int to = 0; to < cabinet.n; to++) {
+      uint8_t frame[APOLLO_FRAME] = {APOLLO_BLAME, (uint8_t)from};
+      packet p = {.kind = PACKET_BLAMES, .from = (uint8_t)from};
+      put32(frame + 4, r);
+      apollo_digest(frame, 480, frame + 480);
+      p.blames.round = r;
+      p.blames.signers = (uint16_t)(1u << from);
+      host_sign(from, frame, p.blames.signature[from]);
+      if (to == from) continue;
+      host_send(from, to, &p);
+      cabinet.lies++;
     }
 }
 
-/* ---- what was committed */
-
-/* The two committed lists agree: slot by slot up to the smaller committed round. */
-static void compare(int a, int b) {
-  card *x = &cabinet.cards[a], *y = &cabinet.cards[b];
-  uint32_t common = x->record.committed_round.value;
-  if (y->record.committed_round.value < common) common = y->record.committed_round.value;
-  if (memcmp(x->log, y->log, common * APOLLO_FRAME) != 0) fail("its committed list disagrees with a neighbour's", a, (unsigned)b);
+/* A block of the liar's next round, wrong in one of several ways, with its signature; or one of the round that all wait for, in its
+ * leader's name, for which the liar has no signature. */
+static void junk_block(int from, signed_block *b) {
+  const apollo_replica *record = &cabinet.cards[from].record;
+  uint32_t way = chance(7), round = record->round.value;
+  while (way != 1 && leader_of(round) != from) round++;
+  memset(b->frame, 0, APOLLO_FRAME);
+  b->frame[0] = APOLLO_BLOCK;
+  b->frame[1] = (uint8_t)leader_of(round);
+  put32(b->frame + 4, round);
+  put32(b->frame + 8, way == 2 ? round + 9 : record->tip_height.value + (way == 3 ? 2 : 1));
+  if (record->tip_round.value > 0) memcpy(b->frame + 12, slot(from, record->tip_round.value) + 480, APOLLO_DIGEST);
+  if (way == 4) b->frame[12] ^= 1; /* a parent that nobody has */
+  if (way == 5) b->frame[450] = 1; /* not zero where it must be */
+  apollo_digest(b->frame, 480, b->frame + 480);
+  if (way == 6) b->frame[480] ^= 1; /* a wrong check */
+  sign_in_term(from, way == 0 ? TERM - 1 : TERM, b->frame, b->signature);
 }
 
-static void print_list(int who) {
-  card *c = &cabinet.cards[who];
-  for (uint32_t h = 1;; h++) {
-    apollo_part p = apollo_read(c->record, c->log, cabinet.rounds * APOLLO_FRAME, (apollo_height){h});
-    if (p.number == APOLLO_ABSENT) break;
-    if (p.number != APOLLO_TAKEN) fail("a committed height cannot be read", who, p.number);
-    printf("%3u  %.*s\n", h, (int)p.length, (const char *)c->log + p.start);
+static void send_junk(int from, int to) {
+  packet p;
+  for (size_t k = 0; k < sizeof p; k++) ((uint8_t *)&p)[k] = (uint8_t)chance(256);
+  p.kind = (uint8_t)chance(5);
+  p.from = (uint8_t)from;
+  if (p.kind == PACKET_BLOCK && chance(4)) junk_block(from, &p.block);
+  if (p.kind == PACKET_BLAMES) p.blames.round = cabinet.cards[from].record.round.value; /* in others' names */
+  if (p.kind == PACKET_STATUS && chance(2)) p.status = (card_status){.round = 1};       /* asks for all, always */
+  host_send(from, to, &p);
+  cabinet.lies++;
+}
+
+static void lie(int from) {
+  fault kind = cabinet.faults[from];
+  if ((kind == BLAMES || kind == ALL) && cabinet.now % RETRY == 0) blame_all(from);
+  if (kind != JUNK && kind != ALL) return;
+  for (int to = 0; to < cabinet.n; to++)
+    if (to != from && chance(4) == 0) send_junk(from, to);
+}
+
+/* ---- the run */
+
+/* f cards in a row fail, so that their rounds follow each other. */
+static void choose_faults(void) {
+  static const fault mixed[] = {DEAD, DEAF, ALL, MUTE, LOST, TWO, HIDE};
+  int first = (int)chance((uint32_t)cabinet.n);
+  for (int k = 0; k < cabinet.f; k++) cabinet.faults[(first + k) % cabinet.n] = cabinet.kind == MIXED ? mixed[k] : cabinet.kind;
+}
+
+static size_t entry_text(int i, int k, char text[TEXT]) {
+  return (size_t)snprintf(text, TEXT, "card %d: group %d to night service", i, 100 * i + k);
+}
+
+static void open_card(int i) {
+  card_setup setup = {(uint8_t)i, (uint8_t)cabinet.f, cabinet.rounds, cabinet.timeout, RETRY, IDLE, GRACE};
+  if (!card_open(&cabinet.cards[i], setup)) stop("a card cannot be opened");
+  cabinet.is_open[i] = 1;
+}
+
+/* A client hands a card something to propose. */
+static void give_entry(int i) {
+  char text[TEXT];
+  size_t len = entry_text(i, cabinet.given[i], text);
+  if (!card_propose(&cabinet.cards[i], (const uint8_t *)text, len)) return;
+  cabinet.given[i]++;
+}
+
+static void note_lag(int i) {
+  for (int j = 0; j < cabinet.n; j++) {
+    uint32_t there = cabinet.cards[j].record.round.value, here = cabinet.cards[i].record.round.value;
+    if (cabinet.faults[j] == NONE && there > here + cabinet.behind[i]) cabinet.behind[i] = there - here;
+    if (cabinet.faults[j] == NONE && there > cabinet.rounds) cabinet.late[i] = 1;
   }
 }
 
-static void report(void) {
-  int best = 0;
-  for (int i = 0; i < cabinet.alive; i++) {
+static void lose_state(int i) {
+  card_close(&cabinet.cards[i]);
+  open_card(i);
+  cabinet.acted[i] = 0;
+  note_lag(i);
+}
+
+static void turn(int i) {
+  if (cabinet.faults[i] == DEAD) return;
+  if (cabinet.now == cabinet.start[i]) open_card(i);
+  if (cabinet.faults[i] == LOST && cabinet.now == CUT_FROM) lose_state(i);
+  if (cabinet.faults[i] == DEAF && cabinet.now == CUT_FROM + CUT_FOR) note_lag(i);
+  deliver(i);
+  if (!cabinet.is_open[i]) return;
+  if (cabinet.now % EVERY == cabinet.start[i] % EVERY && cabinet.given[i] < ENTRIES && !follows(i)) give_entry(i);
+  card_tick(&cabinet.cards[i]);
+  if (lies(i)) lie(i);
+}
+
+static int is_over(void) {
+  for (int i = 0; i < cabinet.n; i++)
+    if (keeps_rules(i) && !(cabinet.is_open[i] && card_is_over(&cabinet.cards[i]))) return 0;
+  return cabinet.now > SKEW;
+}
+
+static void run(void) {
+  uint32_t most = 5000 + cabinet.rounds * (cabinet.timeout + 50);
+  choose_faults();
+  for (int i = 0; i < cabinet.n; i++) {
+    for (int k = 0; k < APOLLO_DIGEST; k++) cabinet.key[i][k] = (uint8_t)chance(256);
+    cabinet.start[i] = chance(SKEW);
+    cabinet.acts[i] = calloc(cabinet.rounds, sizeof *cabinet.acts[i]);
+    if (!cabinet.acts[i]) stop("no memory");
+  }
+  for (cabinet.now = 0; cabinet.now < most && !is_over(); cabinet.now++)
+    for (int i = 0; i < cabinet.n; i++) turn(i);
+}
+
+/* ---- the report */
+
+/* The first round up to which both have committed and where they differ; 0 if there is none. */
+static uint32_t parting(int a, int b) {
+  uint32_t x = cabinet.cards[a].record.committed_round.value, y = cabinet.cards[b].record.committed_round.value;
+  for (uint32_t r = 1; r <= x && r <= y; r++)
+    if (memcmp(slot(a, r), slot(b, r), APOLLO_FRAME) != 0) return r;
+  return 0;
+}
+
+/* Do two cards' hosts act on the same entries, now that the term is over? */
+static int same_acts(int a, int b) {
+  return parting(a, b) == 0 && cabinet.acted[a] == cabinet.acted[b] &&
+         memcmp(cabinet.acts[a], cabinet.acts[b], cabinet.acted[a] * sizeof *cabinet.acts[a]) == 0;
+}
+
+static int report_lists(int best) {
+  int good = 1;
+  for (int i = 0; i < cabinet.n; i++) {
     const apollo_replica *r = &cabinet.cards[i].record;
-    if (r->committed_height.value > cabinet.cards[best].record.committed_height.value) best = i;
-    for (int j = 0; j < i; j++) compare(i, j);
-    printf("card %d: waits for round %u of %u, holds height %u, committed height %u\n", i, r->round.value, cabinet.rounds,
-           r->tip_height.value, r->committed_height.value);
+    printf("card %d (%s): ", i, fault_names[cabinet.faults[i]]);
+    if (!cabinet.is_open[i]) {
+      puts("not there");
+      continue;
+    }
+    printf("waits for round %u of %u, has committed %u blocks up to round %u", r->round.value, cabinet.rounds,
+           r->committed_height.value, r->committed_round.value);
+    if (cabinet.faults[i] == DEAF)
+      printf("; was %u rounds behind when it came back%s", cabinet.behind[i], cabinet.late[i] ? ", the term being over" : "");
+    if (cabinet.faults[i] == LOST) printf("; was %u rounds behind when it began again, to follow", cabinet.behind[i]);
+    putchar('\n');
+    for (int j = 0; j < i; j++)
+      if (keeps_rules(i) && keeps_rules(j) && parting(i, j)) {
+        printf("LISTS DIFFER: cards %d and %d part at round %u\n", j, i, parting(i, j));
+        good = 0;
+      }
+    if (keeps_rules(i) && good && !(card_is_over(&cabinet.cards[i]) && same_acts(i, best))) {
+      printf("NOT CAUGHT UP: card %d\n", i);
+      good = 0;
+    }
   }
-  printf("%d cards, %d of them dead; the committed entries:\n", cabinet.n, cabinet.f);
-  print_list(best);
-  if (cabinet.cards[best].record.committed_height.value == 0) fail("nothing was committed", best, 0);
+  return good;
+}
+
+static int on_list(int i, const char *text, size_t len) {
+  int count = 0;
+  for (uint32_t k = 0; k < cabinet.acted[i]; k++) {
+    const uint8_t *block = slot(i, cabinet.acts[i][k]);
+    count += ((size_t)block[2] << 8 | block[3]) == len && memcmp(block + 44, text, len) == 0;
+  }
+  return count;
+}
+
+static int in_line(int i, const char *text, size_t len) {
+  const card *c = &cabinet.cards[i];
+  for (size_t k = 0; k < c->lined; k++)
+    if (c->line[k].len == len && memcmp(c->line[k].entry, text, len) == 0) return 1;
+  return 0;
+}
+
+/* Each entry of a card that keeps the rules and its state is on the list once, or still in its card's line for the next term. */
+static int report_entries(int best) {
+  int all = 0, listed = 0, waiting = 0, lost = 0, twice = 0;
+  uint32_t again = 0;
+  for (int i = 0; i < cabinet.n; i++) {
+    if (cabinet.faults[i] != NONE && !is_cut(i)) continue;
+    again += cabinet.cards[i].again;
+    for (int k = 0; k < cabinet.given[i]; k++) {
+      char text[TEXT];
+      size_t len = entry_text(i, k, text);
+      int times = on_list(best, text, len), waits = in_line(i, text, len);
+      all++;
+      listed += times > 0;
+      waiting += waits;
+      lost += times + waits == 0;
+      twice += times + waits > 1;
+    }
+  }
+  printf("entries: %d given, %d on the list, %d wait for the next term, %u proposed again, %d lost, %d twice\n", all, listed, waiting,
+         again, lost, twice);
+  return listed > 0 && lost == 0 && twice == 0;
+}
+
+/* Premise: no correct card blamed a correct one's round. Deaf and mute cards are counted among the f. */
+static int report_blames(void) {
+  int count = 0, by = 0;
+  uint32_t first = 0;
+  for (uint32_t r = cabinet.rounds; r >= 1; r--)
+    for (int i = 0; i < cabinet.n; i++)
+      if (cabinet.faults[i] == NONE && cabinet.faults[leader_of(r)] == NONE && cabinet.cards[i].masks[r - 1] >> i & 1) {
+        count++;
+        by = i;
+        first = r;
+      }
+  printf("correct cards blamed correct ones %d times\n", count);
+  if (count > 0)
+    printf("WHY: the timeout of %u ticks is too small for these cables: card %d blamed round %u though its leader, card %d, was only "
+           "late.\n"
+           "     A premise of the agreement is broken; where the lists are alike all the same, that is luck.\n",
+           cabinet.timeout, by, first, leader_of(first));
+  return count == 0;
+}
+
+/* How the library answered the cards that keep the rules. */
+static void report_answers(void) {
+  printf("answers");
+  for (int k = 0; k < 16; k++) {
+    uint32_t count = 0;
+    for (int i = 0; i < cabinet.n; i++) count += keeps_rules(i) ? cabinet.cards[i].answers[k] : 0;
+    if (count > 0) printf("  %d: %u", k, count);
+  }
+  putchar('\n');
+}
+
+static void print_list(int i) {
+  for (uint32_t h = 1;; h++) {
+    const card *c = &cabinet.cards[i];
+    apollo_part p = apollo_read(c->record, c->log, (size_t)cabinet.rounds * APOLLO_FRAME, (apollo_height){h});
+    if (p.number != APOLLO_TAKEN) break;
+    if (p.length > 0) printf("%4u  %.*s\n", h, (int)p.length, (const char *)c->log + p.start);
+  }
+}
+
+static int report(void) {
+  int best = 0;
+  for (int i = 0; i < cabinet.n; i++)
+    if (keeps_rules(i) && (!keeps_rules(best) || cabinet.acted[i] > cabinet.acted[best])) best = i;
+  if (cabinet.show_list) print_list(best);
+  report_answers();
+  int lists = report_lists(best), entries = report_entries(best), patient = report_blames();
+  int good = lists && entries && patient && !cabinet.alarms[ALARM_STATE] && !cabinet.alarms[ALARM_UNDONE];
+  printf("%d cards, fault %s, %u lies, timeout %u, %u ticks: %s, %s\n", cabinet.n, fault_names[cabinet.kind], cabinet.lies,
+         cabinet.timeout, cabinet.now, lists ? "all lists agree" : "the lists do NOT agree", good ? "all in order" : "NOT in order");
+  return good;
+}
+
+/* ---- options */
+
+static const char usage[] =
+    "usage: cabinet [OPTIONS] [CARDS [SEED [ROUNDS]]]\n"
+    "  --cards N      3 to 15, odd (3)\n"
+    "  --seed S       of the random numbers (1)\n"
+    "  --rounds T     of the term, 30 to 4096 (120)\n"
+    "  --fault KIND   how f = (N - 1) / 2 cards fail (dead): none, dead, deaf or mute (for 900 ticks, then back), lost (the state:\n"
+    "                 they follow), two (blocks for one round), blames (of everybody), junk, hide (a block shown to one card only),\n"
+    "                 all (all lies), mixed (one of each)\n"
+    "  --delay D      packets come after 1 to D ticks (6)\n"
+    "  --loss K       one packet in K is lost, 0 for none (8)\n"
+    "  --timeout W    ticks until a leader is blamed (by the rule of docs/HOSTS.md)\n"
+    "  --impatient    no fault but a timeout of 2 ticks: correct cards blame each other, and the lists part\n"
+    "  --list         print the committed list\n"
+    "Ends with 0 if all lists agree, no entry is lost and every premise was kept; with 1 if not.\n";
+
+static _Noreturn void wrong_usage(void) {
+  fputs(usage, stderr);
+  exit(2);
+}
+
+static uint32_t number(const char *text, uint32_t low, uint32_t high) {
+  char *end = NULL;
+  unsigned long v = text ? strtoul(text, &end, 10) : 0;
+  if (!text || end == text || *end || v < low || v > high) wrong_usage();
+  return (uint32_t)v;
+}
+
+static fault fault_named(const char *text) {
+  for (int k = 0; k < FAULTS && text; k++)
+    if (strcmp(text, fault_names[k]) == 0) return (fault)k;
+  wrong_usage();
+}
+
+/* Reads one option; the count of words that it took. */
+static int option(const char *word, const char *value) {
+  if (strcmp(word, "--help") == 0) {
+    fputs(usage, stdout);
+    exit(0);
+  }
+  if (strcmp(word, "--list") == 0) return cabinet.show_list = 1;
+  if (strcmp(word, "--impatient") == 0) {
+    cabinet.kind = NONE;
+    cabinet.timeout = 2;
+    return 1;
+  }
+  if (strcmp(word, "--fault") == 0) cabinet.kind = fault_named(value);
+  else if (strcmp(word, "--cards") == 0) cabinet.n = (int)number(value, 3, MAX_CARDS);
+  else if (strcmp(word, "--seed") == 0) cabinet.seed = number(value, 0, UINT32_MAX);
+  else if (strcmp(word, "--rounds") == 0) cabinet.rounds = number(value, LEAST_ROUNDS, APOLLO_MAX_ROUNDS);
+  else if (strcmp(word, "--delay") == 0) cabinet.delay = number(value, 1, 1000);
+  else if (strcmp(word, "--loss") == 0) cabinet.loss = number(value, 0, 1000);
+  else if (strcmp(word, "--timeout") == 0) cabinet.timeout = number(value, 1, APOLLO_MAX_TIMEOUT);
+  else wrong_usage();
+  return 2;
+}
+
+/* Four times the delay with three retries (to relay, to ask, to answer, to send the block), two ticks, and what a leader waits by
+ * itself. */
+static uint32_t safe_timeout(void) { return 4 * (cabinet.delay + 3 * RETRY) + 2 + IDLE; }
+
+static void read_options(int argc, char **argv) {
+  int plain = 0;
+  cabinet.n = 3;
+  cabinet.seed = 1;
+  cabinet.kind = DEAD;
+  cabinet.delay = 6;
+  cabinet.loss = 8;
+  for (int i = 1; i < argc;) {
+    static const char *const names[] = {"--cards", "--seed", "--rounds"};
+    if (argv[i][0] == '-' || plain == 3) i += option(argv[i], i + 1 < argc ? argv[i + 1] : NULL);
+    else option(names[plain++], argv[i++]);
+  }
+  if (cabinet.n % 2 == 0) wrong_usage();
+  cabinet.f = (cabinet.n - 1) / 2;
+  if (!cabinet.rounds) cabinet.rounds = 120;
+  if (!cabinet.timeout) cabinet.timeout = safe_timeout();
+  if (cabinet.timeout < safe_timeout())
+    printf("warning: a timeout of %u ticks is below %u, which the rule asks for with these cables\n", cabinet.timeout, safe_timeout());
 }
 
 int main(int argc, char **argv) {
-  cabinet.n = argc > 1 ? atoi(argv[1]) : 3;
-  cabinet.seed = argc > 2 ? (uint32_t)strtoul(argv[2], NULL, 10) : 1;
-  cabinet.rounds = argc > 3 ? (uint32_t)strtoul(argv[3], NULL, 10) : 3u * (uint32_t)cabinet.n;
-  if (cabinet.n < 3 || cabinet.n > MAX_CARDS || cabinet.n % 2 == 0 || cabinet.rounds < 1 || cabinet.rounds > APOLLO_MAX_ROUNDS) {
-    fprintf(stderr, "usage: cabinet [N odd, 3 to 15] [SEED] [ROUNDS, 1 to 4096]\n");
-    return 2;
-  }
-  cabinet.f = (cabinet.n - 1) / 2;
-  cabinet.alive = cabinet.n - cabinet.f;
+  if (apollo_version() != APOLLO_VERSION) stop("apollo.h and libhost.a are of different versions");
+  read_options(argc, argv);
   run();
-  report();
-  for (int i = 0; i < cabinet.alive; i++) {
-    free(cabinet.cards[i].log);
-    free(cabinet.cards[i].masks);
-    free(cabinet.cards[i].in.list);
+  int good = report();
+  for (int i = 0; i < cabinet.n; i++) {
+    card_close(&cabinet.cards[i]);
+    free(cabinet.in[i].list);
+    free(cabinet.acts[i]);
   }
-  return 0;
+  return good ? 0 : 1;
 }

@@ -59,6 +59,7 @@ static void turn(int i) {
 }
 
 int main(void) {
+  if (apollo_version() != APOLLO_VERSION) return 2; /* header and archive do not belong together */
   apollo_ticks timeout = {2};
   apollo_round last_round = {T};
   for (int i = 0; i < CARDS; i++) {

@@ -1,33 +1,75 @@
 /* apollo.h: one card of a replicated list, for a host program in C or C++.
  *
- * 2f + 1 cards (3 to 15) keep one list of entries alike, though f of them may fail in any manner. This library is one card's step
- * machine. It keeps nothing between calls, allocates nothing and never blocks: all state is in the record, the log and the masks,
- * which the host holds and lends to each call.
+ * n = 2f + 1 cards (3 to 15) keep one list of entries alike, though f of them may fail in any manner. This library is one card's step
+ * machine. It keeps nothing between calls, allocates nothing and never blocks: all state is in the record, the log and the masks, which
+ * the host holds and lends to each call. What follows is the host's part: the agreement of the lists rests on it. docs/HOSTS.md has the
+ * life of a card step by step, the reasons and a table for the repairer; examples/card.c is a host that keeps these rules. T is the
+ * last round of a term, R the round that a card waits for.
  *
- * What the host does
- *   - One record, one log of 512 * T bytes and one array of T masks for each card. Hand each call the record, log and masks exactly
- *     as that card's last call left them; nobody else writes them meanwhile. `answer.replica` is the record for the next call, also
- *     after a refusal.
- *   - Call apollo_open once per card and term. The record of a refused open is all zeros: hand it to no call.
- *   - Lend each of open, branch, blame and tick an entry: any of them may bring the card to a round that it leads, and it then proposes
- *     that entry at once. The entry was used if the call emitted a block; else lend it again. It is on the list for good when
- *     apollo_read shows it: a block that was emitted may still be passed over.
- *   - Send each emitted frame to the other cards, signed; send nothing else under the card's signature. The first
- *     `answer.frames` frames of 512 bytes in the out buffer were emitted by this call.
- *   - Check the sender's signature of what comes in, then hand it in: blocks by apollo_branch, blames by apollo_blame (byte 0 says
- *     which, byte 1 who signed).
- *   - Keep a frame that is answered 11, 13 or 14 and hand it in again later: a parent, some blames or an earlier block are still missing.
- *     Or get a longer branch from a neighbour's apollo_fetch. Drop a frame that is answered 6 to 10 or 12.
- *   - Relay to the leader that the answer names the newest block (apollo_fetch above tip_height - 1) and the blames that came in for the
- *     rounds since. The host keeps those frames: a mask only says who blamed.
- *   - Call apollo_tick at a steady pace. Give the cards a timeout that a correct leader always meets.
- *   - On 3 the term is over: read the committed list, and open a new term. Blocks of a term's last f rounds are never committed.
- * What the host must not do: change a byte of the log or the masks, or a field of the record; hand one card's record in with another
- * card's log; answer for a card whose state it has lost (open it afresh as a failed card).
+ * State
+ *   - One record, one log of 512 * T bytes and one array of T masks for each card. Hand each call the record, log and masks exactly as
+ *     that card's last call left them; nobody else writes them meanwhile. `answer.replica` is the record for the next call, also after
+ *     a refusal.
+ *   - Call apollo_open once per card and term, with the card's own number and the f and T that all cards share. The record of a refused
+ *     open is all zeros: hand it to no call.
+ *   - A card that is to go on after a restart writes its state to disk before it sends what a call emitted. One that lost its state, or
+ *     has an older one, counts among the f that fail until the term ends. It may be opened afresh to follow the list, if nothing that
+ *     it emits is sent: it would sign a second block for a round.
+ *   - At most f cards may fail in one term, all told, not at a time; a card that was cut off long enough to be blamed is one of them.
  *
- * Every call takes any bytes and any record and answers with a number: 0 taken, else a refusal, and a refusal changes no record and
- * no lent buffer. Pointers must be valid for their lengths, and buffers of one call must not overlap. A pointer with length 0 may be
- * null: an empty entry is NULL, 0.
+ * Signatures
+ *   - A frame travels with the signature of its signer (byte 1), whoever sends it: cards pass on each other's frames. Check that one
+ *     before the frame is handed in; the sender's says nothing.
+ *   - It covers the whole frame and what all cards share: n, f, T and the term's number. Frames carry no term, and the last term's
+ *     block 1 would be answered 0 in the next. Hand in no frame of another term.
+ *   - Keep the signature of each block in the log and of each blame, to pass it on as long as the term lasts. A blame is a function of
+ *     round and signer (table below): these two and a signature are enough on the wire.
+ *   - Sign what the card's calls emit, the first `answer.frames` frames of 512 bytes in the out buffer, and nothing else.
+ *
+ * Sending
+ *   - An emitted blame goes to all cards.
+ *   - An emitted block goes to all, after its parent and the blames of every round between the two: without them it is answered 13.
+ *   - When a call moves the card to another round and emits no block, the leader that the answer names is sent the newest block, its
+ *     parent, and the blames of every round that was passed over between them and since.
+ *   - Cables lose frames. While the card stays in a round, send all this again every few ticks, and ask other cards, f + 1 of them, so
+ *     that one is correct. A question tells the round waited for, the committed round and the digest of its block.
+ *   - Who is asked by a card in an earlier round sends it, for each round above that card's committed one and below the own R, lowest
+ *     first, the block in the slot, or the round's blames where the slot is empty. In the same round: its blames. The host keeps those
+ *     frames: a mask only says who blamed.
+ *   - Questions also compare lists: whoever has committed that round must have the same digest there.
+ *
+ * Handing in: blocks by apollo_branch, blames by apollo_blame (byte 0 says which)
+ *   - Keep each block until its round is committed, also one that is answered 10: a later block may need it as its parent, in one
+ *     branch with it. Or fetch it again.
+ *   - A frame that is answered 11, 13 or 14 goes in again after progress only (a new frame came, or the round changed), lowest round
+ *     first. 11: with its parents before it, in one branch. 13: when round `place` has f + 1 blames. 14: when the card waits for that
+ *     round. To hand in everything again at each call is ruinous (measured: 28,880 calls answered 13 in one catch-up).
+ *   - Drop what is answered 6 to 9. For 12 see there.
+ *
+ * Entries
+ *   - Lend each of open, branch, blame and tick an entry: the call that brings a card to a round that it leads proposes it at once, an
+ *     empty one too. A host that wants to wait for an entry withholds the call.
+ *   - While the card is behind (f + 1 cards have signed frames of rounds above the next) lend an empty entry: it may come to lead a
+ *     round that the others passed over long ago.
+ *   - The entry was used if the call emitted a block, and is on the list for good when that block's round is at most the committed
+ *     round and its slot holds the block. Where the slot does not, the block was passed over: lend the entry again.
+ *   - Act on the entries of committed rounds up to T - 2 f, and take all others into the next term. When the term is over (number 3),
+ *     cards that passed over the last rounds have committed up to f rounds less than cards that hold their blocks.
+ *
+ * Clock
+ *   - Call apollo_tick at a steady pace, after everything that has come was handed in. Missed ticks are not made up. No tick before the
+ *     other cards were heard at the start of a term, or a time of grace is over; none while the card is behind. To withhold ticks costs
+ *     progress only.
+ *   - The timeout must let every correct leader's block come before any correct card blames the round, else lists part, with no card
+ *     lying. Rule: 4 d + 2 ticks + w. d: the longest time from one card's call to another's, repeats included, in ticks; four times,
+ *     because a new round is told to its leader, the leader asks for what it lacks, is answered, and sends its block. w: what a leader
+ *     waits by itself. Three cards on cables of 0 to 20 ms: lists parted with timeouts of 5, 10 and 15 ms. Timeouts may differ from
+ *     card to card.
+ *
+ * Every call takes any bytes and any record and answers with a number: 0 taken, else a refusal, and a refusal changes no record and no
+ * lent buffer. What C cannot check is the caller's part: a pointer is valid for its length, in elements, and writable where it is not
+ * const; no two buffers of one call overlap; no other thread touches them during the call. A pointer with length 0 may be null: an
+ * empty entry is NULL, 0. Calls on different cards' buffers may run at the same time.
  */
 #ifndef APOLLO_H
 #define APOLLO_H
@@ -38,6 +80,11 @@
 #ifdef __cplusplus
 extern "C" {
 #endif
+
+/* Header and archive belong together: a host starts only where apollo_version() == APOLLO_VERSION. The number grows with every change
+ * of a declaration here, or of what a call does. */
+#define APOLLO_VERSION 1u
+uint32_t apollo_version(void);
 
 enum {
   APOLLO_FRAME = 512,       /* bytes of a frame and of a slot of the log */
@@ -50,7 +97,8 @@ enum {
   APOLLO_NO_LEADER = 255    /* the leader told after a refusal, or when the term is over */
 };
 
-/* A frame: 512 bytes, numbers big-endian. What is not named is zero. The calls judge all of it; a host needs kind and signer.
+/* A frame: 512 bytes, numbers big-endian. What is not named is zero. The leader of round r is card (r - 1) mod n: a block of that round
+ * names no other signer. The calls judge every byte.
  *     0         kind: APOLLO_BLOCK or APOLLO_BLAME
  *     1         signer, a card's number
  *     2 to 3    in a block: length of the entry
@@ -73,13 +121,17 @@ typedef enum {
   APOLLO_BAD_DIGEST = 7,         /* "check": a frame's check is wrong; place: the frame's index */
   APOLLO_BAD_FORM = 8,           /* "form": a field outside the frame table, wrong kind or signer; place: the frame's index */
   APOLLO_NOT_CHILD = 9,          /* "parted": a frame is not the child of the one before; place: its index */
-  APOLLO_STALE = 10,             /* "stale": the branch ends below the round waited for; the blame is there already */
+  APOLLO_STALE = 10,             /* "stale": the branch ends below the round waited for; the blame is there already. Keep a block */
   APOLLO_UNATTACHED = 11,        /* "loose": the first frame's parent is not in the log: hand it in again with its parents */
-  APOLLO_REVERTS_COMMITTED = 12, /* "undone": a committed block would change: more than f cards have failed */
-  APOLLO_NOT_CERTIFIED = 13,     /* "unshown": a skipped round lacks f + 1 blames; place: that round. Hand it in again later */
-  APOLLO_EARLY = 14,             /* "early": a blame for a round above the one waited for: hand it in again later */
+  APOLLO_REVERTS_COMMITTED = 12, /* "undone": a committed block would change: a premise is broken, see below */
+  APOLLO_NOT_CERTIFIED = 13,     /* "unshown": a skipped round lacks f + 1 blames; place: that round. Hand it in again with them */
+  APOLLO_EARLY = 14,             /* "early": a blame for a round above the one waited for: hand it in again when that has come */
   APOLLO_ABSENT = 15             /* "absent": read: no such committed height; fetch: no frame above that height */
 } apollo_number;
+
+/* 12 means that a premise of the agreement (docs/AGREEMENT.md) is broken: more than f cards failed in this term, a frame was forged, or
+ * a correct card blamed a correct one's round. Drop the branch, stop acting on the list, and call for repair. Lists that have parted
+ * may also show as a card that stands still on 11 or 13, with no 12 at all: compare lists. */
 
 /* Three counters that must not be mixed up: each is a type of its own. */
 typedef struct { uint32_t value; } apollo_round;
@@ -96,21 +148,21 @@ typedef struct {
   apollo_ticks timer;             /* ticks left */
   apollo_round tip_round;         /* the newest block held */
   apollo_height tip_height;
-  apollo_round committed_round;   /* the newest block that no card will ever undo */
+  apollo_round committed_round;   /* the newest block that no card will ever undo, while the premises hold; this card never will */
   apollo_height committed_height;
 } apollo_replica;
 
 typedef struct {
   uint8_t number;         /* an apollo_number */
   uint8_t frames;         /* frames emitted, at the start of the out buffer: 0 to 2, a blame before a block */
-  uint8_t leader;         /* the leader of the round now waited for, or APOLLO_NO_LEADER */
+  uint8_t leader;         /* the leader of the round now waited for, or APOLLO_NO_LEADER after a refusal and when the term is over */
   uint32_t place;         /* where a refusal's cause is: see the numbers; else 0 */
   apollo_replica replica; /* the record for the next call; after a refusal the one handed in (open: all zeros) */
 } apollo_answer;
 
 typedef struct {
   uint8_t number;
-  size_t start, length; /* the entry is log[start] up to log[start + length - 1]; both 0 when refused */
+  size_t start, length; /* the entry is log[start] up to log[start + length - 1], in slot start / 512 + 1; both 0 when refused */
 } apollo_part;
 
 typedef struct {
@@ -119,8 +171,11 @@ typedef struct {
 } apollo_fetched;
 
 /* Opens a card: zeroes log and masks and waits for round 1, or proposes at once if it leads round 1.
- * log_len is 512 * T, masks_len is T, out_len at least 1,024, here and below. entry: what the card proposes if it comes to lead, 0 to 400
- * bytes.
+ * log_len is 512 * T, masks_len is T, out_len at least 1,024, here and below. entry: what the card proposes if it comes to lead, 0 to
+ * 400 bytes.
+ * Slot r of the log, for the block of round r, begins at log[512 * (r - 1)] and is filled if that byte is 1. The filled slots are one
+ * chain: a block's parent is in the next lower one. masks[r - 1] is round r's: bit i for card i's blame. A host may read both between
+ * calls. Of the entries lent to open only card 0's is used.
  * Refuses 1, 4, 5. */
 apollo_answer apollo_open(uint8_t id, uint8_t f, apollo_ticks timeout, apollo_round last_round, uint8_t *log, size_t log_len,
                           uint16_t *masks, size_t masks_len, const uint8_t *entry, size_t entry_len, uint8_t *out, size_t out_len);
@@ -132,24 +187,27 @@ apollo_answer apollo_branch(apollo_replica replica, uint8_t *log, size_t log_len
                             const uint8_t *frames, size_t frames_len, const uint8_t *entry, size_t entry_len, uint8_t *out,
                             size_t out_len);
 
-/* Hands in one blame frame. With f + 1 blames the round waited for is passed over, and the next one entered as above.
+/* Hands in one blame frame. With f + 1 blames the round waited for is passed over, and the next one entered as above. A blame for an
+ * earlier round sets its bit and nothing else: a branch that skips that round needs f + 1 of them.
  * Refuses 2 to 8, 14, 10. */
 apollo_answer apollo_blame(apollo_replica replica, uint8_t *log, size_t log_len, uint16_t *masks, size_t masks_len,
                            const uint8_t *frame, size_t frame_len, const uint8_t *entry, size_t entry_len, uint8_t *out,
                            size_t out_len);
 
 /* One tick of the clock. The tick that brings the timer to 0 emits the card's blame for the round waited for; if that is the last of
- * f + 1, the round is passed over as above.
+ * f + 1, the round is passed over as above. With no ticks left nothing happens.
  * Refuses 2 to 5. */
 apollo_answer apollo_tick(apollo_replica replica, uint8_t *log, size_t log_len, uint16_t *masks, size_t masks_len,
                           const uint8_t *entry, size_t entry_len, uint8_t *out, size_t out_len);
 
-/* Shows the entry at a committed height, 1 for the oldest, as a part of the log.
+/* Shows the entry at a committed height, 1 for the oldest, as a part of the log. It walks up from slot 1: 43 ns for the newest entry of
+ * a half full log with T = 64, 11 us with T = 4,096 (docs/PERFORMANCE.md). To go through a long list, read the slots.
  * Refuses 2, 15. */
 apollo_part apollo_read(apollo_replica replica, const uint8_t *log, size_t log_len, apollo_height height);
 
-/* Copies held blocks of a height above the given one to out, oldest first, for a neighbour to hand in as a branch. Go on from the
- * height of the last frame copied until it answers 15.
+/* Copies held blocks of a height above the given one to out, oldest first, committed or not, for a neighbour to hand in as a branch
+ * (split before a skipped round whose blames it lacks). Go on from the height of the last frame copied until it answers 15. It walks
+ * the whole log: 0.8 us for all of 64 slots, 157 us for all of 4,096.
  * Refuses 2, 4, 15. */
 apollo_fetched apollo_fetch(apollo_replica replica, const uint8_t *log, size_t log_len, apollo_height height, uint8_t *out,
                             size_t out_len);

@@ -1,5 +1,6 @@
-/* The structs lie alike on both sides of the C interface: what a call is handed comes back field by field, and the sizes and offsets are
- * those that the library's `#[repr(C)]` structs have by their fields. Exits with 0 if all is so. */
+/* Header and archive are of one version, and the structs lie alike on both sides of the C interface: what a call is handed comes back
+ * field by field, and the sizes and offsets are those that the library's `#[repr(C)]` structs have by their fields. Exits with 0 if all
+ * is so. */
 #include "apollo.h"
 #include "expect.h"
 
@@ -73,9 +74,10 @@ static void filled(void) {
 }
 
 int main(void) {
+  EXPECT(apollo_version() == APOLLO_VERSION && APOLLO_VERSION == 1u);
   sizes();
   echoed();
   filled();
-  puts("sizes, offsets and values agree");
+  puts("version, sizes, offsets and values agree");
   return 0;
 }

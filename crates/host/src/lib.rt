@@ -13,6 +13,14 @@ ghost use Rattle.sha256.specs.Fips as Fips;
 ghost use Rattle.apollo.specs.Calls.{state, outcome, fetched};
 ghost use Rattle.apollo.specs.Calls.{openCall, branchCall, blameCall, tickCall, readCall, fetchCall, mayCopy};
 
+// The version of the interface: APOLLO_VERSION of the header that belongs to this archive.
+#[no_mangle]
+pub extern "C" fn apollo_version() -> u32
+    ensures { λ v. ⌜ v ≡ 1 ⌝ }
+{
+    1
+}
+
 #[no_mangle]
 pub extern "C" fn apollo_open(
     id: u8,

@@ -1,0 +1,426 @@
+/* card.c: a host for one card. See card.h. The rules that it keeps are in docs/HOSTS.md; R is the round that the card waits for. */
+#include "card.h"
+
+#include <stdlib.h>
+#include <string.h>
+
+/* ---- frames, slots, rounds */
+
+static uint32_t get32(const uint8_t *p) { return (uint32_t)p[0] << 24 | (uint32_t)p[1] << 16 | (uint32_t)p[2] << 8 | p[3]; }
+static uint32_t round_of(const uint8_t *frame) { return get32(frame + 4); }
+static const uint8_t *parent_of(const uint8_t *frame) { return frame + 12; }
+static const uint8_t *digest_of(const uint8_t *frame) { return frame + 480; }
+static int same(const uint8_t *a, const uint8_t *b) { return memcmp(a, b, APOLLO_DIGEST) == 0; }
+
+static int cards(const card *c) { return 2 * c->setup.f + 1; }
+static int leader_of(const card *c, uint32_t round) { return (int)((round - 1) % (uint32_t)cards(c)); }
+static uint32_t waited(const card *c) { return c->record.round.value; }
+static uint32_t committed(const card *c) { return c->record.committed_round.value; }
+static size_t log_len(const card *c) { return (size_t)c->setup.rounds * APOLLO_FRAME; }
+static const uint8_t *slot(const card *c, uint32_t round) { return c->log + (size_t)(round - 1) * APOLLO_FRAME; }
+static int filled(const card *c, uint32_t round) { return slot(c, round)[0] == APOLLO_BLOCK; }
+int card_is_over(const card *c) { return waited(c) > c->setup.rounds; }
+
+static uint16_t bit(int id) { return (uint16_t)(1u << id); }
+
+static int certified(const card *c, uint32_t round) {
+  int count = 0;
+  for (int i = 0; i < cards(c); i++) count += c->masks[round - 1] >> i & 1;
+  return count > c->setup.f;
+}
+
+/* A blame is a function of its round and its signer. */
+static void make_blame(uint32_t round, int signer, uint8_t frame[APOLLO_FRAME]) {
+  memset(frame, 0, APOLLO_FRAME);
+  frame[0] = APOLLO_BLAME;
+  frame[1] = (uint8_t)signer;
+  for (int k = 0; k < 4; k++) frame[4 + k] = (uint8_t)(round >> (24 - 8 * k));
+  apollo_digest(frame, 480, frame + 480);
+}
+
+/* At the end of a term one card may hold block T and another have passed over round T, and then they have committed up to different
+ * rounds. Up to T - 2 f all have committed the same, so what stands later counts for nothing and is proposed in the next term. */
+static uint32_t last_useful(const card *c) {
+  uint32_t tail = 2u * c->setup.f;
+  return c->setup.rounds > tail ? c->setup.rounds - tail : 0;
+}
+
+/* ---- sending */
+
+static void send_block(const card *c, int to, uint32_t round) {
+  packet p = {.kind = PACKET_BLOCK, .from = c->setup.id};
+  memcpy(p.block.frame, slot(c, round), APOLLO_FRAME);
+  memcpy(p.block.signature, c->signature[round - 1], SIGNATURE);
+  host_send(c->setup.id, to, &p);
+}
+
+/* Those of the kept blames of a round whose signers are among the given ones. */
+static void send_blames(const card *c, int to, uint32_t round, uint16_t signers) {
+  const kept_blames *set = &c->blames[round - 1];
+  packet p = {.kind = PACKET_BLAMES, .from = c->setup.id};
+  p.blames.round = round;
+  p.blames.signers = set->signers & signers;
+  memcpy(p.blames.signature, set->signature, sizeof set->signature);
+  if (p.blames.signers) host_send(c->setup.id, to, &p);
+}
+
+static void send_own_blame(const card *c, uint32_t round) {
+  for (int to = 0; to < cards(c); to++)
+    if (to != c->setup.id) send_blames(c, to, round, bit(c->setup.id));
+}
+
+/* What leads from a round on up to R, lowest first: every round below R has its block, or else the blames that passed it over. */
+static void send_rounds(const card *c, int to, uint32_t first) {
+  for (uint32_t r = first; r < waited(c) && r < first + WINDOW; r++)
+    if (filled(c, r)) send_block(c, to, r);
+    else send_blames(c, to, r, UINT16_MAX);
+}
+
+/* The newest block with its parent, and the blames of the rounds that were passed over on the way to it and since: to one card or,
+ * where the block is the card's own, to all. */
+static void send_tip(const card *c, int leader) {
+  uint32_t tip = c->record.tip_round.value, first = tip > 1 ? tip - 1 : 1;
+  int own = tip > 0 && slot(c, tip)[1] == c->setup.id;
+  while (first > 1 && !filled(c, first)) first--;
+  for (int to = 0; to < cards(c); to++)
+    if (to != c->setup.id && (own || to == leader)) send_rounds(c, to, first);
+}
+
+static void send_status(const card *c, int to) {
+  packet p = {.kind = PACKET_STATUS, .from = c->setup.id};
+  p.status.round = waited(c);
+  p.status.signers = card_is_over(c) ? 0 : c->blames[waited(c) - 1].signers;
+  p.status.committed = committed(c);
+  if (committed(c) > 0) memcpy(p.status.digest, digest_of(slot(c, committed(c))), APOLLO_DIGEST);
+  host_send(c->setup.id, to, &p);
+}
+
+/* ---- entries */
+
+/* Is the card behind? f + 1 cards signed frames of later rounds, so a correct one is there. Then the card needs frames, not time. */
+static int is_behind(const card *c) {
+  int later = 0;
+  for (int i = 0; i < cards(c); i++) later += c->seen[i] > waited(c) + 1;
+  return later > c->setup.f;
+}
+
+static proposal *next_proposal(card *c) {
+  for (size_t i = 0; i < c->lined; i++)
+    if (c->line[i].round == 0) return &c->line[i];
+  return NULL;
+}
+
+/* What the next call may propose. Nothing while the card is behind: it may then come to lead a round that the others passed over long
+ * ago. Nothing in the term's last rounds. */
+static proposal *lend(card *c) {
+  uint32_t turns = (uint32_t)(c->setup.id + cards(c) - leader_of(c, waited(c))) % (uint32_t)cards(c);
+  return is_behind(c) || waited(c) + turns > last_useful(c) ? NULL : next_proposal(c);
+}
+
+/* Hands on what was committed since the last call. An own entry leaves the line when its block is among that; where the block's slot is
+ * empty, it was passed over for good, and the entry is proposed again. */
+static void act(card *c) {
+  size_t left = 0;
+  for (; c->acted < committed(c); c->acted++) {
+    const uint8_t *block = slot(c, c->acted + 1);
+    size_t len = (size_t)block[2] << 8 | block[3];
+    if (block[0] == APOLLO_BLOCK && len > 0 && c->acted < last_useful(c)) host_act(c->setup.id, c->acted + 1, block + 44, len);
+  }
+  for (size_t i = 0; i < c->lined; i++) {
+    proposal *p = &c->line[i];
+    int decided = p->round > 0 && p->round <= committed(c);
+    if (decided && filled(c, p->round) && p->round <= last_useful(c)) continue;
+    if (decided) {
+      p->round = 0;
+      c->again++;
+    }
+    if (left < i) c->line[left] = *p;
+    left++;
+  }
+  c->lined = left;
+}
+
+int card_propose(card *c, const uint8_t *entry, size_t len) {
+  if (len < 1 || len > APOLLO_ENTRY || c->lined == LINE) return 0;
+  proposal *p = &c->line[c->lined++];
+  memcpy(p->entry, entry, len);
+  p->len = len;
+  p->round = 0;
+  return 1;
+}
+
+/* ---- after each call */
+
+/* Signs an emitted frame. */
+static void sign(card *c, const uint8_t *frame, proposal *lent) {
+  uint32_t r = round_of(frame);
+  int me = c->setup.id;
+  if (frame[0] == APOLLO_BLAME) {
+    host_sign(me, frame, c->blames[r - 1].signature[me]);
+    c->blames[r - 1].signers |= bit(me);
+    c->blames[r - 1].taken |= bit(me);
+  } else {
+    host_sign(me, frame, c->signature[r - 1]);
+    if (lent) lent->round = r;
+  }
+}
+
+/* Takes over a call's answer: keeps the record, signs and sends what was emitted, and tells a new round's leader what it needs. */
+static void take(card *c, apollo_answer a, const uint8_t *out, proposal *lent) {
+  uint32_t before = waited(c);
+  c->answers[a.number & 15]++;
+  if (a.number == APOLLO_BAD_REPLICA) host_alarm(c->setup.id, ALARM_STATE, c->setup.id, 0);
+  if (a.number == APOLLO_REVERTS_COMMITTED) host_alarm(c->setup.id, ALARM_UNDONE, c->setup.id, committed(c));
+  if (a.number != APOLLO_TAKEN) return;
+  c->record = a.replica;
+  for (int k = 0; k < a.frames; k++) sign(c, out + k * APOLLO_FRAME, lent);
+  /* A card that is to live on after a restart writes its state, or the call with all that it was lent, to disk here: before it acts on
+   * anything or sends it. */
+  act(c);
+  if (a.frames > 0 && out[0] == APOLLO_BLAME) send_own_blame(c, round_of(out));
+  if (waited(c) == before) return;
+  c->moved = c->now;
+  c->progress++;
+  send_tip(c, a.leader);
+}
+
+/* ---- handing in */
+
+/* Hands in the blames of a round that the library does not have yet. */
+static void hand_in_blames(card *c, uint32_t round) {
+  kept_blames *set = &c->blames[round - 1];
+  for (int i = 0; i < cards(c); i++) {
+    uint8_t frame[APOLLO_FRAME], out[APOLLO_OUT];
+    if (!((set->signers & ~set->taken) >> i & 1) || card_is_over(c)) continue;
+    proposal *p = lend(c);
+    make_blame(round, i, frame);
+    apollo_answer a = apollo_blame(c->record, c->log, log_len(c), c->masks, c->setup.rounds, frame, sizeof frame, p ? p->entry : NULL,
+                                   p ? p->len : 0, out, sizeof out);
+    if (a.number == APOLLO_TAKEN || a.number == APOLLO_STALE) set->taken |= bit(i);
+    take(c, a, out, p);
+  }
+}
+
+static kept_block *find_kept(card *c, const uint8_t *digest) {
+  for (int i = 0; i < cards(c); i++)
+    for (int k = 0; k < WINDOW; k++) {
+      kept_block *b = &c->kept[i][k];
+      if (b->used && round_of(b->block.frame) > committed(c) && same(digest_of(b->block.frame), digest)) return b;
+    }
+  return NULL;
+}
+
+/* Does the log hold a block of that digest below a round, or is it the genesis's? */
+static int in_log(const card *c, const uint8_t *digest, uint32_t below) {
+  static const uint8_t genesis[APOLLO_DIGEST];
+  for (uint32_t r = below - 1; r > 0 && r >= committed(c); r--)
+    if (filled(c, r) && same(digest_of(slot(c, r)), digest)) return 1;
+  return same(digest, genesis);
+}
+
+/* The branch that ends in a kept block: down its parents to one that is in the log. Their count, lowest last. */
+static int trace_branch(card *c, kept_block *top, kept_block *chain[WINDOW]) {
+  int count = 0;
+  for (kept_block *b = top; b && count < WINDOW;) {
+    const uint8_t *frame = b->block.frame;
+    chain[count++] = b;
+    b = in_log(c, parent_of(frame), round_of(frame)) ? NULL : find_kept(c, parent_of(frame));
+    if (b && round_of(b->block.frame) >= round_of(frame)) b = NULL;
+  }
+  return count;
+}
+
+/* Keeps what the answer says a block waits for, and asks its sender for it. A bad frame goes: `place` is its index in the branch. So
+ * does one that is loose though its parent is there: its height is wrong. */
+static void learn(card *c, int sender, kept_block *chain[WINDOW], int count, apollo_answer a) {
+  kept_block *top = chain[0], *low = chain[count - 1];
+  const uint8_t *parent = parent_of(low->block.frame);
+  top->tried = c->progress;
+  top->number = a.number;
+  top->place = a.place;
+  memcpy(top->missing, parent, APOLLO_DIGEST);
+  if (a.number == APOLLO_BAD_DIGEST || a.number == APOLLO_BAD_FORM || a.number == APOLLO_NOT_CHILD)
+    chain[count - 1 - (int)a.place]->used = 0;
+  else if (a.number == APOLLO_UNATTACHED && in_log(c, parent, round_of(low->block.frame))) low->used = 0;
+  else if (a.number == APOLLO_UNATTACHED || a.number == APOLLO_NOT_CERTIFIED) c->ask |= bit(sender);
+  else if (a.number != APOLLO_TAKEN) top->used = 0;
+}
+
+static void hand_in_block(card *c, int sender, kept_block *top) {
+  kept_block *chain[WINDOW];
+  uint8_t out[APOLLO_OUT];
+  int count = trace_branch(c, top, chain);
+  proposal *p = lend(c);
+  for (int k = 0; k < count; k++) memcpy(c->branch + k * APOLLO_FRAME, chain[count - 1 - k]->block.frame, APOLLO_FRAME);
+  apollo_answer a = apollo_branch(c->record, c->log, log_len(c), c->masks, c->setup.rounds, c->branch, (size_t)count * APOLLO_FRAME,
+                                  p ? p->entry : NULL, p ? p->len : 0, out, sizeof out);
+  if (a.number == APOLLO_TAKEN)
+    for (int k = 0; k < count; k++) memcpy(c->signature[round_of(chain[k]->block.frame) - 1], chain[k]->block.signature, SIGNATURE);
+  learn(c, sender, chain, count, a);
+  take(c, a, out, p);
+}
+
+/* Is a kept block better not handed in now? It was, since the last progress; its parent goes first; what it was refused for is still
+ * missing, and to ask the library would check its whole branch again; or the card has nothing to propose and puts its round off. */
+static int must_wait(card *c, const kept_block *b) {
+  const uint8_t *frame = b->block.frame;
+  if (b->tried == c->progress) return 1;
+  const kept_block *parent = find_kept(c, parent_of(frame));
+  if (parent && round_of(parent->block.frame) >= waited(c)) return 1;
+  if (b->number == APOLLO_NOT_CERTIFIED) return !certified(c, b->place);
+  if (b->number == APOLLO_UNATTACHED) return !in_log(c, b->missing, round_of(frame)) && !find_kept(c, b->missing);
+  return round_of(frame) == waited(c) && leader_of(c, waited(c) + 1) == c->setup.id && c->now < c->moved + c->setup.idle &&
+         !next_proposal(c) && !is_behind(c);
+}
+
+/* The lowest kept block that may be handed in, and its sender. */
+static kept_block *lowest(card *c, int *sender) {
+  kept_block *low = NULL;
+  for (int i = 0; i < cards(c); i++)
+    for (int k = 0; k < WINDOW; k++) {
+      kept_block *b = &c->kept[i][k];
+      uint32_t r = round_of(b->block.frame);
+      if (!b->used || r < waited(c) || (low && r >= round_of(low->block.frame)) || must_wait(c, b)) continue;
+      low = b;
+      *sender = i;
+    }
+  return low;
+}
+
+/* Hands in what may be taken now, blames first, then the lowest block, until nothing more is. */
+static void settle(card *c) {
+  int sender = 0;
+  kept_block *b;
+  do {
+    for (uint32_t r = committed(c) + 1; r <= waited(c) && r <= c->setup.rounds; r++) hand_in_blames(c, r);
+    b = card_is_over(c) ? NULL : lowest(c, &sender);
+    if (b) hand_in_block(c, sender, b);
+  } while (b);
+}
+
+/* ---- hearing */
+
+static void see(card *c, int signer, uint32_t round) {
+  if (c->seen[signer] < round) c->seen[signer] = round;
+  c->progress++;
+}
+
+/* Keeps a block until its round is committed, also one below R: it may be the parent that a later block needs. Blocks are found by
+ * their checks, so the check is looked at here already. */
+static void hear_block(card *c, int from, const signed_block *b) {
+  uint32_t r = round_of(b->frame);
+  uint8_t digest[APOLLO_DIGEST];
+  if (b->frame[0] != APOLLO_BLOCK || r <= committed(c) || r > c->setup.rounds || b->frame[1] != leader_of(c, r)) return;
+  kept_block *k = &c->kept[from][r % WINDOW];
+  if (memcmp(slot(c, r), b->frame, APOLLO_FRAME) == 0 || (k->used && memcmp(k->block.frame, b->frame, APOLLO_FRAME) == 0)) return;
+  apollo_digest(b->frame, 480, digest);
+  if (!same(digest, digest_of(b->frame)) || !host_verify(b->frame, b->signature)) return;
+  see(c, b->frame[1], r);
+  if (r > committed(c) + WINDOW) c->ask |= bit(from); /* too far ahead: what comes before it is needed first */
+  else *k = (kept_block){.block = *b, .used = 1};
+}
+
+static void hear_blames(card *c, const signed_blames *b) {
+  if (b->round <= committed(c) || b->round > c->setup.rounds) return;
+  kept_blames *set = &c->blames[b->round - 1];
+  for (int i = 0; i < cards(c); i++) {
+    uint8_t frame[APOLLO_FRAME];
+    if (!((b->signers & ~set->signers) >> i & 1)) continue;
+    make_blame(b->round, i, frame);
+    if (!host_verify(frame, b->signature[i])) continue;
+    memcpy(set->signature[i], b->signature[i], SIGNATURE);
+    set->signers |= bit(i);
+    see(c, i, b->round);
+  }
+}
+
+/* Asks a card that is ahead. Answers one that is behind with all above its committed round, and one in the same round with the blames
+ * that it lacks; not more often than a card asks by itself, so that nobody can make it send without end. */
+static void hear_status(card *c, int from, const card_status *s) {
+  if (s->committed > 0 && s->committed <= committed(c) &&
+      !(filled(c, s->committed) && same(digest_of(slot(c, s->committed)), s->digest)))
+    host_alarm(c->setup.id, ALARM_PARTED, from, s->committed);
+  if (s->round > waited(c)) c->ask |= bit(from);
+  if (s->round > waited(c) || s->committed >= waited(c) || c->now < c->closed[from]) return;
+  c->closed[from] = c->now + c->setup.retry;
+  if (s->round < waited(c)) send_rounds(c, from, s->committed + 1);
+  else if (!card_is_over(c)) send_blames(c, from, s->round, (uint16_t)~s->signers);
+}
+
+void card_hear(card *c, const packet *p) {
+  if (p->from >= cards(c) || p->from == c->setup.id) return;
+  uint32_t before = c->progress;
+  c->heard |= bit(p->from);
+  if (p->kind == PACKET_BLOCK) hear_block(c, p->from, &p->block);
+  if (p->kind == PACKET_BLAMES) hear_blames(c, &p->blames);
+  if (p->kind == PACKET_STATUS) hear_status(c, p->from, &p->status);
+  if (c->progress != before) settle(c);
+}
+
+/* ---- time */
+
+/* No time runs for a card that is behind, nor at the start of a term until all were heard or the grace is over: to withhold ticks costs
+ * progress only, while to blame a card that keeps the rules breaks a premise. */
+static int time_runs(const card *c) {
+  uint16_t others = (uint16_t)(((1u << cards(c)) - 1u) & ~(unsigned)bit(c->setup.id));
+  return !card_is_over(c) && !is_behind(c) && (c->heard == others || c->now > c->setup.grace);
+}
+
+static void call_tick(card *c) {
+  uint8_t out[APOLLO_OUT];
+  proposal *p = lend(c);
+  apollo_answer a =
+      apollo_tick(c->record, c->log, log_len(c), c->masks, c->setup.rounds, p ? p->entry : NULL, p ? p->len : 0, out, sizeof out);
+  take(c, a, out, p);
+}
+
+/* No new round for a while: sends again what others may lack, and asks f + 1 cards, one of them correct, and the leader. */
+static void send_again(card *c) {
+  int peers = card_is_over(c) ? 1 : c->setup.f + 1;
+  for (; peers > 0; peers--) {
+    do c->next_peer = (c->next_peer + 1) % cards(c);
+    while (c->next_peer == c->setup.id);
+    c->ask |= bit(c->next_peer);
+  }
+  if (card_is_over(c)) return; /* that one question compares the lists */
+  c->ask |= bit(leader_of(c, waited(c)));
+  send_tip(c, leader_of(c, waited(c)));
+  send_own_blame(c, waited(c));
+}
+
+void card_tick(card *c) {
+  c->now++;
+  settle(c); /* what was put off */
+  if (time_runs(c)) call_tick(c);
+  settle(c);
+  if ((c->now - c->moved) % c->setup.retry == 0) send_again(c);
+  for (int to = 0; to < cards(c); to++)
+    if (c->ask >> to & 1) send_status(c, to);
+  c->ask = 0;
+}
+
+/* ---- opening and closing */
+
+int card_open(card *c, card_setup setup) {
+  size_t t = setup.rounds;
+  uint8_t out[APOLLO_OUT];
+  memset(c, 0, sizeof *c);
+  c->setup = setup;
+  if (apollo_version() != APOLLO_VERSION || t < 1 || t > APOLLO_MAX_ROUNDS || setup.retry < 1) return 0;
+  c->log = malloc(t * APOLLO_FRAME);
+  c->masks = malloc(t * sizeof *c->masks);
+  c->signature = calloc(t, sizeof *c->signature);
+  c->blames = calloc(t, sizeof *c->blames);
+  if (!c->log || !c->masks || !c->signature || !c->blames) return 0;
+  apollo_answer a = apollo_open(setup.id, setup.f, (apollo_ticks){setup.timeout}, (apollo_round){setup.rounds}, c->log, log_len(c),
+                                c->masks, t, NULL, 0, out, sizeof out);
+  take(c, a, out, NULL);
+  return a.number == APOLLO_TAKEN;
+}
+
+void card_close(card *c) {
+  free(c->log);
+  free(c->masks);
+  free(c->signature);
+  free(c->blames);
+}

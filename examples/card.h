@@ -1,0 +1,132 @@
+/* card.h: a host for one card, for your program to copy with card.c. It lends the calls of apollo.h what they need, keeps the frames
+ * that may be needed again, sends, asks and answers by the rules of docs/HOSTS.md. Your program brings cables, keys and a clock: the
+ * functions host_.. below. examples/cabinet.c does so for a whole cabinet in one process, with simulated ones. */
+#ifndef CARD_H
+#define CARD_H
+
+#include "apollo.h"
+
+enum {
+  MAX_CARDS = 2 * APOLLO_MAX_F + 1,
+  SIGNATURE = 32, /* bytes of a signature: 64 for Ed25519 */
+  WINDOW = 32,    /* rounds above the committed one whose blocks are kept: R is at most 3 f + 1 above it while the premises hold */
+  LINE = 64       /* entries that wait to be proposed */
+};
+
+/* ---- what travels between hosts */
+
+enum { PACKET_BLOCK = 1, PACKET_BLAMES, PACKET_STATUS };
+
+/* A block with its signer's signature (byte 1 of the frame says whose), whoever passes it on. */
+typedef struct {
+  uint8_t frame[APOLLO_FRAME], signature[SIGNATURE];
+} signed_block;
+
+/* Blames of one round. Round and signer make the frame, so signatures are enough: that of card i counts if bit i is set. */
+typedef struct {
+  uint32_t round;
+  uint16_t signers;
+  uint8_t signature[MAX_CARDS][SIGNATURE];
+} signed_blames;
+
+/* Where a card stands. It asks a card that is ahead for what is missing, and shows whether two lists have parted. */
+typedef struct {
+  uint32_t round;     /* waited for */
+  uint16_t signers;   /* of the blames held for that round */
+  uint32_t committed; /* the committed round, and its block's digest */
+  uint8_t digest[APOLLO_DIGEST];
+} card_status;
+
+/* A packet of one term. Real cables carry bytes: size, sender and term are then looked at before anything else. */
+typedef struct {
+  uint8_t kind, from;
+  union {
+    signed_block block;
+    signed_blames blames;
+    card_status status;
+  };
+} packet;
+
+/* ---- one card */
+
+typedef struct {
+  uint8_t id, f;
+  uint32_t rounds;  /* T */
+  uint32_t timeout; /* ticks until a round's leader is blamed: the rule is in docs/HOSTS.md */
+  uint32_t retry;   /* ticks without a new round until all is sent and asked for again */
+  uint32_t idle;    /* ticks that the card puts its round off while no entry waits */
+  uint32_t grace;   /* ticks after the opening in which no time runs for the card, unless it has heard all others before */
+} card_setup;
+
+typedef struct {
+  signed_block block;
+  int used;
+  uint32_t tried;                 /* the card's progress when it was last handed in, 0 for never */
+  uint8_t number;                 /* how the library answered it then */
+  uint32_t place;                 /* after 13: the round that lacks blames */
+  uint8_t missing[APOLLO_DIGEST]; /* after 11: the parent that is not there */
+} kept_block;
+
+typedef struct {
+  uint16_t signers, taken; /* whose blames are kept, and which of them the library has */
+  uint8_t signature[MAX_CARDS][SIGNATURE];
+} kept_blames;
+
+typedef struct {
+  uint8_t entry[APOLLO_ENTRY];
+  size_t len;
+  uint32_t round; /* whose block it was proposed in, 0 while it waits */
+} proposal;
+
+typedef struct {
+  card_setup setup;
+  apollo_replica record; /* record, log and masks are the card's state: no one but the calls changes them */
+  uint8_t *log;
+  uint16_t *masks;
+  uint8_t (*signature)[SIGNATURE];       /* of the block in each slot */
+  kept_blames *blames;                   /* of each round */
+  kept_block kept[MAX_CARDS][WINDOW];    /* by sender and round: no sender pushes out what another sent */
+  uint8_t branch[WINDOW * APOLLO_FRAME]; /* the frames of the call under way */
+  proposal line[LINE];                   /* entries until they are on the list, oldest first */
+  size_t lined;
+  uint32_t now, moved;        /* ticks since the opening, and at the last new round */
+  uint32_t closed[MAX_CARDS]; /* until when a card's questions are not answered again */
+  uint32_t seen[MAX_CARDS];   /* the highest round in a frame that this card signed */
+  uint32_t acted;             /* rounds whose entries were handed to host_act */
+  uint16_t heard, ask;        /* cards that were heard; cards to ask at the end of the tick */
+  int next_peer;
+  uint32_t progress;    /* grows with every new frame and every new round: only then is anything tried again */
+  uint32_t again;       /* entries put back in line because their blocks were passed over */
+  uint32_t answers[16]; /* of the library, by number */
+} card;
+
+/* 0 if the library refused, the archive is of another version or memory is short. Close it in any case. */
+int card_open(card *c, card_setup setup);
+void card_close(card *c);
+/* Puts an entry of 1 to 400 bytes in line; 0 if it does not fit. It stays in `line` until it is on the list; what is left there when
+ * the term is over goes into the next one. */
+int card_propose(card *c, const uint8_t *entry, size_t len);
+/* A packet that came off the cable. */
+void card_hear(card *c, const packet *p);
+/* One tick, after everything that has come was heard. Ticks that the program missed are not made up. */
+void card_tick(card *c);
+int card_is_over(const card *c);
+
+/* ---- what your program brings */
+
+void host_send(int from, int to, const packet *p);
+void host_sign(int signer, const uint8_t frame[APOLLO_FRAME], uint8_t signature[SIGNATURE]);
+/* Is it the signature of the frame's signer, byte 1, for this term? */
+int host_verify(const uint8_t frame[APOLLO_FRAME], const uint8_t signature[SIGNATURE]);
+/* An entry is on the list for good: act on it. In the order of the list, each once. An empty entry is not told. */
+void host_act(int id, uint32_t round, const uint8_t *entry, size_t len);
+/* Something that a repairer must see. */
+typedef enum {
+  ALARM_STATE,  /* the library answered 2: record, log or masks were changed */
+  ALARM_UNDONE, /* the library answered 12: a premise of the agreement is broken */
+  ALARM_PARTED, /* card `other` says that it has another block committed there: the lists have parted, or it lies */
+  ALARM_KINDS
+} alarm_kind;
+void host_alarm(int id, alarm_kind kind, int other, uint32_t round);
+
+#endif

@@ -1,0 +1,147 @@
+/* What the header tells a host's engineer beyond each call is so: slots, masks and leaders; which frames may be needed again; what an
+ * old term's frames do; what a blame is. Three cards, f = 1. Exits with 0 if all is so. */
+#include "apollo.h"
+#include "expect.h"
+
+#include <string.h>
+
+enum { T = 9, LOG = APOLLO_FRAME * T };
+
+typedef struct {
+  apollo_replica record;
+  uint8_t log[LOG];
+  uint16_t masks[T];
+} card;
+
+static uint8_t out[APOLLO_OUT];
+
+static apollo_answer open_card(card *c, uint8_t id, const char *entry) {
+  apollo_answer a = apollo_open(id, 1, (apollo_ticks){2}, (apollo_round){T}, c->log, LOG, c->masks, T, (const uint8_t *)entry,
+                                strlen(entry), out, sizeof out);
+  EXPECT(a.number == APOLLO_TAKEN);
+  c->record = a.replica;
+  return a;
+}
+
+static apollo_answer branch(card *c, const uint8_t *frames, size_t count) {
+  apollo_answer a =
+      apollo_branch(c->record, c->log, LOG, c->masks, T, frames, count * APOLLO_FRAME, (const uint8_t *)"x", 1, out, sizeof out);
+  c->record = a.replica;
+  return a;
+}
+
+static apollo_answer tick(card *c) {
+  apollo_answer a = apollo_tick(c->record, c->log, LOG, c->masks, T, NULL, 0, out, sizeof out);
+  c->record = a.replica;
+  return a;
+}
+
+/* A blame is a function of its round and its signer. */
+static void make_blame(uint8_t round, uint8_t signer, uint8_t frame[APOLLO_FRAME]) {
+  memset(frame, 0, APOLLO_FRAME);
+  frame[0] = APOLLO_BLAME;
+  frame[1] = signer;
+  frame[7] = round;
+  apollo_digest(frame, 480, frame + 480);
+}
+
+static apollo_answer blame(card *c, uint8_t round, uint8_t signer) {
+  uint8_t frame[APOLLO_FRAME];
+  make_blame(round, signer, frame);
+  apollo_answer a = apollo_blame(c->record, c->log, LOG, c->masks, T, frame, sizeof frame, NULL, 0, out, sizeof out);
+  c->record = a.replica;
+  return a;
+}
+
+static card zero, other, one, two;
+
+/* A lying card 0 has two blocks for round 1. Card 2 takes one and is answered 10 for the other, which block 2 then needs. */
+static void stale_parent(void) {
+  uint8_t first[APOLLO_FRAME], pair[2 * APOLLO_FRAME];
+  open_card(&zero, 0, "A");
+  memcpy(first, out, APOLLO_FRAME);
+  open_card(&other, 0, "B");
+  memcpy(pair, out, APOLLO_FRAME);
+  open_card(&one, 1, "");
+  open_card(&two, 2, "");
+  EXPECT(branch(&one, pair, 1).frames == 1);
+  memcpy(pair + APOLLO_FRAME, out, APOLLO_FRAME);
+  EXPECT(branch(&two, first, 1).number == APOLLO_TAKEN);
+  EXPECT(branch(&two, pair, 1).number == APOLLO_STALE);
+  EXPECT(branch(&two, pair + APOLLO_FRAME, 1).number == APOLLO_UNATTACHED);
+  EXPECT(branch(&two, pair, 2).number == APOLLO_TAKEN);
+}
+
+/* Slot r begins at byte 512 (r - 1), bit i of mask r - 1 is card i's blame, a part lies in its slot, the leader is (R - 1) mod n. */
+static void layout_of_state(void) {
+  uint8_t first[APOLLO_FRAME];
+  apollo_answer a = open_card(&zero, 0, "A");
+  memcpy(first, out, APOLLO_FRAME);
+  EXPECT(a.leader == 1 && memcmp(zero.log, first, APOLLO_FRAME) == 0 && zero.log[0] == APOLLO_BLOCK && zero.log[APOLLO_FRAME] == 0);
+  EXPECT(open_card(&one, 1, "").leader == 0);
+  a = branch(&one, first, 1); /* it leads round 2 and proposes "x" in the same call */
+  EXPECT(a.frames == 1 && a.leader == 2 && one.log[APOLLO_FRAME] == APOLLO_BLOCK && one.log[APOLLO_FRAME + 44] == 'x');
+  EXPECT(memcmp(one.log + APOLLO_FRAME + 12, first + 480, APOLLO_DIGEST) == 0);
+  apollo_part p = apollo_read(one.record, one.log, LOG, (apollo_height){1});
+  EXPECT(p.number == APOLLO_TAKEN && p.start / APOLLO_FRAME + 1 == 1 && one.log[p.start] == 'A');
+  EXPECT(blame(&one, 3, 2).number == APOLLO_TAKEN && one.masks[2] == 1u << 2 && one.masks[1] == 0);
+}
+
+/* A tick's blame is the one made by hand; with no ticks left nothing happens; a blame above R is early, one below only sets its bit. */
+static void blames(void) {
+  uint8_t frame[APOLLO_FRAME];
+  open_card(&two, 2, "");
+  EXPECT(tick(&two).frames == 0);
+  EXPECT(tick(&two).frames == 1);
+  make_blame(1, 2, frame);
+  EXPECT(memcmp(out, frame, APOLLO_FRAME) == 0 && two.masks[0] == 1u << 2);
+  apollo_replica before = two.record;
+  apollo_answer a = tick(&two);
+  EXPECT(a.number == APOLLO_TAKEN && a.frames == 0 && memcmp(&before, &two.record, sizeof before) == 0);
+  EXPECT(blame(&two, 2, 1).number == APOLLO_EARLY);
+  EXPECT(blame(&two, 1, 1).number == APOLLO_TAKEN && two.record.round.value == 2);
+  a = blame(&two, 1, 0);
+  EXPECT(a.number == APOLLO_TAKEN && a.frames == 0 && two.record.round.value == 2 && two.masks[0] == 7);
+}
+
+/* A block over a skipped round is answered 13 with that round, until f + 1 of its blames are there. */
+static void skipped_round(void) {
+  uint8_t first[APOLLO_FRAME], third[APOLLO_FRAME];
+  open_card(&zero, 0, "A");
+  memcpy(first, out, APOLLO_FRAME);
+  open_card(&two, 2, "");
+  EXPECT(branch(&two, first, 1).number == APOLLO_TAKEN && blame(&two, 2, 0).number == APOLLO_TAKEN);
+  EXPECT(blame(&two, 2, 2).frames == 1); /* round 2 is passed over, and card 2 leads round 3 */
+  memcpy(third, out, APOLLO_FRAME);
+  apollo_answer a = branch(&zero, third, 1);
+  EXPECT(a.number == APOLLO_NOT_CERTIFIED && a.place == 2 && a.leader == APOLLO_NO_LEADER);
+  EXPECT(blame(&zero, 2, 2).number == APOLLO_TAKEN && branch(&zero, third, 1).number == APOLLO_NOT_CERTIFIED);
+  EXPECT(blame(&zero, 2, 0).number == APOLLO_TAKEN && branch(&zero, third, 1).number == APOLLO_TAKEN);
+}
+
+/* Frames carry no term: a new term takes the last one's block 1. And a card that is behind proposes in a round that others passed over.
+ */
+static void terms_and_lag(void) {
+  uint8_t first[APOLLO_FRAME], late[APOLLO_FRAME];
+  open_card(&zero, 0, "last term");
+  memcpy(first, out, APOLLO_FRAME);
+  open_card(&one, 1, "");
+  open_card(&two, 2, "");
+  EXPECT(branch(&two, first, 1).number == APOLLO_TAKEN && blame(&two, 2, 0).number == APOLLO_TAKEN);
+  EXPECT(blame(&two, 2, 2).number == APOLLO_TAKEN && two.record.round.value == 4);
+  apollo_answer a = branch(&one, first, 1);
+  EXPECT(a.number == APOLLO_TAKEN && a.frames == 1 && out[1] == 1 && out[7] == 2);
+  memcpy(late, out, APOLLO_FRAME);
+  EXPECT(branch(&two, late, 1).number == APOLLO_STALE);
+}
+
+int main(void) {
+  EXPECT(apollo_version() == APOLLO_VERSION);
+  stale_parent();
+  layout_of_state();
+  blames();
+  skipped_round();
+  terms_and_lag();
+  puts("what the header tells a host is so");
+  return 0;
+}
