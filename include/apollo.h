@@ -52,9 +52,9 @@
  *     for none).
  *   - Asked by a card in an earlier round, send it, for each round above that card's committed one and below the own R, lowest first,
  *     the block in the slot or, where the slot is empty, f + 1 blames. An answer may end after 2f + 1 rounds, never sooner: R is at
- *     most 2f + 1 above the committed round while the premises hold, and an answer that does not reach the asker's R brings nothing. In
- *     the same round send all blames of it that are there, to a later round nothing: ask that card. The host keeps those frames: a mask
- *     only says who blamed.
+ *     most 2f + 1 above the committed round while the premises hold, and an answer that ends below the asker's R brings nothing alone.
+ *     In the same round send all blames of it that are there, to a later round nothing: ask that card. The host keeps those frames: a
+ *     mask only says who blamed.
  *   - Questions also compare lists: whoever has committed that round must have the same digest there. Another block or none means that
  *     the lists have parted or that the asker lies: f + 1 cards must say so.
  *
@@ -176,15 +176,15 @@ typedef struct {
   apollo_ticks timer;             /* ticks left: the whole timeout again on each new round */
   apollo_round tip_round;         /* the newest block held, 0 for none */
   apollo_height tip_height;
-  apollo_round committed_round;   /* the newest block held that is f rounds or more below tip_round, 0 for none: this card will never */
-                                  /* undo it, nor will any other while the premises hold */
+  apollo_round committed_round;   /* the newest block f rounds or more below tip_round, 0 for none. This card will never undo it, nor
+                                   * will any other while the premises hold */
   apollo_height committed_height;
 } apollo_replica;
 
 typedef struct {
   uint8_t number;         /* an apollo_number */
-  uint8_t frames;         /* frames emitted, at the start of the out buffer: 0 to 2, a blame before a block. The block is in the log */
-                          /* already and R is the round after it, the blame is in its mask */
+  uint8_t frames;         /* frames emitted, at the start of the out buffer: 0 to 2, a blame before a block. The block is in the log
+                           * already and R is the round after it; the blame is in its mask */
   uint8_t leader;         /* the leader of the round now waited for, or APOLLO_NO_LEADER after a refusal and when the term is over */
   uint32_t place;         /* where a refusal's cause is: see the numbers; else 0 */
   apollo_replica replica; /* the record for the next call; after a refusal the one handed in (open: all zeros) */
