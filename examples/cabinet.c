@@ -27,9 +27,9 @@ enum {
 
 /* How a card fails. A deaf one hears nothing for a while, a mute one is not heard. A lost one loses its state, is opened afresh and
  * only follows: it asks, and sends no frame any more. From TWO on a card lies. */
-typedef enum { NONE, DEAD, DEAF, MUTE, LOST, TWO, BLAMES, JUNK, MASK, HIDE, ALL, MIXED, FAULTS } fault;
+typedef enum { NONE, DEAD, DEAF, MUTE, LOST, TWO, BLAMES, JUNK, HIDE, ALL, MASK, MIXED, FAULTS } fault;
 static const char *const fault_names[FAULTS] = {"none",   "dead", "deaf", "mute", "lost", "two",
-                                                "blames", "junk", "mask", "hide", "all",  "mixed"};
+                                                "blames", "junk", "hide", "all",  "mask", "mixed"};
 
 typedef struct {
   packet p;
@@ -267,7 +267,7 @@ static void mask_as_newest(int from) {
 static void lie(int from) {
   fault kind = cabinet.faults[from];
   if ((kind == BLAMES || kind == ALL) && cabinet.now % RETRY == 0) blame_all(from);
-  if ((kind == MASK || kind == ALL) && cabinet.now % RETRY == 1) mask_as_newest(from);
+  if (kind == MASK && cabinet.now % RETRY == 1) mask_as_newest(from);
   if (kind != JUNK && kind != ALL) return;
   for (int to = 0; to < cabinet.n; to++)
     if (to != from && chance(4) == 0) send_junk(from, to);
@@ -490,8 +490,8 @@ static const char usage[] =
     "  --seed S       of the random numbers (1)\n"
     "  --rounds T     of the term, 30 to 4096 (120)\n"
     "  --fault KIND   how f = (N - 1) / 2 cards fail (dead): none, dead, deaf or mute (for 900 ticks, then back), lost (the state:\n"
-    "                 they follow), two (blocks for one round), blames (of everybody), junk, mask (blocks with another's check),\n"
-    "                 hide (a block shown to one card only), all (all lies), mixed (one of each)\n"
+    "                 they follow), two (blocks for one round), blames (of everybody), junk, hide (a block shown to one card only),\n"
+    "                 all (these four lies), mask (blocks with another's check), mixed (one of each, without mask)\n"
     "  --delay D      packets come after 1 to D ticks (6)\n"
     "  --loss K       one packet in K is lost, 0 for none (8)\n"
     "  --timeout W    ticks until a leader is blamed (by the rule of docs/HOSTS.md)\n"

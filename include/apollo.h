@@ -35,10 +35,10 @@
  *     round and signer (table below): these two and a signature are enough on the wire.
  *
  * Hearing: before anything is looked up, kept or handed in
- *   - The datagram's size, term and sender; of each frame the kind, a signer below n and a round from 1 to T (of a question R from 1 to
- *     T + 1, and the committed round below it); its digest, apollo_digest of the first 480 bytes against the last 32; its signer's
- *     signature. Drop what fails. Known already is a frame whose 512 bytes all are: it needs no check, and the signature that was
- *     checked stays.
+ *   - The datagram's size, term and sender; of each frame the kind (byte 0), a signer below n and a round from 1 to T (of a question R
+ *     from 1 to T + 1, and the committed round below it); its digest, apollo_digest of the first 480 bytes against the last 32; its
+ *     signer's signature. Drop what fails. Known already is a frame whose 512 bytes all are: it needs no check, and the signature that
+ *     was checked stays.
  *   - The digest too, since parents are found by it: a liar signs a frame that bears another block's.
  *
  * Sending
@@ -54,7 +54,7 @@
  *     the block in the slot or, where the slot is empty, f + 1 blames. An answer may end after 2f + 1 rounds, never sooner: R is at
  *     most 2f + 1 above the committed round while the premises hold, and an answer that ends below the asker's R brings nothing alone.
  *     In the same round send all blames of it that are there, to a later round nothing: ask that card. The host keeps those frames: a
- *     mask only says who blamed.
+ *     mask only says who blamed. Limit how often each card is answered.
  *   - Questions also compare lists: whoever has committed that round must have the same digest there. Another block or none means that
  *     the lists have parted or that the asker lies: f + 1 cards must say so.
  *
