@@ -27,9 +27,9 @@ enum {
 
 /* How a card fails. A deaf one hears nothing for a while, a mute one is not heard. A lost one loses its state, is opened afresh and
  * only follows: it asks, and sends no frame any more. From TWO on a card lies. */
-typedef enum { NONE, DEAD, DEAF, MUTE, LOST, TWO, BLAMES, JUNK, HIDE, ALL, MIXED, FAULTS } fault;
+typedef enum { NONE, DEAD, DEAF, MUTE, LOST, TWO, BLAMES, JUNK, HIDE, ALL, MASK, MIXED, FAULTS } fault;
 static const char *const fault_names[FAULTS] = {"none",   "dead", "deaf", "mute", "lost", "two",
-                                                "blames", "junk", "hide", "all",  "mixed"};
+                                                "blames", "junk", "hide", "all",  "mask", "mixed"};
 
 typedef struct {
   packet p;
@@ -123,13 +123,16 @@ static void put(cable *to, const packet *p) {
 static int twist(int from, int to, packet *p);
 
 /* One packet in `loss` is lost, one in `loss` comes twice, and all come late by a random time. */
-void host_send(int from, int to, const packet *p) {
-  packet sent = *p;
-  if (lies(from) && !twist(from, to, &sent)) return;
+static void carry(int from, int to, const packet *p) {
   if (is_cut_now(from, MUTE) || cabinet.faults[to] == DEAD || (follows(from) && p->kind != PACKET_STATUS)) return;
   if (cabinet.loss && chance(cabinet.loss) == 0) return;
-  put(&cabinet.in[to], &sent);
-  if (cabinet.loss && chance(cabinet.loss) == 0) put(&cabinet.in[to], &sent);
+  put(&cabinet.in[to], p);
+  if (cabinet.loss && chance(cabinet.loss) == 0) put(&cabinet.in[to], p);
+}
+
+void host_send(int from, int to, const packet *p) {
+  packet sent = *p;
+  if (!lies(from) || twist(from, to, &sent)) carry(from, to, &sent);
 }
 
 /* All that has come is heard before the tick. */
@@ -243,9 +246,28 @@ static void send_junk(int from, int to) {
   cabinet.lies++;
 }
 
+/* To all a block of a later round that bears the newest block's check, as if it were its own parent: found by that check in place of
+ * the true one, it bars the way to every child. */
+static void mask_as_newest(int from) {
+  const apollo_replica *record = &cabinet.cards[from].record;
+  uint32_t newest = record->tip_round.value, round = record->round.value + (uint32_t)cabinet.n * chance(3);
+  packet p = {.kind = PACKET_BLOCK, .from = (uint8_t)from};
+  while (leader_of(round) != from) round++;
+  if (newest == 0) return;
+  memcpy(p.block.frame, slot(from, newest), APOLLO_FRAME);
+  p.block.frame[1] = (uint8_t)from;
+  put32(p.block.frame + 4, round);
+  memcpy(p.block.frame + 12, slot(from, newest) + 480, APOLLO_DIGEST);
+  host_sign(from, p.block.frame, p.block.signature);
+  for (int to = 0; to < cabinet.n; to++)
+    if (to != from) carry(from, to, &p);
+  cabinet.lies++;
+}
+
 static void lie(int from) {
   fault kind = cabinet.faults[from];
   if ((kind == BLAMES || kind == ALL) && cabinet.now % RETRY == 0) blame_all(from);
+  if (kind == MASK && cabinet.now % RETRY == 1) mask_as_newest(from);
   if (kind != JUNK && kind != ALL) return;
   for (int to = 0; to < cabinet.n; to++)
     if (to != from && chance(4) == 0) send_junk(from, to);
@@ -469,7 +491,7 @@ static const char usage[] =
     "  --rounds T     of the term, 30 to 4096 (120)\n"
     "  --fault KIND   how f = (N - 1) / 2 cards fail (dead): none, dead, deaf or mute (for 900 ticks, then back), lost (the state:\n"
     "                 they follow), two (blocks for one round), blames (of everybody), junk, hide (a block shown to one card only),\n"
-    "                 all (all lies), mixed (one of each)\n"
+    "                 all (these four lies), mask (blocks with another's check), mixed (one of each, without mask)\n"
     "  --delay D      packets come after 1 to D ticks (6)\n"
     "  --loss K       one packet in K is lost, 0 for none (8)\n"
     "  --timeout W    ticks until a leader is blamed (by the rule of docs/HOSTS.md)\n"

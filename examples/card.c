@@ -117,8 +117,8 @@ static proposal *lend(card *c) {
   return is_behind(c) || waited(c) + turns > last_useful(c) ? NULL : next_proposal(c);
 }
 
-/* Hands on what was committed since the last call. An own entry leaves the line when its block is among that; where the block's slot is
- * empty, it was passed over for good, and the entry is proposed again. */
+/* Hands on what was committed since the last call. An own entry leaves the line when its block is among that; where the slot does not
+ * hold that block, it was passed over for good, and the entry is proposed again. */
 static void act(card *c) {
   size_t left = 0;
   for (; c->acted < committed(c); c->acted++) {
@@ -129,7 +129,7 @@ static void act(card *c) {
   for (size_t i = 0; i < c->lined; i++) {
     proposal *p = &c->line[i];
     int decided = p->round > 0 && p->round <= committed(c);
-    if (decided && filled(c, p->round) && p->round <= last_useful(c)) continue;
+    if (decided && p->round <= last_useful(c) && same(digest_of(slot(c, p->round)), p->digest)) continue;
     if (decided) {
       p->round = 0;
       c->again++;
@@ -161,7 +161,9 @@ static void sign(card *c, const uint8_t *frame, proposal *lent) {
     c->blames[r - 1].taken |= bit(me);
   } else {
     host_sign(me, frame, c->signature[r - 1]);
-    if (lent) lent->round = r;
+    if (!lent) return;
+    lent->round = r;
+    memcpy(lent->digest, digest_of(frame), APOLLO_DIGEST);
   }
 }
 
@@ -287,7 +289,7 @@ static kept_block *lowest(card *c, int *sender) {
   return low;
 }
 
-/* Hands in what may be taken now, blames first, then the lowest block, until nothing more is. */
+/* Hands in what may be taken now, blames first, then the blocks, lowest first, until nothing more is. */
 static void settle(card *c) {
   int sender = 0;
   kept_block *b;

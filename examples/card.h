@@ -9,7 +9,7 @@
 enum {
   MAX_CARDS = 2 * APOLLO_MAX_F + 1,
   SIGNATURE = 32, /* bytes of a signature: 64 for Ed25519 */
-  WINDOW = 32,    /* rounds above the committed one whose blocks are kept: R is at most 3 f + 1 above it while the premises hold */
+  WINDOW = 32,    /* rounds above the committed one whose blocks are kept, and that an answer has: 2 f + 1 at least (docs/HOSTS.md) */
   LINE = 64       /* entries that wait to be proposed */
 };
 
@@ -37,7 +37,8 @@ typedef struct {
   uint8_t digest[APOLLO_DIGEST];
 } card_status;
 
-/* A packet of one term. Real cables carry bytes: size, sender and term are then looked at before anything else. */
+/* A packet of one term, from a card that is known to have sent it: real cables carry bytes, and size, term and the sender's own
+ * signature are looked at before card_hear. Blocks are kept and questions answered by sender. */
 typedef struct {
   uint8_t kind, from;
   union {
@@ -75,7 +76,8 @@ typedef struct {
 typedef struct {
   uint8_t entry[APOLLO_ENTRY];
   size_t len;
-  uint32_t round; /* whose block it was proposed in, 0 while it waits */
+  uint32_t round; /* of the block that it was proposed in, 0 while it waits; and that block's digest */
+  uint8_t digest[APOLLO_DIGEST];
 } proposal;
 
 typedef struct {
@@ -104,7 +106,8 @@ typedef struct {
 int card_open(card *c, card_setup setup);
 void card_close(card *c);
 /* Puts an entry of 1 to 400 bytes in line; 0 if it does not fit. It stays in `line` until it is on the list; what is left there when
- * the term is over goes into the next one. */
+ * the term is over goes into the next one. One whose block was passed over comes after later ones: where their order matters, propose
+ * the next when `line` is empty. */
 int card_propose(card *c, const uint8_t *entry, size_t len);
 /* A packet that came off the cable. */
 void card_hear(card *c, const packet *p);

@@ -2,9 +2,9 @@
  *
  * n = 2f + 1 cards (3 to 15) keep one list of entries alike, though f of them may fail in any manner. This library is one card's step
  * machine. It keeps nothing between calls, allocates nothing and never blocks: all state is in the record, the log and the masks, which
- * the host holds and lends to each call. What follows is the host's part: the agreement of the lists rests on it. docs/HOSTS.md has the
- * life of a card step by step, the reasons and a table for the repairer; examples/card.c is a host that keeps these rules. T is the
- * last round of a term, R the round that a card waits for.
+ * the host holds and lends to each call. The archive needs nothing but memset: cc -Idist host.c dist/libhost.a. What follows is the
+ * host's part: the agreement of the lists rests on it. docs/HOSTS.md has the life of a card step by step, the reasons and a table for
+ * the repairer; examples/card.c is a host that keeps these rules. T is the last round of a term, R the round that a card waits for.
  *
  * State
  *   - One record, one log of 512 * T bytes and one array of T masks for each card. Hand each call the record, log and masks exactly as
@@ -15,56 +15,84 @@
  *   - A card that is to go on after a restart writes its state to disk before it sends what a call emitted. One that lost its state, or
  *     has an older one, counts among the f that fail until the term ends. It may be opened afresh to follow the list, if nothing that
  *     it emits is sent: it would sign a second block for a round.
- *   - At most f cards may fail in one term, all told, not at a time; a card that was cut off long enough to be blamed is one of them.
+ *   - At most f cards may fail in one term, all told, not at a time; a card that was cut off or stood still long enough to be blamed is
+ *     one of them.
+ *
+ * Terms
+ *   - Each term has a number above all earlier ones', which every datagram names. A term is over for a card at R = T + 1; no 3 need be
+ *     seen. The next is opened then, or when f + 1 cards have sent datagrams of it, with a record, log and masks of its own: two terms
+ *     run side by side, and a card may be behind in the old one.
+ *   - Answer in the old term until every other card has told R = T + 1 there, or the next one is over too.
  *
  * Signatures
- *   - A frame travels with the signature of its signer (byte 1), whoever sends it: cards pass on each other's frames. Check that one
- *     before the frame is handed in; the sender's says nothing.
- *   - It covers the whole frame and what all cards share: n, f, T and the term's number. Frames carry no term, and the last term's
- *     block 1 would be answered 0 in the next. Hand in no frame of another term.
+ *   - A frame travels with the signature of its signer (byte 1), whoever sends it: cards pass on each other's frames. It covers the
+ *     whole frame, a word for this use, and what all cards share: n, f, T, the term's number and all public keys. Frames carry no term,
+ *     and the last term's block 1 would be answered 0 in the next.
+ *   - Sign the frames that the card's calls emit, the first `answer.frames` of 512 bytes in the out buffer, and no other frame ever.
+ *   - Authenticate the sender of every datagram as well, under another word: blocks are kept and questions answered by sender, and that
+ *     is who sent them, not who signed the frames. The sender's word says nothing about a frame.
  *   - Keep the signature of each block in the log and of each blame, to pass it on as long as the term lasts. A blame is a function of
  *     round and signer (table below): these two and a signature are enough on the wire.
- *   - Sign what the card's calls emit, the first `answer.frames` frames of 512 bytes in the out buffer, and nothing else.
+ *
+ * Hearing: before anything is looked up, kept or handed in
+ *   - The datagram's size, term and sender; of each frame the kind (byte 0), a signer below n and a round from 1 to T (of a question R
+ *     from 1 to T + 1, and the committed round below it); its digest, apollo_digest of the first 480 bytes against the last 32; its
+ *     signer's signature. Drop what fails. Known already is a frame whose 512 bytes all are: it needs no check, and the signature that
+ *     was checked stays.
+ *   - The digest too, since parents are found by it: a liar signs a frame that bears another block's.
  *
  * Sending
  *   - An emitted blame goes to all cards.
- *   - An emitted block goes to all, after its parent and the blames of every round between the two: without them it is answered 13.
+ *   - An emitted block goes to all, after its parent and f + 1 blames of every round between the two: without them it is answered 13.
  *   - When a call moves the card to another round and emits no block, the leader that the answer names is sent the newest block, its
- *     parent, and the blames of every round that was passed over between them and since.
- *   - Cables lose frames. While the card stays in a round, send all this again every few ticks, and ask other cards, f + 1 of them, so
- *     that one is correct. A question tells the round waited for, the committed round and the digest of its block.
- *   - Who is asked by a card in an earlier round sends it, for each round above that card's committed one and below the own R, lowest
- *     first, the block in the slot, or the round's blames where the slot is empty. In the same round: its blames. The host keeps those
- *     frames: a mask only says who blamed.
- *   - Questions also compare lists: whoever has committed that round must have the same digest there.
+ *     parent, and f + 1 blames of every round that was passed over between them and since.
+ *   - Cables lose frames. While the card stays in a round, send all this again every few ticks, and ask f + 1 other cards, so that one
+ *     is correct, the next ones each time, and R's leader if it is not among them. All this goes by the host's own clock, from the
+ *     opening on, also while apollo_tick is withheld. A question tells R, the committed round and the digest of its block (0 and zeros
+ *     for none).
+ *   - Asked by a card in an earlier round, send it, for each round above that card's committed one and below the own R, lowest first,
+ *     the block in the slot or, where the slot is empty, f + 1 blames. An answer may end after 2f + 1 rounds, never sooner: R is at
+ *     most 2f + 1 above the committed round while the premises hold, and an answer that ends below the asker's R brings nothing alone.
+ *     In the same round send all blames of it that are there, to a later round nothing: ask that card. The host keeps those frames: a
+ *     mask only says who blamed. Limit how often each card is answered.
+ *   - Questions also compare lists: whoever has committed that round must have the same digest there. Another block or none means that
+ *     the lists have parted or that the asker lies: f + 1 cards must say so.
  *
  * Handing in: blocks by apollo_branch, blames by apollo_blame (byte 0 says which)
- *   - Keep each block until its round is committed, also one that is answered 10: a later block may need it as its parent, in one
- *     branch with it. Or fetch it again.
- *   - A frame that is answered 11, 13 or 14 goes in again after progress only (a new frame came, or the round changed), lowest round
- *     first. 11: with its parents before it, in one branch. 13: when round `place` has f + 1 blames. 14: when the card waits for that
- *     round. To hand in everything again at each call is ruinous (measured: 28,880 calls answered 13 in one catch-up).
- *   - Drop what is answered 6 to 9. For 12 see there.
+ *   - First the blames of rounds up to R that are not in the masks. Then the kept blocks of round R or above, lowest first, each with
+ *     its kept parents before it in one branch, down to one whose parent is in the log, until one is taken; then both again. Do not
+ *     stop at the first that is refused, and try all blocks of a round: one may be a liar's.
+ *   - A refused frame goes in again only when its cause is gone. 11: the parent that the branch's first frame names has come. 13: round
+ *     `place` has f + 1 bits in its mask. 14: R has come to its round. Where a host tried again after each new frame, 5,000 to 7,800
+ *     calls a card were answered 13; with these triggers 155 to 290.
+ *   - Dropped are, of a branch answered 7 to 9, frame `place` and no other; a first frame answered 11 whose parent is in the log
+ *     (zeros: the genesis, always there), since its height or round is a lie; a blame answered 10. For 12 see there.
+ *   - Keep each block until its round is committed, also one that is answered 10: a later block may need it as its parent. Keep them by
+ *     sender, so that a liar pushes out only what it sent: for each sender one block a round, the last that came, of the 2f + 1 rounds
+ *     or more above the committed one. Drop a higher one, and ask who sent it.
  *
  * Entries
  *   - Lend each of open, branch, blame and tick an entry: the call that brings a card to a round that it leads proposes it at once, an
- *     empty one too. A host that wants to wait for an entry withholds the call.
- *   - While the card is behind (f + 1 cards have signed frames of rounds above the next) lend an empty entry: it may come to lead a
- *     round that the others passed over long ago.
+ *     empty one too. That round is 1 for open, R + 1 for a blame or a tick, the last frame's + 1 for a branch. A host that wants to
+ *     wait for an entry withholds the branch, at most until w ticks after the card came to R. Ticks go on: w is in the timeout (Clock).
+ *   - Lend an empty entry for a round above T - 2f, and while the card is behind (f + 1 cards have signed frames of rounds above
+ *     R + 1): it may come to lead a round that the others passed over long ago.
  *   - The entry was used if the call emitted a block, and is on the list for good when that block's round is at most the committed
- *     round and its slot holds the block. Where the slot does not, the block was passed over: lend the entry again.
- *   - Act on the entries of committed rounds up to T - 2 f, and take all others into the next term. When the term is over (number 3),
- *     cards that passed over the last rounds have committed up to f rounds less than cards that hold their blocks.
+ *     round and its slot holds the block. Where the slot does not, the block was passed over: lend the entry again, never before. It
+ *     then comes after later ones: where order matters, lend a card's next entry when the last is on the list.
+ *   - Act on the entries of committed rounds up to T - 2f, and take all others into the next term, whose entries come after. At
+ *     R = T + 1 the committed round is T - 2f or above, so that all is decided; how far above differs from card to card. Choose T well
+ *     above 2f: with less it is opened too, but no entry counts, and T - 2f wraps round in unsigned C.
  *
  * Clock
- *   - Call apollo_tick at a steady pace, after everything that has come was handed in. Missed ticks are not made up. No tick before the
- *     other cards were heard at the start of a term, or a time of grace is over; none while the card is behind. To withhold ticks costs
- *     progress only.
+ *   - Call apollo_tick at a steady pace, after everything that has come was handed in. Missed ticks are not made up. No tick at the
+ *     start of a term before every other card was heard (a question counts) or a time of grace is over; none while the card is behind.
+ *     To withhold ticks costs progress only.
  *   - The timeout must let every correct leader's block come before any correct card blames the round, else lists part, with no card
- *     lying. Rule: 4 d + 2 ticks + w. d: the longest time from one card's call to another's, repeats included, in ticks; four times,
- *     because a new round is told to its leader, the leader asks for what it lacks, is answered, and sends its block. w: what a leader
- *     waits by itself. Three cards on cables of 0 to 20 ms: lists parted with timeouts of 5, 10 and 15 ms. Timeouts may differ from
- *     card to card.
+ *     lying. Rule: 4 d + 2 ticks + w. d: the longest time from one card's call to another's, in ticks, with the repeats for lost
+ *     datagrams and the pauses between questions and between answers; four times, because a new round is told to its leader, the leader
+ *     asks for what it lacks, is answered, and sends its block. w: what a leader waits by itself. Three cards on cables of 0 to 20 ms:
+ *     lists parted with timeouts of 5, 10 and 15 ms. Timeouts may differ from card to card.
  *
  * Every call takes any bytes and any record and answers with a number: 0 taken, else a refusal, and a refusal changes no record and no
  * lent buffer. What C cannot check is the caller's part: a pointer is valid for its length, in elements, and writable where it is not
@@ -118,14 +146,14 @@ typedef enum {
   APOLLO_OUT_TOO_SHORT = 4,      /* "short tray": the out buffer has less than 1,024 bytes */
   APOLLO_ENTRY_TOO_LONG = 5,     /* "long entry": the entry has more than 400 bytes */
   APOLLO_BAD_LENGTH = 6,         /* "cut": a branch that is not 1 to T whole frames, a blame that is not one frame */
-  APOLLO_BAD_DIGEST = 7,         /* "check": a frame's check is wrong; place: the frame's index */
+  APOLLO_BAD_DIGEST = 7,         /* "check": a frame's digest is wrong; place: the frame's index */
   APOLLO_BAD_FORM = 8,           /* "form": a field outside the frame table, wrong kind or signer; place: the frame's index */
   APOLLO_NOT_CHILD = 9,          /* "parted": a frame is not the child of the one before; place: its index */
-  APOLLO_STALE = 10,             /* "stale": the branch ends below the round waited for; the blame is there already. Keep a block */
-  APOLLO_UNATTACHED = 11,        /* "loose": the first frame's parent is not in the log: hand it in again with its parents */
+  APOLLO_STALE = 10,             /* "stale": the branch ends below the round waited for: keep it; or the blame is there already */
+  APOLLO_UNATTACHED = 11,        /* "loose": the first frame's parent, with one height less, is not in the log. Get it or drop: above */
   APOLLO_REVERTS_COMMITTED = 12, /* "undone": a committed block would change: a premise is broken, see below */
-  APOLLO_NOT_CERTIFIED = 13,     /* "unshown": a skipped round lacks f + 1 blames; place: that round. Hand it in again with them */
-  APOLLO_EARLY = 14,             /* "early": a blame for a round above the one waited for: hand it in again when that has come */
+  APOLLO_NOT_CERTIFIED = 13,     /* "unshown": a skipped round lacks f + 1 blames; place: that round. Again when it has them */
+  APOLLO_EARLY = 14,             /* "early": a blame for a round above the one waited for. Again when that has come */
   APOLLO_ABSENT = 15             /* "absent": read: no such committed height; fetch: no frame above that height */
 } apollo_number;
 
@@ -145,16 +173,18 @@ typedef struct {
   apollo_ticks timeout;           /* ticks until a round's leader is blamed, 1 to 60,000 */
   apollo_round last_round;        /* T, 1 to 4,096 */
   apollo_round round;             /* R, the round waited for, 1 to T + 1 */
-  apollo_ticks timer;             /* ticks left */
-  apollo_round tip_round;         /* the newest block held */
+  apollo_ticks timer;             /* ticks left: the whole timeout again on each new round */
+  apollo_round tip_round;         /* the newest block held, 0 for none */
   apollo_height tip_height;
-  apollo_round committed_round;   /* the newest block that no card will ever undo, while the premises hold; this card never will */
+  apollo_round committed_round;   /* the newest block f rounds or more below tip_round, 0 for none. This card will never undo it, nor
+                                   * will any other while the premises hold */
   apollo_height committed_height;
 } apollo_replica;
 
 typedef struct {
   uint8_t number;         /* an apollo_number */
-  uint8_t frames;         /* frames emitted, at the start of the out buffer: 0 to 2, a blame before a block */
+  uint8_t frames;         /* frames emitted, at the start of the out buffer: 0 to 2, a blame before a block. The block is in the log
+                           * already and R is the round after it; the blame is in its mask */
   uint8_t leader;         /* the leader of the round now waited for, or APOLLO_NO_LEADER after a refusal and when the term is over */
   uint32_t place;         /* where a refusal's cause is: see the numbers; else 0 */
   apollo_replica replica; /* the record for the next call; after a refusal the one handed in (open: all zeros) */
@@ -195,7 +225,8 @@ apollo_answer apollo_blame(apollo_replica replica, uint8_t *log, size_t log_len,
                            size_t out_len);
 
 /* One tick of the clock. The tick that brings the timer to 0 emits the card's blame for the round waited for; if that is the last of
- * f + 1, the round is passed over as above. With no ticks left nothing happens.
+ * f + 1, the round is passed over as above. Else the card waits on, and still takes the round's block. With no ticks left nothing
+ * happens.
  * Refuses 2 to 5. */
 apollo_answer apollo_tick(apollo_replica replica, uint8_t *log, size_t log_len, uint16_t *masks, size_t masks_len,
                           const uint8_t *entry, size_t entry_len, uint8_t *out, size_t out_len);

@@ -104,6 +104,42 @@ static void blames(void) {
   EXPECT(a.number == APOLLO_TAKEN && a.frames == 0 && two.record.round.value == 2 && two.masks[0] == 7);
 }
 
+/* 0 is no block. The timer is full on each new round. A block is taken after the own blame of its round. What is f rounds below the
+ * newest block is committed. A term of 2 f rounds is opened. */
+static void what_calls_leave(void) {
+  uint8_t first[APOLLO_FRAME], second[APOLLO_FRAME];
+  open_card(&zero, 0, "A");
+  memcpy(first, out, APOLLO_FRAME);
+  EXPECT(zero.record.tip_round.value == 1 && zero.record.committed_round.value == 0 && zero.record.round.value == 2);
+  open_card(&one, 1, "");
+  EXPECT(branch(&one, first, 1).frames == 1);
+  memcpy(second, out, APOLLO_FRAME);
+  open_card(&two, 2, "");
+  EXPECT(two.record.tip_round.value == 0 && two.record.committed_round.value == 0 && two.record.timer.value == 2);
+  EXPECT(tick(&two).number == APOLLO_TAKEN && tick(&two).frames == 1 && two.record.timer.value == 0 && two.record.round.value == 1);
+  EXPECT(branch(&two, first, 1).number == APOLLO_TAKEN && two.record.round.value == 2 && two.record.timer.value == 2);
+  EXPECT(branch(&zero, second, 1).number == APOLLO_TAKEN && zero.record.committed_round.value == 1);
+  EXPECT(apollo_open(0, 1, (apollo_ticks){2}, (apollo_round){2}, zero.log, 2 * APOLLO_FRAME, zero.masks, 2, NULL, 0, out, sizeof out)
+             .number == APOLLO_TAKEN);
+}
+
+/* A first frame whose parent is in the log is loose if its height is wrong; so is one on the genesis. */
+static void false_height(void) {
+  uint8_t frame[APOLLO_FRAME];
+  open_card(&zero, 0, "A");
+  memcpy(frame, out, APOLLO_FRAME);
+  open_card(&one, 1, "");
+  EXPECT(branch(&one, frame, 1).frames == 1);
+  memcpy(frame, out, APOLLO_FRAME);
+  frame[11] = 1; /* block 2 on block 1, with block 1's height */
+  apollo_digest(frame, 480, frame + 480);
+  EXPECT(branch(&zero, frame, 1).number == APOLLO_UNATTACHED);
+  memset(frame + 12, 0, APOLLO_DIGEST);
+  frame[11] = 2; /* on the genesis */
+  apollo_digest(frame, 480, frame + 480);
+  EXPECT(branch(&zero, frame, 1).number == APOLLO_UNATTACHED);
+}
+
 /* A block over a skipped round is answered 13 with that round, until f + 1 of its blames are there. */
 static void skipped_round(void) {
   uint8_t first[APOLLO_FRAME], third[APOLLO_FRAME];
@@ -140,6 +176,8 @@ int main(void) {
   stale_parent();
   layout_of_state();
   blames();
+  what_calls_leave();
+  false_height();
   skipped_round();
   terms_and_lag();
   puts("what the header tells a host is so");
