@@ -10,6 +10,7 @@ use Rattle.apollo.specs.Frame.{kind, signer, round, height, parent, digest, fra
 use Rattle.apollo.specs.Log.{genesis}
 use Rattle.agreement.proofs.Slots.{length-zeros}
 pub use Rattle.apollo.proofs.Slots.{slot-length}
+pub use Rattle.apollo.proofs.Frames.{Whole, frames-whole}
 
 module _ (hash : List ℕ → List ℕ) (wide : (xs : List ℕ) → length (hash xs) ≡ 32) where
   module _ (id r h : ℕ) (up entry : List ℕ) where
@@ -65,16 +66,6 @@ height-genesis = refl
 pub round-genesis : round genesis ≡ 0
 unfolding genesis number4 zeros
 round-genesis = refl
-
--- every frame has 512 bytes
-abbrev pub Whole : List (List ℕ) → Type 0
-Whole [] = Unit {0}
-Whole (x ∷ xs) = (length x ≡ 512) × Whole xs
-
-pub frames-whole : (n : ℕ) (bytes : List ℕ) → 512 * n ≤ length bytes → Whole (frames n bytes)
-unfolding frames
-frames-whole zero bytes l = tt
-frames-whole (suc n) bytes l = (length-take-le 512 bytes (omega arith), frames-whole n (drop 512 bytes) (simp length-drop (omega arith)))
 
 pub frames-flatten : (xs : List (List ℕ)) (rest : List ℕ) → Whole xs → frames (length xs) (flatten xs ++ rest) ≡ xs
 unfolding frames flatten

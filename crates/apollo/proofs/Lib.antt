@@ -12,3 +12,4 @@ pub mod BenchBranches
 pub mod BenchSheet
 pub mod BenchMade
 pub mod BenchWitness
+pub mod Frames

@@ -19,6 +19,10 @@ and-second false b e = absurd (true≢false (sym e))
 pub and-true : (a b : Bool) → (a && b) ≡ true → (a ≡ true) × (b ≡ true)
 and-true a b e = (and-first a b e, and-second a b e)
 
+pub and-no : (b : Bool) → b && false ≡ false
+and-no true = refl
+and-no false = refl
+
 pub both : (a b : Bool) → a ≡ true → b ≡ true → (a && b) ≡ true
 both true b e d = d
 both false b e d = e

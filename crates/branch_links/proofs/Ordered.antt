@@ -15,6 +15,7 @@ use Rattle.apollo.specs.Frame.{round, linked, checked, blockForm, frames}
 use Rattle.apollo.specs.Log.{attach}
 use Rattle.apollo.specs.Branch.{Verdict, childOf, faulty, judged, judgedAll}
 use Rattle.apollo.proofs.Tests.{and-true}
+use Rattle.apollo.proofs.Frames.{Whole, frames-whole}
 use Rattle.frame_forms.proofs.Facts.{BlockFields, block-fields}
 use Rattle.branch_links.specs.Judged.{judgedFrames}
 use Rattle.branch_links.specs.Ordered.{Ordered}
@@ -51,19 +52,9 @@ step false c k i v e h = absurd (no h e)
         let z : _≡_ {A = ℕ} 0 1 = cc in
         omega arith
 
-Whole : List (List ℕ) → Type 0
-Whole [] = Unit {0}
-Whole (x ∷ xs) = (length x ≡ 512) × Whole xs
-
-whole-frames : (n : ℕ) (b : List ℕ) → 512 * n ≤ length b → Whole (frames n b)
-unfolding frames Whole
-whole-frames zero b h = tt
-whole-frames (suc n) b h =
-    (simp length-take (omega arith), whole-frames n (drop 512 b) (simp length-drop (omega arith)))
-
 rising : (s : Setup) (k : ℕ) (x : List ℕ) (ys : List (List ℕ)) → round x ≤ s .«last_round» .0 → judged sha256 s k x ys .number ≡ 0 → Whole ys
     → Ordered (s .«last_round» .0) (round x) ys
-unfolding judged Whole Ordered childOf
+unfolding judged Ordered childOf
 rising s k x [] r e w = r
 rising s k x (y ∷ ys) r e w =
     let p : Step (faulty sha256 s y) (childOf x y) (judged sha256 s (k + 1) y ys) =
@@ -74,7 +65,7 @@ rising s k x (y ∷ ys) r e w =
 -- a judged branch of n frames whose first frame attaches to round a
 pub ordered : (s : Setup) (log b : List ℕ) (n a : ℕ) → 0 < n → 512 * n ≤ length b → judgedFrames s (frames n b) .number ≡ 0
     → attach log (take 512 b) (round (take 512 b) - 1) ≡ some a → Ordered (s .«last_round» .0) a (frames n b)
-unfolding frames judgedFrames judgedAll Whole Ordered
+unfolding frames judgedFrames judgedAll Ordered
 ordered s log b zero a g h e d = absurd (omega arith)
 ordered s log b (suc n) a g h e d =
     let x : List ℕ = take 512 b in
@@ -82,5 +73,5 @@ ordered s log b (suc n) a g h e d =
     let p : Step (faulty sha256 s x) true v = step (eqb (faulty sha256 s x) 0) true (faulty sha256 s x) 0 v refl e in
     let f : (1 ≤ round x) × (round x ≤ s .«last_round» .0) = form-round s x (sound-form s x (p .sound)) in
     let l : a ≤ round x - 1 = attach-le log x (round x - 1) a d in
-    let w : Whole (frames (suc n) b) = whole-frames (suc n) b h in
+    let w : Whole (frames (suc n) b) = frames-whole (suc n) b h in
     (w .0, omega (arith, f .0), rising s 1 x (frames n (drop 512 b)) (f .1) (p .onward) (w .1))

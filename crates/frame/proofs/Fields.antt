@@ -12,16 +12,13 @@ use borrow.Author.Tests.{ne-eqb, not-true, not-false}
 use Rattle.apollo.specs.Bytes.{part, same}
 use Rattle.apollo.specs.declared.Setup.{Setup}
 use Rattle.apollo.specs.Setup.{replicas, leader}
+use Rattle.apollo.proofs.Tests.{and-no}
 use Rattle.apollo.specs.Frame.{height, parent, digest, linked}
 use Rattle.frame.specs.Ends.{lastFrame}
 
 pub leader-first : (s : Setup) (r : ℕ) → r ≡ 0 → 0 ≡ leader s r
 unfolding leader
 leader-first s r e = sym (ap (λ k. (k - 1) % replicas s) e ∙ zero-mod (replicas s))
-
-and-no : (b : Bool) → b && false ≡ false
-and-no true = refl
-and-no false = refl
 
 -- a height that is one more
 height-next : (a h : ℕ) → (h ≡ 0 → ⊥) → eqb a (h - 1) ≡ eqb (a + 1) h

@@ -8,11 +8,8 @@ use borrow.Author.Tests.{eq-eqb, ne-eqb, le-leb, lt-leb, lt-ltb, le-ltb, not-tru
 use Rattle.apollo.specs.Bytes.{within}
 use Rattle.apollo.specs.declared.Setup.{Setup}
 use Rattle.apollo.specs.Setup.{replicas, leader}
+use Rattle.apollo.proofs.Tests.{and-no}
 use Rattle.apollo.specs.Frame.{kind, signer, entryLength, round, height, blank, blockForm, blameForm}
-
-and-no : (b : Bool) → b && false ≡ false
-and-no true = refl
-and-no false = refl
 
 module _ (s : Setup) (x : List ℕ) where
   pub block-kind : (k : ℕ) → k ≡ kind x → (k ≡ 1 → ⊥) → false ≡ blockForm s x
