@@ -1,10 +1,10 @@
 -- The frames that a replica makes, and the frames at the start of an out buffer. Assumes that a digest has 32 bytes.
-use Prim.Native.Nat.{ℕ, zero, suc, _-_, _*_, _≤_, _<_}
+use Prim.Native.Nat.{ℕ, _-_, _≤_, _<_}
 use mathlib.Core.Path.{_≡_, refl, ap, _∙_}
 use mathlib.Core.List.{List, [], _∷_, _++_, append-assoc, flatten}
 use native.Mathlib.Omega.{arith}
 use lib.ListN.{length, take, drop, length-append, length-take, length-drop}
-use lib.Seq.{drop-at, take-at, length-take-le}
+use lib.Seq.{drop-at, take-at}
 use Rattle.apollo.specs.Bytes.{number4, zeros}
 use Rattle.apollo.specs.Frame.{kind, signer, round, height, parent, digest, frames, sealed, blockHead, blameHead, makeBlock, makeBlame}
 use Rattle.apollo.specs.Log.{genesis}

@@ -1,8 +1,8 @@
 -- The frames of an accepted branch have their slots, and the last is a block. Assumes nothing.
 use mathlib.Core.Path.{_≡_, refl, sym, ap, _∙_}
-use mathlib.Core.Bool.{Bool, true, false, not, cond}
+use mathlib.Core.Bool.{Bool, true, false, cond}
 use mathlib.Core.List.{List, [], _∷_}
-use Prim.Native.Nat.{ℕ, _+_, _-_, _*_, _/_, _≤_}
+use Prim.Native.Nat.{ℕ, _+_, _-_, _*_, _/_}
 use native.Mathlib.Omega.{arith}
 use lib.Dec.{eqb, ltb}
 use lib.ListN.{length, take, drop}
@@ -11,13 +11,13 @@ use Rattle.sha256.specs.Fips.{sha256}
 use Rattle.apollo.specs.declared.Replica.{Replica}
 use Rattle.apollo.specs.declared.Setup.{Setup}
 use Rattle.apollo.specs.Setup.{setupOf}
-use Rattle.apollo.specs.Frame.{round, frames, checked, blockForm, framesOf}
+use Rattle.apollo.specs.Frame.{round, frames, framesOf}
 use Rattle.apollo.specs.Log.{attach}
 use Rattle.apollo.specs.Branch.{Verdict, lastOf, childOf, faulty, judged, judgedAll}
 use Rattle.frame_forms.proofs.Facts.{BlockFields, block-fields}
 use Rattle.log.specs.Slots.{Slotted}
 use Rattle.branch_links.specs.Judged.{judgedFrames}
-use Rattle.branch_links.proofs.Ordered.{Step, sound-form, step}
+use Rattle.branch_links.proofs.Ordered.{sound-form, step}
 use Rattle.branch.specs.declared.Judged.{Judged}
 use Rattle.frame.specs.Ends.{firstFrame, lastFrame}
 use Rattle.branch.specs.Judge.{refusal, judgedAt, judgedWhole, isWhole, judgedBranch}

@@ -5,7 +5,6 @@ use mathlib.Core.Option.{none, some}
 use mathlib.Core.List.{List}
 use Prim.Native.Nat.{ℕ, zero, suc, _-_, _≤_, _<_}
 use native.Mathlib.Omega.{arith}
-use lib.Dec.{eqb}
 use borrow.Author.Tests.{eq-eqb, ne-eqb}
 use Rattle.apollo.specs.Frame.{kind, linked}
 use Rattle.apollo.specs.Log.{genesis, slot, filled, attach}

@@ -6,7 +6,7 @@ use Prim.Native.Nat.{ℕ, zero, suc, _+_, _-_, _*_, _≤_, _<_, min}
 use native.Mathlib.Nat.{sub-zero}
 use native.Mathlib.Omega.{arith}
 use lib.Dec.{eqb, leb, ltb}
-use lib.ListN.{length, take, drop, length-take, length-drop, length-append}
+use lib.ListN.{length, take, drop, length-take, length-append}
 use lib.Seq.{length-take-le, take-append-le, take-take, take-at, drop-at, drop-drop, take-add}
 use borrow.Author.Tests.{eq-eqb, ne-eqb, eqb-true, eqb-false, leb-true, leb-false, lt-ltb, le-ltb}
 use Rattle.apollo.specs.Bytes.{part, same, zeros}
@@ -14,7 +14,7 @@ use Rattle.apollo.specs.Frame.{round, blank}
 use Rattle.apollo.specs.Log.{store, clearAbove}
 use Rattle.apollo.specs.Branch.{storeAll, grown}
 use Rattle.apollo.proofs.Tests.{same-refl}
-use Rattle.apollo.proofs.Slots.{length-zeros, length-store, length-clear}
+use Rattle.apollo.proofs.Slots.{length-store, length-clear}
 use Rattle.log.specs.Slots.{slotPart}
 use Rattle.branch_links.specs.Ordered.{Ordered}
 use Rattle.branch_rounds.specs.Keeps.{keepsFrame, keepsAll}

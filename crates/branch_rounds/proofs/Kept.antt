@@ -3,10 +3,9 @@ use mathlib.Core.Path.{_≡_, sym, _∙_}
 use mathlib.Core.Bool.{Bool, true, false}
 use mathlib.Core.List.{List}
 use Prim.Native.Nat.{ℕ, _+_, _-_, _*_, _≤_, _<_}
-use native.Mathlib.Omega.{arith}
-use lib.ListN.{length, take, drop, length-take, length-drop}
+use lib.ListN.{take, drop}
 use borrow.Author.Tests.{lt-ltb, le-ltb}
-use Rattle.apollo.specs.Bytes.{same, zeros}
+use Rattle.apollo.specs.Bytes.{same}
 use Rattle.apollo.specs.Frame.{round, blank}
 use Rattle.log.specs.Slots.{slotPart}
 use Rattle.branch_rounds.specs.Keeps.{keepsFrame, keepsAll}

@@ -1,6 +1,6 @@
 -- The leader of round 0, the test for a parent, and the last frame. A variable beside x is what the code read there. Assumes nothing.
 use mathlib.Core.Path.{_≡_, refl, sym, ap, _∙_}
-use mathlib.Core.Bool.{Bool, true, false, _&&_, not}
+use mathlib.Core.Bool.{Bool, true, false, not}
 use mathlib.Core.List.{List}
 use Prim.Native.Nat.{ℕ, zero, suc, _+_, _-_, _%_, _<_}
 use native.Mathlib.Nat.{zero-mod}

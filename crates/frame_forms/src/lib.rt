@@ -1,7 +1,6 @@
 // One frame judged in place: its check, and its form as a block or as a blame. Every function takes slices of any length.
 use apollo::Setup;
 ghost use mathlib.Core.Path.{_≡_};
-ghost use Prim.Native.Nat.{_≤_};
 ghost use Rattle.apollo.specs.Bytes as Bytes;
 ghost use Rattle.apollo.specs.Frame as Frame;
 ghost use Rattle.sha256.specs.Fips.{sha256};

@@ -9,7 +9,7 @@ use lib.Dec.{leb, ltb}
 use lib.ListN.{take, drop}
 use borrow.Author.Tests.{eq-eqb, ne-eqb}
 use Rattle.apollo.specs.Frame.{kind, height, entryLength}
-use Rattle.apollo.specs.Log.{slot, filled}
+use Rattle.apollo.specs.Log.{slot}
 use Rattle.apollo.specs.Read.{readable, lowest}
 use Rattle.log.specs.Slots.{slotPart}
 use Rattle.log.proofs.Search.{slot-is}

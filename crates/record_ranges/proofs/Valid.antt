@@ -1,5 +1,5 @@
 -- The definitions that the code's tests make. Assumes nothing.
-use mathlib.Core.Path.{_≡_, refl, ap, _∙_}
+use mathlib.Core.Path.{_≡_, refl}
 use mathlib.Core.Bool.{Bool, true, false, _&&_, not}
 use mathlib.Core.List.{List}
 use Prim.Native.Nat.{ℕ}
