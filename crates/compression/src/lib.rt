@@ -187,7 +187,9 @@ fn plus(s: State, v: State) -> State
 // Word t of the schedule, for t below 16: it is read from the block.
 fn load(w: &mut [u32; 16], b: &[u8], t: usize) -> u32
     requires { ⌜ (t < 16) × (length (now b) ≡ 64) ⌝ }
-    ensures { λ r. ⌜ (Window (Fips.schedule (now (b .entry)) 64) (now (w .entry)) t → (r ≡ getD (Fips.schedule (now (b .entry)) 64) t 0) × Window (Fips.schedule (now (b .entry)) 64) (now (w .exit)) (t + 1)) ⌝ }
+    ensures { λ r. ⌜ (Window (Fips.schedule (now (b .entry)) 64) (now (w .entry)) t
+        → (r ≡ getD (Fips.schedule (now (b .entry)) 64) t 0)
+        × Window (Fips.schedule (now (b .entry)) 64) (now (w .exit)) (t + 1)) ⌝ }
 {
     let x = word_at(b, 4 * t);
     w[t] = x;
@@ -197,7 +199,9 @@ fn load(w: &mut [u32; 16], b: &[u8], t: usize) -> u32
 // A word t of the schedule from 16 on, with i = t % 16: it takes the place of word t - 16.
 fn extend(w: &mut [u32; 16], i: usize) -> u32
     requires { ⌜ i < 16 ⌝ }
-    ensures { λ r. ⌜ ((b : List ℕ) (t : ℕ) → 16 ≤ t → t < 64 → t % 16 ≡ i → Window (Fips.schedule b 64) (now (w .entry)) t → (r ≡ getD (Fips.schedule b 64) t 0) × Window (Fips.schedule b 64) (now (w .exit)) (t + 1)) ⌝ }
+    ensures { λ r. ⌜ ((b : List ℕ) (t : ℕ) → 16 ≤ t → t < 64 → t % 16 ≡ i
+        → Window (Fips.schedule b 64) (now (w .entry)) t
+        → (r ≡ getD (Fips.schedule b 64) t 0) × Window (Fips.schedule b 64) (now (w .exit)) (t + 1)) ⌝ }
 {
     let x = add(
         add(
@@ -213,7 +217,8 @@ fn extend(w: &mut [u32; 16], i: usize) -> u32
 // Round t, for t below 16.
 fn load_round(s: State, k: &[u32; 64], w: &mut [u32; 16], b: &[u8], t: usize) -> State
     requires { ⌜ (now k ≡ Fips.K) × (t < 16) × (length (now b) ≡ 64) ⌝ }
-    ensures { λ r. ⌜ ((h : State) → Turned h (Fips.schedule (now (b .entry)) 64) t s (now (w .entry)) → Turned h (Fips.schedule (now (b .entry)) 64) (t + 1) r (now (w .exit))) ⌝ }
+    ensures { λ r. ⌜ ((h : State) → Turned h (Fips.schedule (now (b .entry)) 64) t s (now (w .entry))
+        → Turned h (Fips.schedule (now (b .entry)) 64) (t + 1) r (now (w .exit))) ⌝ }
 {
     let x = load(w, b, t);
     round(s, k[t], x)
@@ -222,7 +227,8 @@ fn load_round(s: State, k: &[u32; 64], w: &mut [u32; 16], b: &[u8], t: usize) ->
 // Round t + i, for t from 16 on.
 fn extend_round(s: State, k: &[u32; 64], w: &mut [u32; 16], t: usize, i: usize) -> State
     requires { ⌜ (now k ≡ Fips.K) × (16 ≤ t) × (t + 16 ≤ 64) × (t % 16 ≡ 0) × (i < 16) ⌝ }
-    ensures { λ r. ⌜ ((h : State) (b : List ℕ) → Turned h (Fips.schedule b 64) (t + i) s (now (w .entry)) → Turned h (Fips.schedule b 64) (t + (i + 1)) r (now (w .exit))) ⌝ }
+    ensures { λ r. ⌜ ((h : State) (b : List ℕ) → Turned h (Fips.schedule b 64) (t + i) s (now (w .entry))
+        → Turned h (Fips.schedule b 64) (t + (i + 1)) r (now (w .exit))) ⌝ }
 {
     let x = extend(w, i);
     round(s, k[t + i], x)
@@ -254,7 +260,8 @@ fn first_rounds(s: State, k: &[u32; 64], w: &mut [u32; 16], b: &[u8]) -> State
 // The sixteen rounds from t on.
 fn next_rounds(s: State, k: &[u32; 64], w: &mut [u32; 16], t: usize) -> State
     requires { ⌜ (now k ≡ Fips.K) × (16 ≤ t) × (t + 16 ≤ 64) × (t % 16 ≡ 0) ⌝ }
-    ensures { λ r. ⌜ ((h : State) (b : List ℕ) → Turned h (Fips.schedule b 64) t s (now (w .entry)) → Turned h (Fips.schedule b 64) (t + 16) r (now (w .exit))) ⌝ }
+    ensures { λ r. ⌜ ((h : State) (b : List ℕ) → Turned h (Fips.schedule b 64) t s (now (w .entry))
+        → Turned h (Fips.schedule b 64) (t + 16) r (now (w .exit))) ⌝ }
 {
     let mut v = extend_round(s, k, w, t, 0);
     v = extend_round(v, k, w, t, 1);

@@ -73,7 +73,8 @@ fn blame_start(id: u8, round: u32) -> [u8; 8]
 // Writes the block that replica `id` makes to the front of out.
 pub fn put_block(out: &mut [u8], id: u8, round: u32, height: u32, parent: &[u8], entry: &[u8])
     requires { ⌜ (512 ≤ length (now out)) × (length (now parent) ≡ 32) × (length (now entry) ≤ 400) ⌝ }
-    ensures { λ _. ⌜ now (out .exit) ≡ Frame.makeBlock sha256 id round height (now (parent .entry)) (now (entry .entry)) ++ drop 512 (now (out .entry)) ⌝ }
+    ensures { λ _. ⌜ now (out .exit)
+        ≡ Frame.makeBlock sha256 id round height (now (parent .entry)) (now (entry .entry)) ++ drop 512 (now (out .entry)) ⌝ }
 {
     let n = entry.len();
     let start = block_start(id, n, round, height);

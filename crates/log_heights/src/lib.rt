@@ -57,7 +57,9 @@ fn is_tall(log: &[u8], h: u32, r: u32) -> bool
 fn fetch_slot(log: &[u8], h: u32, r: u32, out: &mut [u8], k: u32) -> u32
     requires { ⌜ (0 < r) × (512 * r ≤ length (now log)) × (k < r) × (512 * (k + 1) ≤ length (now out)) ⌝ }
     ensures { λ q. ⌜ (q ≡ cond (isTall (now (log .entry)) h r) (k + 1) k) × (q ≤ k + 1) ⌝ }
-    ensures { λ _. ⌜ now (out .exit) ≡ cond (isTall (now (log .entry)) h r) (Log.store (now (out .entry)) (k + 1) (Log.slot (now (log .entry)) r)) (now (out .entry)) ⌝ }
+    ensures { λ _. ⌜ now (out .exit)
+        ≡ cond (isTall (now (log .entry)) h r) (Log.store (now (out .entry)) (k + 1) (Log.slot (now (log .entry)) r))
+        (now (out .entry)) ⌝ }
 {
     if !is_tall(log, h, r) {
         return k;
