@@ -21,9 +21,10 @@ use Rattle.apollo.specs.Replica.{fresh, leads, validSetup, withCommitted
 use Rattle.apollo.specs.Enter.{State, Effect, commitLimit, commit, tipped, waiting, hearing, holding, ownBlock, proposing, enterRound, settle}
 use Rattle.apollo.specs.Outcome.{taken}
 use Rattle.apollo.specs.Branch.{lastOf, firstUncertified, storeAll, grown, adopting, placed}
-use Rattle.apollo.specs.Blame.{heard, blameWith}
+use Rattle.apollo.specs.Single.{oneBlame}
 use Rattle.apollo.specs.Calls.{openCall, branchCall, blameCall}
 use Rattle.apollo.specs.BenchSheet.{after, Callable, block, blocks}
+use Rattle.apollo.proofs.Single.{blame-one}
 use Rattle.apollo.proofs.Tests.{both, cond-true, cond-false, same-of}
 use Rattle.apollo.proofs.Validity.{valid-of}
 use Rattle.apollo.proofs.Slots.{length-zeros, length-store, store-same, store-other, length-clear, clear-low, take-slots}
@@ -381,10 +382,11 @@ module _ (s : State) (id n : ℕ) (masks : List ℕ) (made : Made s id n masks) 
         rw e refl
 
     heard-y : blameCall here y [] out ≡ taken (record { state = hearing here r j; emitted = [] }) out
-    unfolding blameWith heard
+    unfolding oneBlame
     heard-y =
         let e : round y ≡ r = at-y in
-        passes here-callable [] (omega arith) _ ∙ cond-true _ _ (eq-eqb (length y) 512 (blame-length j r))
+        blame-one here y [] out ∙ passes here-callable [] (omega arith) _
+        ∙ cond-false _ _ (ap not (eq-eqb (length y) 512 (blame-length j r)))
         ∙ cond-false _ _ (ap not (blame-checked j r))
         ∙ cond-false _ _ (ap not (blame-form (setup 1 6) j r signs one (omega arith) (omega arith)))
         ∙ cond-false _ _ (le-ltb (n + 1) (round y) (omega arith))

@@ -1,27 +1,31 @@
 -- Items 6 and 7 of the bench sheet: stale branches, and the length of the entry. Assumes nothing.
-use Prim.Native.Nat.{ℕ, _+_, _-_, _*_, _/_, _%_, _≤_}
+use Prim.Native.Nat.{ℕ, _+_, _-_, _*_, _/_, _≤_}
 use mathlib.Core.Path.{_≡_, ap}
 use mathlib.Core.List.{List, [], _∷_, flatten}
 use mathlib.Core.Option.{Option, none, some}
-use mathlib.Core.Bool.{true, _&&_, not}
+use mathlib.Core.Bool.{true, not}
 use native.Mathlib.Omega.{arith}
 use lib.ListN.{length, take}
 use lib.Dec.{eqb, ltb}
 use Rattle.sha256.specs.Fips.{sha256}
-use Rattle.apollo.specs.Bytes.{same, within}
+use Rattle.apollo.specs.Bytes.{same}
 use Rattle.apollo.specs.declared.Setup.{Setup}
 use Rattle.apollo.specs.Setup.{setupOf}
-use Rattle.apollo.specs.Frame.{signer, round, frames, blockForm, blameForm, checked}
+use Rattle.apollo.specs.Frame.{signer, round, frames, wholeFrames, blockForm, blameForm, checked}
 use Rattle.apollo.specs.Log.{attach}
 use Rattle.apollo.specs.Masks.{bit, mask}
 use Rattle.apollo.specs.Enter.{State}
+use Rattle.apollo.specs.declared.Verdict.{Verdict}
+use Rattle.apollo.specs.Judging.{fault}
 use Rattle.apollo.specs.Outcome.{refused, taken}
-use Rattle.apollo.specs.Branch.{lastOf, childOf, Verdict, firstUncertified, grown, faulty, judged, judgedAll, placed, branched, branchWith}
-use Rattle.apollo.specs.Blame.{heard, blameWith}
+use Rattle.apollo.specs.Branch.{lastOf, childOf, firstUncertified, grown, faulty, judged, judgedAll, placed, branched, branchWith}
+use Rattle.apollo.specs.Blame.{handing}
 use Rattle.apollo.specs.Tick.{tickWith}
 use Rattle.apollo.specs.Calls.{branchCall, blameCall, tickCall}
+use Rattle.apollo.specs.Single.{oneBlame}
 use Rattle.apollo.specs.BenchSheet.{Callable, blocks, number}
 use Rattle.apollo.proofs.Tests.{by-cond}
+use Rattle.apollo.proofs.Single.{blame-one}
 use Rattle.apollo.proofs.Judging.{passes, too-long, stale-branch, fresh-branch}
 
 -- after 10 a branch is answered 0, 11, 12 or 13
@@ -51,7 +55,7 @@ module _ {s : State} {out : List ℕ} (c : Callable s out) (entry : List ℕ) (l
 -- the frames of a branch are answered 0, 7, 8 or 9
 module _ (P : ℕ → Type 0) (p0 : P 0) (p7 : P 7) (p8 : P 8) (p9 : P 9) (s : Setup) where
   faulty-number : (x : List ℕ) → P (faulty sha256 s x)
-  unfolding faulty
+  unfolding fault
   faulty-number x =
       by-cond P (not (checked sha256 x)) (λ _. p7) (λ _. by-cond P (not (blockForm s x)) (λ _. p8) (λ _. p0))
 
@@ -75,20 +79,21 @@ branched-not-5 : (entry out : List ℕ) (s : State) (xs : List (List ℕ)) → N
 unfolding branched refused Not5
 branched-not-5 entry out s [] = λ e. omega arith
 branched-not-5 entry out s (x ∷ xs) =
-    let verdict : Verdict = judgedAll sha256 (setupOf (s .replica)) x xs in
-    by-cond (λ o. Not5 (number o)) (eqb (verdict .number) 0)
+    let all : Verdict = judgedAll sha256 (setupOf (s .replica)) x xs in
+    by-cond (λ o. Not5 (number o)) (eqb (all .number) 0)
     (λ _. by-cond (λ o. Not5 (number o)) (ltb (round (lastOf x xs)) (s .replica .round .0)) (λ _ e. omega arith)
     (λ _. placed-number Not5 (λ e. omega arith) (λ e. omega arith) (λ e. omega arith) (λ e. omega arith) entry out s x xs
     (attach (s .log) x (round x - 1))))
     (λ _. all-number Not5 (λ e. omega arith) (λ e. omega arith) (λ e. omega arith) (λ e. omega arith) (setupOf (s .replica)) x xs)
 
-heard-not-5 : (entry out : List ℕ) (s : State) (x : List ℕ) → Not5 (number (heard sha256 entry out s x))
-unfolding heard refused taken Not5
-heard-not-5 entry out s x =
-    by-cond (λ o. Not5 (number o)) (not (checked sha256 x)) (λ _ e. omega arith)
+one-not-5 : (s : State) (x entry out : List ℕ) → Not5 (number (oneBlame s x entry out))
+unfolding oneBlame refused taken Not5
+one-not-5 s x entry out =
+    by-cond (λ o. Not5 (number o)) (not (eqb (length x) 512)) (λ _ e. omega arith)
+    (λ _. by-cond (λ o. Not5 (number o)) (not (checked sha256 x)) (λ _ e. omega arith)
     (λ _. by-cond (λ o. Not5 (number o)) (not (blameForm (setupOf (s .replica)) x)) (λ _ e. omega arith)
     (λ _. by-cond (λ o. Not5 (number o)) (ltb (s .replica .round .0) (round x)) (λ _ e. omega arith)
-    (λ _. by-cond (λ o. Not5 (number o)) (bit (signer x) (mask (s .masks) (round x))) (λ _ e. omega arith) (λ _ e. omega arith))))
+    (λ _. by-cond (λ o. Not5 (number o)) (bit (signer x) (mask (s .masks) (round x))) (λ _ e. omega arith) (λ _ e. omega arith)))))
 
 module _ {s : State} {out : List ℕ} (c : Callable s out) (bytes entry : List ℕ) where
   module _ (l : length entry ≡ 400) where
@@ -96,15 +101,12 @@ module _ {s : State} {out : List ℕ} (c : Callable s out) (bytes entry : List �
     unfolding branchWith refused Not5
     branch-400 =
         rw (passes c entry (omega arith) _)
-        (by-cond (λ o. Not5 (number o))
-        (eqb (length bytes % 512) 0 && within 1 (length bytes / 512) (s .replica .«last_round» .0))
+        (by-cond (λ o. Not5 (number o)) (wholeFrames (s .replica .«last_round» .0) bytes)
         (λ _. branched-not-5 entry out s (frames (length bytes / 512) bytes)) (λ _ e. omega arith))
 
     pub blame-400 : ¬ (number (blameCall s bytes entry out) ≡ 5)
-    unfolding blameWith refused Not5
-    blame-400 =
-        rw (passes c entry (omega arith) _)
-        (by-cond (λ o. Not5 (number o)) (eqb (length bytes) 512) (λ _. heard-not-5 entry out s bytes) (λ _ e. omega arith))
+    unfolding Not5
+    blame-400 = rw (blame-one s bytes entry out, passes c entry (omega arith) _) (one-not-5 s bytes entry out)
 
     pub tick-400 : number (tickCall s entry out) ≡ 0
     unfolding tickWith taken
@@ -116,7 +118,7 @@ module _ {s : State} {out : List ℕ} (c : Callable s out) (bytes entry : List �
     branch-401 = ap number (too-long c entry (omega arith) _)
 
     pub blame-401 : number (blameCall s bytes entry out) ≡ 5
-    unfolding blameWith refused
+    unfolding handing refused
     blame-401 = ap number (too-long c entry (omega arith) _)
 
     pub tick-401 : number (tickCall s entry out) ≡ 5

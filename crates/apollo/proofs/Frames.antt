@@ -1,11 +1,16 @@
 -- Frames of 512 bytes each. Assumes nothing.
-use Prim.Native.Nat.{ℕ, zero, suc, _*_, _≤_}
-use mathlib.Core.Path.{_≡_}
+use Prim.Native.Nat.{ℕ, zero, suc, _*_, _/_, _%_, _≤_}
+use mathlib.Core.Path.{_≡_, refl, ap, _∙_}
 use mathlib.Core.List.{List, [], _∷_}
+use mathlib.Core.Bool.{true}
 use native.Mathlib.Omega.{arith}
 use lib.ListN.{length, drop, length-drop}
-use lib.Seq.{length-take-le}
-use Rattle.apollo.specs.Frame.{frames}
+use lib.Seq.{length-take-le, take-all}
+use lib.Dec.{eqb}
+use borrow.Author.Tests.{eqb-true, eq-eqb}
+use Rattle.apollo.specs.Bytes.{within}
+use Rattle.apollo.specs.Frame.{frames, framesOf, wholeFrames}
+use Rattle.apollo.proofs.Tests.{and-true, both, within-true, within-of}
 
 -- every frame has 512 bytes
 abbrev pub Whole : List (List ℕ) → Type 0
@@ -16,3 +21,33 @@ pub frames-whole : (n : ℕ) (bytes : List ℕ) → 512 * n ≤ length bytes →
 unfolding frames
 frames-whole zero bytes l = tt
 frames-whole (suc n) bytes l = (length-take-le 512 bytes (omega arith), frames-whole n (drop 512 bytes) (simp length-drop (omega arith)))
+
+-- 1 to `most` whole frames, of its test, and back
+pub record WholeFrames (most : ℕ) (bytes : List ℕ) : Type 0 where
+  pub even : length bytes % 512 ≡ 0
+  pub some : 1 ≤ length bytes / 512
+  pub few : length bytes / 512 ≤ most
+
+pub whole-true : (most : ℕ) (bytes : List ℕ) → wholeFrames most bytes ≡ true → WholeFrames most bytes
+unfolding wholeFrames
+whole-true most bytes e =
+    let p = and-true (eqb (length bytes % 512) 0) (within 1 (length bytes / 512) most) e in
+    let q = within-true 1 (length bytes / 512) most (p .1) in
+    record { even = eqb-true (length bytes % 512) 0 (p .0); some = q .0; few = q .1 }
+
+pub whole-of : (most : ℕ) (bytes : List ℕ) → WholeFrames most bytes → wholeFrames most bytes ≡ true
+unfolding wholeFrames
+whole-of most bytes w =
+    both (eqb (length bytes % 512) 0) (within 1 (length bytes / 512) most) (eq-eqb (length bytes % 512) 0 (w .even))
+    (within-of 1 (length bytes / 512) most (w .some) (w .few))
+
+-- one frame
+pub whole-one : (most : ℕ) (x : List ℕ) → 1 ≤ most → length x ≡ 512 → wholeFrames most x ≡ true
+whole-one most x one l =
+    whole-of most x (record { even = ap (λ n. n % 512) l; some = omega arith; few = omega arith })
+
+pub frames-one : (x : List ℕ) → length x ≡ 512 → framesOf x ≡ x ∷ []
+unfolding frames
+frames-one x l =
+    let one : length x / 512 ≡ 1 = omega arith in
+    ap (λ n. frames n x) one ∙ ap (λ y. y ∷ []) (take-all 512 x (omega arith))

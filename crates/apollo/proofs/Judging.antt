@@ -11,17 +11,19 @@ use lib.Seq.{drop-at, take-at}
 use lib.Dec.{eqb, ltb}
 use borrow.Author.Tests.{lt-ltb, le-ltb, eqb-true, eqb-false, eq-eqb, ne-eqb}
 use Rattle.sha256.specs.Fips.{sha256}
-use Rattle.apollo.specs.Bytes.{within}
 use Rattle.apollo.specs.declared.Setup.{Setup}
 use Rattle.apollo.specs.Setup.{setupOf}
 use Rattle.apollo.specs.Frame.{round, frames, blockForm, linked, checked}
 use Rattle.apollo.specs.Log.{slot, filled, attach}
 use Rattle.apollo.specs.Replica.{validReplica, validMasks}
 use Rattle.apollo.specs.Enter.{State}
+use Rattle.apollo.specs.declared.Verdict.{Verdict}
+use Rattle.apollo.specs.Judging.{noRefusal, fault}
 use Rattle.apollo.specs.Outcome.{Outcome, refused, guarded}
-use Rattle.apollo.specs.Branch.{lastOf, childOf, Verdict, faulty, judged, judgedAll, placed, branched, branchWith}
+use Rattle.apollo.specs.Branch.{lastOf, childOf, faulty, judged, judgedAll, placed, branched, branchWith}
 use Rattle.apollo.specs.BenchSheet.{Callable, ParentIn, block, blocks}
-use Rattle.apollo.proofs.Tests.{and-true, both, cond-true, cond-false, within-of}
+use Rattle.apollo.proofs.Tests.{and-true, both, cond-true, cond-false}
+use Rattle.apollo.proofs.Frames.{whole-of}
 
 module _ {s : State} {out : List ℕ} (c : Callable s out) (entry : List ℕ) where
   before-entry : (o : Outcome)
@@ -49,7 +51,7 @@ unfolding block
 block-length s x e = eqb-true (length x) 512 (and-true (eqb (length x) 512) (checked sha256 x && blockForm s x) e .0)
 
 faultless : (s : Setup) (x : List ℕ) → block s x ≡ true → faulty sha256 s x ≡ 0
-unfolding block faulty
+unfolding block fault
 faultless s x e =
     let p = and-true (eqb (length x) 512) (checked sha256 x && blockForm s x) e in
     let q = and-true (checked sha256 x) (blockForm s x) (p .1) in
@@ -61,7 +63,7 @@ blocks-head s x [] e = e
 blocks-head s x (y ∷ ys) e = and-true (block s x) (childOf x y && blocks s y ys) e .0
 
 judged-blocks : (s : Setup) (k : ℕ) (x : List ℕ) (xs : List (List ℕ)) → blocks s x xs ≡ true
-    → judged sha256 s k x xs ≡ record { number = 0; place = 0 }
+    → judged sha256 s k x xs ≡ noRefusal
 unfolding blocks judged
 judged-blocks s k x [] e = refl
 judged-blocks s k x (y ∷ ys) e =
@@ -71,7 +73,7 @@ judged-blocks s k x (y ∷ ys) e =
     ∙ judged-blocks s (k + 1) y ys (q .1)
 
 judged-whole : (s : Setup) (x : List ℕ) (xs : List (List ℕ)) → blocks s x xs ≡ true
-    → judgedAll sha256 s x xs ≡ record { number = 0; place = 0 }
+    → judgedAll sha256 s x xs ≡ noRefusal
 unfolding judgedAll
 judged-whole s x xs e =
     cond-true _ _ (eq-eqb (faulty sha256 s x) 0 (faultless s x (blocks-head s x xs e))) ∙ judged-blocks s 1 x xs e
@@ -119,8 +121,7 @@ module _ {s : State} {out : List ℕ} (c : Callable s out) (entry : List ℕ) (l
       let n : length b / 512 ≡ k = omega arith in
       let rest : length b % 512 ≡ 0 = omega arith in
       passes c entry l _
-      ∙ cond-true _ _ (both (eqb (length b % 512) 0) (within 1 (length b / 512) T) (eq-eqb (length b % 512) 0 rest)
-      (within-of 1 (length b / 512) T (omega arith) (omega arith)))
+      ∙ cond-true _ _ (whole-of T b (record { even = rest; some = omega arith; few = omega arith }))
       ∙ ap (branched sha256 entry out s) (ap (λ i. frames i b) n ∙ branch-frames (setupOf (s .replica)) x xs good)
 
   verdict : eqb (judgedAll sha256 (setupOf (s .replica)) x xs .number) 0 ≡ true

@@ -2,6 +2,8 @@ pub mod Masks
 pub mod Tests
 pub mod Validity
 pub mod Slots
+pub mod Frames
+pub mod Single
 pub mod Judging
 pub mod Made
 pub mod BenchCommit
@@ -12,4 +14,3 @@ pub mod BenchBranches
 pub mod BenchSheet
 pub mod BenchMade
 pub mod BenchWitness
-pub mod Frames

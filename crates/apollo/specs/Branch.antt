@@ -1,19 +1,21 @@
 -- Document 01, "Hand in a branch".
-use Prim.Native.Nat.{ℕ, _+_, _-_, _*_, _/_, _%_}
+use Prim.Native.Nat.{ℕ, _+_, _-_, _*_}
 use mathlib.Core.List.{List, [], _∷_}
 use mathlib.Core.Option.{Option, none, some}
-use mathlib.Core.Bool.{Bool, _&&_, not, cond}
-use lib.ListN.{length, take}
+use mathlib.Core.Bool.{Bool, _&&_, cond}
+use lib.ListN.{take}
 use lib.Dec.{eqb, ltb}
-use Rattle.apollo.specs.Bytes.{same, within}
+use Rattle.apollo.specs.Bytes.{same}
 use Rattle.apollo.specs.declared.Setup.{Setup}
+use Rattle.apollo.specs.declared.Verdict.{Verdict}
 use Rattle.apollo.specs.Setup.{setupOf}
-use Rattle.apollo.specs.Frame.{round, height, framesOf, blockForm, linked, checked}
+use Rattle.apollo.specs.Frame.{round, height, framesOf, wholeFrames, blockForm, linked}
 use Rattle.apollo.specs.Log.{store, clearAbove, attach}
 use Rattle.apollo.specs.Masks.{gap}
 use Rattle.apollo.specs.Enter.{State, Effect, holding, enterRound}
+use Rattle.apollo.specs.Judging.{verdict, noRefusal, fault}
 use Rattle.apollo.specs.Outcome.{Outcome, refused, taken, guarded}
-use Rattle.apollo.specs.Refusal.{badLength, badDigest, badForm, notChild, stale, unattached, revertsCommitted, notCertified}
+use Rattle.apollo.specs.Refusal.{badLength, notChild, stale, unattached, revertsCommitted, notCertified}
 
 -- the last frame of a branch of x and the frames after it
 unfoldable pub lastOf : (x : List ℕ) (xs : List (List ℕ)) → List ℕ
@@ -40,26 +42,21 @@ storeAll log (x ∷ xs) = storeAll (store log (round x) x) xs
 unfoldable pub grown : (log : List ℕ) (a : ℕ) → List (List ℕ) → List ℕ
 grown log a xs = storeAll (clearAbove log a) xs
 
--- number and place of a refusal, 0 and 0 if there is none
-pub record Verdict : Type 0 where
-  pub number : ℕ
-  pub place : ℕ
-
 module _ (hash : List ℕ → List ℕ) where
   -- 7 and 8 of one frame
-  unfoldable pub faulty : Setup → List ℕ → ℕ
-  faulty s x = cond (not (checked hash x)) badDigest (cond (not (blockForm s x)) badForm 0)
+  abbrev pub faulty : Setup → List ℕ → ℕ
+  faulty s = fault hash (blockForm s)
 
   -- 7, 8 and 9 of the frames after x, from index k on
   unfoldable pub judged : Setup → (k : ℕ) (x : List ℕ) → List (List ℕ) → Verdict
-  judged s k x [] = record { number = 0; place = 0 }
+  judged s k x [] = noRefusal
   judged s k x (y ∷ ys) =
-      cond (eqb (faulty s y) 0) (cond (childOf x y) (judged s (k + 1) y ys) (record { number = notChild; place = k }))
-      (record { number = faulty s y; place = k })
+      cond (eqb (faulty s y) 0) (cond (childOf x y) (judged s (k + 1) y ys) (verdict notChild k))
+      (verdict (faulty s y) k)
 
   -- 7, 8 and 9 of all frames
   unfoldable pub judgedAll : Setup → (x : List ℕ) (xs : List (List ℕ)) → Verdict
-  judgedAll s x xs = cond (eqb (faulty s x) 0) (judged s 1 x xs) (record { number = faulty s x; place = 0 })
+  judgedAll s x xs = cond (eqb (faulty s x) 0) (judged s 1 x xs) (verdict (faulty s x) 0)
 
   -- the branch is taken on round a
   unfoldable pub adopting : (entry : List ℕ) → State → (a : ℕ) (x : List ℕ) (xs : List (List ℕ)) → Effect
@@ -80,15 +77,15 @@ module _ (hash : List ℕ → List ℕ) where
   unfoldable pub branched : (entry out : List ℕ) → State → List (List ℕ) → Outcome
   branched entry out s [] = refused s out badLength 0
   branched entry out s (x ∷ xs) =
-      let verdict : Verdict = judgedAll (setupOf (s .replica)) x xs in
-      cond (eqb (verdict .number) 0)
+      let all : Verdict = judgedAll (setupOf (s .replica)) x xs in
+      cond (eqb (all .number) 0)
       (cond (ltb (round (lastOf x xs)) (s .replica .round .0)) (refused s out stale 0)
       (placed entry out s x xs (attach (s .log) x (round x - 1))))
-      (refused s out (verdict .number) (verdict .place))
+      (refused s out (all .number) (all .place))
 
   -- hand in a branch
   unfoldable pub branchWith : State → (bytes entry out : List ℕ) → Outcome
   branchWith s bytes entry out =
       guarded s entry out
-      (cond (eqb (length bytes % 512) 0 && within 1 (length bytes / 512) (s .replica .«last_round» .0))
-      (branched entry out s (framesOf bytes)) (refused s out badLength 0))
+      (cond (wholeFrames (s .replica .«last_round» .0) bytes) (branched entry out s (framesOf bytes))
+      (refused s out badLength 0))

@@ -1,4 +1,4 @@
--- Document 01, "A card": the six calls, with SHA-256 for the names ("Names").
+-- Document 01, "A card": the calls, with SHA-256 for the names ("Names").
 use Prim.Native.Nat.{ℕ}
 use mathlib.Core.List.{List}
 use Rattle.sha256.specs.Fips.{sha256}
@@ -6,7 +6,7 @@ use Rattle.apollo.specs.Enter.{State}
 use Rattle.apollo.specs.Outcome.{Outcome}
 use Rattle.apollo.specs.Open.{openWith}
 use Rattle.apollo.specs.Branch.{branchWith}
-use Rattle.apollo.specs.Blame.{blameWith}
+use Rattle.apollo.specs.Blame.{blameWith, blamesWith}
 use Rattle.apollo.specs.Tick.{tickWith}
 pub use Rattle.apollo.specs.Enter.{state}
 pub use Rattle.apollo.specs.Outcome.{outcome}
@@ -21,6 +21,10 @@ branchCall = branchWith sha256
 
 abbrev pub blameCall : State → (bytes entry out : List ℕ) → Outcome
 blameCall = blameWith sha256
+
+-- document 02, F-1
+abbrev pub blamesCall : State → (bytes entry out : List ℕ) → Outcome
+blamesCall = blamesWith sha256
 
 abbrev pub tickCall : State → (entry out : List ℕ) → Outcome
 tickCall = tickWith sha256

@@ -1,5 +1,5 @@
 -- Document 01, "Names" and "Frames": the fields of a frame, the form of a block and of a blame, the check, and the frames made.
-use Prim.Native.Nat.{ℕ, zero, suc, _+_, _-_, _/_}
+use Prim.Native.Nat.{ℕ, zero, suc, _+_, _-_, _/_, _%_}
 use mathlib.Core.List.{List, [], _∷_, _++_}
 use mathlib.Core.Bool.{Bool, _&&_}
 use lib.ListN.{length, take, drop, getD}
@@ -40,6 +40,10 @@ frames (suc n) xs = take 512 xs ∷ frames n (drop 512 xs)
 -- all whole frames of some bytes
 abbrev pub framesOf : (bytes : List ℕ) → List (List ℕ)
 framesOf bytes = frames (length bytes / 512) bytes
+
+-- 1 to `most` whole frames
+unfoldable pub wholeFrames : (most : ℕ) (bytes : List ℕ) → Bool
+wholeFrames most bytes = eqb (length bytes % 512) 0 && within 1 (length bytes / 512) most
 
 -- the bytes from `start` up to, not including, `end` are zero
 abbrev pub blank : List ℕ → (start end : ℕ) → Bool

@@ -6,6 +6,7 @@ pub mod Masks
 pub mod Replica
 pub mod Enter
 pub mod Refusal
+pub mod Judging
 pub mod Outcome
 pub mod Open
 pub mod Branch
@@ -14,4 +15,5 @@ pub mod Tick
 pub mod Read
 pub mod Fetch
 pub mod Calls
+pub mod Single
 pub mod BenchSheet

@@ -1,4 +1,4 @@
--- Document 01, "Refusals by number", with its trade words.
+-- Document 01, "Refusals by number", with its trade words; from 16 on document 02, which has none.
 use Prim.Native.Nat.{ℕ}
 
 abbrev pub badSetup : ℕ
@@ -45,3 +45,6 @@ early = 14  -- early
 
 abbrev pub absent : ℕ
 absent = 15  -- absent
+
+abbrev pub notASet : ℕ
+notASet = 16  -- blames of two rounds, or of one signer twice

@@ -20,6 +20,12 @@ pub struct Setup {
     pub last_round: Round, // T
 }
 
+// What refuses frames that are handed in, and its place; 0 and 0 if nothing does.
+pub struct Verdict {
+    pub number: u8,
+    pub place: u32,
+}
+
 // What a replica keeps between calls (record), beside the log (book) and the blame masks.
 #[repr(C)]
 pub struct Replica {
@@ -35,7 +41,7 @@ pub struct Replica {
     pub committed_height: Height,
 }
 
-// The answer of open, branch, blame and tick (results).
+// The answer of open, branch, blame, blames and tick (results).
 #[repr(C)]
 pub struct Answer {
     pub number: u8, // 0 taken, else the refusal

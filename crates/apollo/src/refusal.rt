@@ -1,4 +1,4 @@
-// The refusals by number, with document 01's trade words. The definitions and the header have the same names.
+// The refusals by number, with document 01's trade words; document 02 has none. The definitions and the header have the same names.
 pub const BAD_SETUP: u8 = 1; // set-up
 
 pub const BAD_REPLICA: u8 = 2; // record
@@ -28,3 +28,5 @@ pub const NOT_CERTIFIED: u8 = 13; // unshown
 pub const EARLY: u8 = 14; // early
 
 pub const ABSENT: u8 = 15; // absent
+
+pub const NOT_A_SET: u8 = 16; // blames of two rounds, or of one signer twice
