@@ -1,10 +1,10 @@
 -- Frames of 512 bytes each. Assumes nothing.
-use Prim.Native.Nat.{ℕ, zero, suc, _*_, _/_, _%_, _≤_}
+use Prim.Native.Nat.{ℕ, zero, suc, _-_, _*_, _/_, _%_, _≤_, _<_}
 use mathlib.Core.Path.{_≡_, refl, ap, _∙_}
 use mathlib.Core.List.{List, [], _∷_}
 use mathlib.Core.Bool.{true}
 use native.Mathlib.Omega.{arith}
-use lib.ListN.{length, drop, length-drop}
+use lib.ListN.{length, take, drop, length-drop}
 use lib.Seq.{length-take-le, take-all}
 use lib.Dec.{eqb}
 use borrow.Author.Tests.{eqb-true, eq-eqb}
@@ -40,6 +40,18 @@ unfolding wholeFrames
 whole-of most bytes w =
     both (eqb (length bytes % 512) 0) (within 1 (length bytes / 512) most) (eq-eqb (length bytes % 512) 0 (w .even))
     (within-of 1 (length bytes / 512) most (w .some) (w .few))
+
+pub whole-fits : (most : ℕ) (bytes : List ℕ) → wholeFrames most bytes ≡ true → length bytes ≤ 512 * most
+whole-fits most bytes e =
+    let w : WholeFrames most bytes = whole-true most bytes e in
+    omega (arith, w .even, w .few)
+
+-- the first frame, and the others
+pub frames-split : (n : ℕ) (b : List ℕ) → 0 < n → frames n b ≡ take 512 b ∷ frames (n - 1) (drop 512 b)
+unfolding frames
+frames-split n b h =
+    let q : n ≡ suc (n - 1) = omega arith in
+    ap (λ (m : ℕ). frames m b) q
 
 -- one frame
 pub whole-one : (most : ℕ) (x : List ℕ) → 1 ≤ most → length x ≡ 512 → wholeFrames most x ≡ true

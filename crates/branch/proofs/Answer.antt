@@ -10,7 +10,7 @@ use lib.ListN.{length, take, drop}
 use borrow.Author.Tests.{eqb-true}
 use Rattle.sha256.specs.Fips.{sha256}
 use Rattle.apollo.specs.Setup.{setupOf}
-use Rattle.apollo.specs.Frame.{round, frames, framesOf}
+use Rattle.apollo.specs.Frame.{round, frames, framesOf, wholeFrames}
 use Rattle.apollo.specs.Log.{attach}
 use Rattle.apollo.specs.Replica.{validReplica, validMasks}
 use Rattle.apollo.specs.Enter.{State, Effect}
@@ -25,8 +25,9 @@ use Rattle.apollo.proofs.Validity.{Valid}
 use Rattle.apollo.proofs.Validity.{valid}
 use Rattle.branch.specs.declared.Judged.{Judged}
 use Rattle.frame.specs.Ends.{firstFrame, lastFrame}
-use Rattle.branch.specs.Judge.{refusal, accepted, judgedOn, judgedAt, judgedWhole, isWhole, judgedBranch, adopted, answered}
-use Rattle.branch.proofs.Frames.{WholeBranch, whole-parts, frames-split, last-is}
+use Rattle.branch.specs.Judge.{refusal, accepted, judgedOn, judgedAt, judgedWhole, judgedBranch, adopted, answered}
+use Rattle.apollo.proofs.Frames.{WholeFrames, whole-true, frames-split}
+use Rattle.branch.proofs.Frames.{last-is}
 
 -- behind refusals 2 to 5 the record is in its ranges
 behind : (v m : Bool) (w : Outcome) (f : Outcome → Outcome) (o p : Outcome) → (v ≡ true → o ≡ p) → cond (not (v && m)) w (f o) ≡ cond (not (v && m)) w (f p)
@@ -95,12 +96,12 @@ module _ (s : State) (bytes entry out x : List ℕ) (xs : List (List ℕ)) (spli
         (λ z. at-answer (attach (s .log) x (round x - 1)) refl (eqb-true _ 0 z))
         (λ z. rw z))
 
-frames-answer : (s : State) (bytes entry out : List ℕ) → Valid (s .replica) (s .log) → WholeBranch (s .replica .«last_round» .0) bytes
+frames-answer : (s : State) (bytes entry out : List ℕ) → Valid (s .replica) (s .log) → WholeFrames (s .replica .«last_round» .0) bytes
     → branched sha256 entry out s (framesOf bytes) ≡ answered entry out s bytes (judgedWhole (s .replica) (s .log) (s .masks) bytes)
 frames-answer s bytes entry out v w =
     let n : ℕ = length bytes / 512 in
     let e : length bytes % 512 ≡ 0 = w .even in
-    let g : 1 ≤ length bytes / 512 = w .some-frame in
+    let g : 1 ≤ length bytes / 512 = w .some in
     let split : framesOf bytes ≡ take 512 bytes ∷ frames (n - 1) (drop 512 bytes) = frames-split n bytes g in
     let order : (a : ℕ) → judgedFrames (setupOf (s .replica)) (take 512 bytes ∷ frames (n - 1) (drop 512 bytes)) .number ≡ 0
     → attach (s .log) (take 512 bytes) (round (take 512 bytes) - 1) ≡ some a
@@ -113,9 +114,9 @@ frames-answer s bytes entry out v w =
 pub branch-answer : (s : State) (bytes entry out : List ℕ)
     → branchWith sha256 s bytes entry out
     ≡ guarded s entry out (answered entry out s bytes (judgedBranch (s .replica) (s .log) (s .masks) bytes))
-unfolding branchWith judgedBranch isWhole answered
+unfolding branchWith judgedBranch answered
 branch-answer s bytes entry out =
     guarded-same s entry out _ _
-    (λ v. one-of-two (answered entry out s bytes) (isWhole (s .replica .«last_round» .0) bytes)
+    (λ v. one-of-two (answered entry out s bytes) (wholeFrames (s .replica .«last_round» .0) bytes)
     (judgedWhole (s .replica) (s .log) (s .masks) bytes) (refusal 6 0) (branched sha256 entry out s (framesOf bytes)) (refused s out 6 0)
-    (λ w. frames-answer s bytes entry out (valid (s .replica) (s .log) v) (whole-parts (s .replica .«last_round» .0) bytes w)) refl)
+    (λ w. frames-answer s bytes entry out (valid (s .replica) (s .log) v) (whole-true (s .replica .«last_round» .0) bytes w)) refl)

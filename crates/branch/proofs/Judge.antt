@@ -3,36 +3,23 @@ use mathlib.Core.Path.{_≡_}
 use mathlib.Core.Bool.{Bool, true, false}
 use mathlib.Core.List.{List}
 use mathlib.Core.Option.{Option, none, some}
-use Prim.Native.Nat.{ℕ, _-_, _/_, _%_, _≤_, _<_}
-use lib.Dec.{leb, ltb}
-use lib.ListN.{length}
-use borrow.Author.Tests.{eq-eqb, ne-eqb, le-leb, lt-leb}
+use Prim.Native.Nat.{ℕ, _-_}
+use lib.Dec.{ltb}
+use borrow.Author.Tests.{eq-eqb, ne-eqb}
 use Rattle.apollo.specs.declared.Replica.{Replica}
 use Rattle.apollo.specs.declared.Setup.{Setup}
 use Rattle.apollo.specs.Setup.{setupOf}
-use Rattle.apollo.specs.Frame.{round, framesOf}
+use Rattle.apollo.specs.Frame.{round, framesOf, wholeFrames}
 use Rattle.apollo.specs.Log.{attach}
-use Rattle.apollo.specs.Branch.{Verdict, firstUncertified}
+use Rattle.apollo.specs.declared.Verdict.{Verdict}
+use Rattle.apollo.specs.Branch.{firstUncertified}
 use Rattle.branch_links.specs.Judged.{judgedFrames}
 use Rattle.branch_rounds.specs.Keeps.{keepsAll}
 use Rattle.frame.specs.Ends.{firstFrame, lastFrame}
-use Rattle.branch.specs.Judge.{refusal, accepted, judgedOn, judgedAt, judgedFirst, judgedWhole, isWhole, judgedBranch}
+use Rattle.branch.specs.Judge.{refusal, accepted, judgedOn, judgedAt, judgedFirst, judgedWhole, judgedBranch}
 
 -- 6
-module _ (t : ℕ) (b : List ℕ) where
-  pub whole-uneven : (length b % 512 ≡ 0 → ⊥) → false ≡ isWhole t b
-  unfolding isWhole
-  whole-uneven n = rw (ne-eqb (length b % 512) 0 n)
-
-  pub whole-none : length b % 512 ≡ 0 → length b / 512 < 1 → false ≡ isWhole t b
-  unfolding isWhole
-  whole-none e h = rw (eq-eqb (length b % 512) 0 e, lt-leb 1 (length b / 512) h)
-
-  pub whole-some : length b % 512 ≡ 0 → 1 ≤ length b / 512 → leb (length b / 512) t ≡ isWhole t b
-  unfolding isWhole
-  whole-some e h = rw (eq-eqb (length b % 512) 0 e, le-leb 1 (length b / 512) h)
-
-module _ (r : Replica) (log masks b : List ℕ) (w : Bool) (e : w ≡ isWhole (r .«last_round» .0) b) where
+module _ (r : Replica) (log masks b : List ℕ) (w : Bool) (e : w ≡ wholeFrames (r .«last_round» .0) b) where
   pub branch-cut : w ≡ false → refusal 6 0 ≡ judgedBranch r log masks b
   unfolding judgedBranch
   branch-cut f = rw (← e, f)

@@ -11,17 +11,20 @@ use Rattle.sha256.specs.Fips.{sha256}
 use Rattle.apollo.specs.declared.Replica.{Replica}
 use Rattle.apollo.specs.declared.Setup.{Setup}
 use Rattle.apollo.specs.Setup.{setupOf}
-use Rattle.apollo.specs.Frame.{round, frames, framesOf}
+use Rattle.apollo.specs.Frame.{round, frames, framesOf, wholeFrames, blockForm}
 use Rattle.apollo.specs.Log.{attach}
-use Rattle.apollo.specs.Branch.{Verdict, lastOf, childOf, faulty, judged, judgedAll}
+use Rattle.apollo.specs.declared.Verdict.{Verdict}
+use Rattle.apollo.specs.Branch.{lastOf, childOf, faulty, judged, judgedAll}
 use Rattle.frame_forms.proofs.Facts.{BlockFields, block-fields}
+use Rattle.frame_forms.proofs.Fault.{formed}
 use Rattle.log.specs.Slots.{Slotted}
 use Rattle.branch_links.specs.Judged.{judgedFrames}
-use Rattle.branch_links.proofs.Ordered.{sound-form, step}
+use Rattle.branch_links.proofs.Ordered.{step}
 use Rattle.branch.specs.declared.Judged.{Judged}
 use Rattle.frame.specs.Ends.{firstFrame, lastFrame}
-use Rattle.branch.specs.Judge.{refusal, judgedAt, judgedWhole, isWhole, judgedBranch}
-use Rattle.branch.proofs.Frames.{WholeBranch, whole-parts, frames-split, last-is}
+use Rattle.branch.specs.Judge.{refusal, judgedAt, judgedWhole, judgedBranch}
+use Rattle.apollo.proofs.Frames.{WholeFrames, whole-true, frames-split}
+use Rattle.branch.proofs.Frames.{last-is}
 
 -- each frame has the slot of its round, and the last has no fault
 record Sound (s : Setup) (x : List ℕ) (ys : List (List ℕ)) : Type 0 where
@@ -32,7 +35,7 @@ slot-first : (s : Setup) (x : List ℕ) (ys : List (List ℕ)) → faulty sha256
     → Slotted (512 * s .«last_round» .0) (x ∷ ys)
 unfolding Slotted
 slot-first s x ys f h =
-    let b : BlockFields s x = block-fields s x (sound-form s x f) in
+    let b : BlockFields s x = block-fields s x (formed (blockForm s) x f) in
     (b .round-low, omega (arith, b .round-high), h)
 
 sound : (s : Setup) (k : ℕ) (x : List ℕ) (ys : List (List ℕ)) → faulty sha256 s x ≡ 0 → judged sha256 s k x ys .number ≡ 0 → Sound s x ys
@@ -62,18 +65,18 @@ unfolding judgedBranch judgedWhole
 branch-sound r log masks bytes e =
     let v : Verdict = judgedFrames (setupOf r) (framesOf bytes) in
     let p =
-    opens (isWhole (r .«last_round» .0) bytes) (eqb (v .number) 0)
+    opens (wholeFrames (r .«last_round» .0) bytes) (eqb (v .number) 0)
     (cond (ltb (round (lastFrame bytes)) (r .round .0)) (refusal 10 0)
     (judgedAt r log masks bytes (attach log (firstFrame bytes) (round (firstFrame bytes) - 1))))
     (v .number) (v .place) refl e
     in
-    let w : WholeBranch (r .«last_round» .0) bytes = whole-parts (r .«last_round» .0) bytes (p .0) in
-    let f = frames-split (length bytes / 512) bytes (w .some-frame) in
+    let w : WholeFrames (r .«last_round» .0) bytes = whole-true (r .«last_round» .0) bytes (p .0) in
+    let f = frames-split (length bytes / 512) bytes (w .some) in
     let g =
     all-sound (setupOf r) (take 512 bytes) (frames (length bytes / 512 - 1) (drop 512 bytes))
     (ap (λ (xs : List (List ℕ)). judgedFrames (setupOf r) xs .number) (sym f) ∙ p .1)
     in (
       rw f (g .slots),
       block-fields (setupOf r) (lastFrame bytes)
-          (sound-form (setupOf r) (lastFrame bytes) (ap (faulty sha256 (setupOf r)) (last-is (r .«last_round» .0) bytes w) ∙ g .last)),
+          (formed (blockForm (setupOf r)) (lastFrame bytes) (ap (faulty sha256 (setupOf r)) (last-is (r .«last_round» .0) bytes w) ∙ g .last)),
     )

@@ -1,5 +1,4 @@
 pub mod Frames
-pub mod Place
 pub mod Judge
 pub mod Answer
 pub mod Last

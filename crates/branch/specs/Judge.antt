@@ -1,19 +1,18 @@
 -- A branch judged: refusals 6 to 13 in their order, each with its place, and what taking it does.
-use Prim.Native.Nat.{ℕ, _-_, _/_, _%_}
+use Prim.Native.Nat.{ℕ, _-_}
 use mathlib.Core.List.{List}
 use mathlib.Core.Option.{Option, none, some}
-use mathlib.Core.Bool.{Bool, _&&_, cond}
-use lib.ListN.{length}
+use mathlib.Core.Bool.{cond}
 use lib.Dec.{eqb, ltb}
 use Rattle.sha256.specs.Fips.{sha256}
 use Rattle.apollo.specs.declared.Replica.{Replica}
-use Rattle.apollo.specs.Bytes.{within}
 use Rattle.apollo.specs.Setup.{setupOf}
-use Rattle.apollo.specs.Frame.{round, height, framesOf}
+use Rattle.apollo.specs.Frame.{round, height, framesOf, wholeFrames}
 use Rattle.apollo.specs.Log.{attach}
 use Rattle.apollo.specs.Enter.{State, Effect, holding, enterRound}
 use Rattle.apollo.specs.Outcome as Outcome
-use Rattle.apollo.specs.Branch.{Verdict, firstUncertified, grown}
+use Rattle.apollo.specs.declared.Verdict.{Verdict}
+use Rattle.apollo.specs.Branch.{firstUncertified, grown}
 use Rattle.apollo.specs.Refusal.{badLength, stale, unattached, revertsCommitted, notCertified}
 use Rattle.branch_links.specs.Judged.{judgedFrames}
 use Rattle.branch_rounds.specs.Keeps.{keepsAll}
@@ -54,14 +53,10 @@ judgedWhole r log masks bytes =
     (judgedFirst r log masks bytes))
     (refusal (verdict .number) (verdict .place))
 
--- 1 to T whole frames
-unfoldable pub isWhole : (lastRound : ℕ) (bytes : List ℕ) → Bool
-isWhole lastRound bytes = eqb (length bytes % 512) 0 && within 1 (length bytes / 512) lastRound
-
 -- 6 to 13
 unfoldable pub judgedBranch : Replica → (log masks bytes : List ℕ) → Judged
 judgedBranch r log masks bytes =
-    cond (isWhole (r .«last_round» .0) bytes) (judgedWhole r log masks bytes) (refusal badLength 0)
+    cond (wholeFrames (r .«last_round» .0) bytes) (judgedWhole r log masks bytes) (refusal badLength 0)
 
 -- the branch is taken on round a: its frames stored, the last the tip, and the next round entered
 unfoldable pub adopted : (entry : List ℕ) → State → (a : ℕ) (bytes : List ℕ) → Effect

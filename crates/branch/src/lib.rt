@@ -29,20 +29,6 @@ fn refusal(number: u8, place: u32) -> Judged
     }
 }
 
-// 1 to T whole frames.
-fn is_whole(last_round: u32, frames: &[u8]) -> bool
-    ensures { λ b. ⌜ b ≡ Judge.isWhole «last_round» (now (frames .entry)) ⌝ }
-{
-    let n = frames.len() / 512;
-    if frames.len() % 512 != 0 {
-        return false;
-    }
-    if n < 1 {
-        return false;
-    }
-    n <= last_round as usize
-}
-
 // The last round of the branch is below R.
 fn is_stale(round: u32, frames: &[u8]) -> bool
     ensures { λ b. ⌜ b ≡ ltb (Frame.round (lastFrame (now (frames .entry)))) round ⌝ }
@@ -96,7 +82,7 @@ fn judge_whole(r: Replica, log: &[u8], masks: &[u16], frames: &[u8]) -> Judged
 {
     let verdict = branch_links::judge_frames(record::setup(r), frames);
     if verdict.number != 0 {
-        return refusal(verdict.number, verdict.place as u32);
+        return refusal(verdict.number, verdict.place);
     }
     if is_stale(r.round.0, frames) {
         return refusal(apollo::refusal::STALE, 0);
@@ -108,7 +94,7 @@ fn judge_whole(r: Replica, log: &[u8], masks: &[u16], frames: &[u8]) -> Judged
 pub fn judge_branch(r: Replica, log: &[u8], masks: &[u16], frames: &[u8]) -> Judged
     ensures { λ j. ⌜ j ≡ Judge.judgedBranch r (now (log .entry)) (now (masks .entry)) (now (frames .entry)) ⌝ }
 {
-    if !is_whole(r.last_round.0, frames) {
+    if !frame::is_whole(r.last_round.0, frames) {
         return refusal(apollo::refusal::BAD_LENGTH, 0);
     }
     judge_whole(r, log, masks, frames)

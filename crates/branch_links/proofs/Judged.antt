@@ -10,24 +10,11 @@ use borrow.Author.Tests.{eq-eqb, ne-eqb, eqb-false}
 use Rattle.sha256.specs.Fips.{sha256}
 use Rattle.apollo.specs.Bytes.{part}
 use Rattle.apollo.specs.declared.Setup.{Setup}
-use Rattle.apollo.specs.Frame.{round, linked, checked, blockForm, frames}
-use Rattle.apollo.specs.Branch.{Verdict, childOf, faulty, judged, judgedAll}
+use Rattle.apollo.specs.Frame.{round, linked, frames}
+use Rattle.apollo.specs.declared.Verdict.{Verdict}
+use Rattle.apollo.specs.Branch.{childOf, faulty, judged, judgedAll}
 use Rattle.branch_links.specs.Judged.{judgedNext, judgedFrames}
-use Rattle.log.proofs.Frames.{rest, rest-next, rest-end, frame-part}
-
-module _ (s : Setup) (x : List ℕ) (b : Bool) (d : b ≡ checked sha256 x) where
-  pub bad-digest : b ≡ false → 7 ≡ faulty sha256 s x
-  unfolding faulty
-  bad-digest e = rw (← d, e)
-
-  module _ (t : b ≡ true) (g : Bool) (f : g ≡ blockForm s x) where
-    pub bad-form : g ≡ false → 8 ≡ faulty sha256 s x
-    unfolding faulty
-    bad-form e = rw (← d, t, ← f, e)
-
-    pub no-fault : g ≡ true → 0 ≡ faulty sha256 s x
-    unfolding faulty
-    no-fault e = rw (← d, t, ← f, e)
+use Rattle.frame.proofs.Frames.{rest, rest-next, rest-end, frame-part}
 
 module _ (p x : List ℕ) (b : Bool) (d : b ≡ linked p x) where
   pub no-child : b ≡ false → false ≡ childOf p x

@@ -1,7 +1,7 @@
 -- What judging and attaching show of a branch: whole frames, rounds that rise from the attaching round up to the last.
 -- Assumes nothing.
 use mathlib.Core.Path.{_≡_, refl}
-use mathlib.Core.Bool.{Bool, true, false, not, cond}
+use mathlib.Core.Bool.{Bool, true, false, cond}
 use mathlib.Core.List.{List, [], _∷_}
 use mathlib.Core.Option.{some}
 use Prim.Native.Nat.{ℕ, zero, suc, _+_, _-_, _*_, _≤_, _<_}
@@ -11,12 +11,14 @@ use lib.ListN.{length, take, drop}
 use borrow.Author.Tests.{ltb-true, eqb-true}
 use Rattle.sha256.specs.Fips.{sha256}
 use Rattle.apollo.specs.declared.Setup.{Setup}
-use Rattle.apollo.specs.Frame.{round, linked, checked, blockForm, frames}
+use Rattle.apollo.specs.Frame.{round, linked, blockForm, frames}
 use Rattle.apollo.specs.Log.{attach}
-use Rattle.apollo.specs.Branch.{Verdict, childOf, faulty, judged, judgedAll}
+use Rattle.apollo.specs.declared.Verdict.{Verdict}
+use Rattle.apollo.specs.Branch.{childOf, faulty, judged, judgedAll}
 use Rattle.apollo.proofs.Tests.{and-true}
 use Rattle.apollo.proofs.Frames.{Whole, frames-whole}
 use Rattle.frame_forms.proofs.Facts.{BlockFields, block-fields}
+use Rattle.frame_forms.proofs.Fault.{formed}
 use Rattle.branch_links.specs.Judged.{judgedFrames}
 use Rattle.branch_links.specs.Ordered.{Ordered}
 use Rattle.branch_links.proofs.Attaching.{attach-le}
@@ -24,15 +26,6 @@ use Rattle.branch_links.proofs.Attaching.{attach-le}
 -- a block's round is from 1 up to the last
 form-round : (s : Setup) (x : List ℕ) → blockForm s x ≡ true → (1 ≤ round x) × (round x ≤ s .«last_round» .0)
 form-round s x e = let f : BlockFields s x = block-fields s x e in (f .round-low, f .round-high)
-
-pub sound-form : (s : Setup) (x : List ℕ) → faulty sha256 s x ≡ 0 → blockForm s x ≡ true
-unfolding faulty
-sound-form s x e = by (checked sha256 x) (blockForm s x) e
-  where
-    by : (a b : Bool) → _≡_ {A = ℕ} (cond (not a) 7 (cond (not b) 8 0)) 0 → b ≡ true
-    by true true h = refl
-    by true false h = absurd (omega arith)
-    by false b h = absurd (omega arith)
 
 -- what a step of judging that refuses nothing says
 pub record Step (k : ℕ) (c : Bool) (v : Verdict) : Type 0 where
@@ -59,7 +52,7 @@ rising s k x [] r e w = r
 rising s k x (y ∷ ys) r e w =
     let p : Step (faulty sha256 s y) (childOf x y) (judged sha256 s (k + 1) y ys) =
     step (eqb (faulty sha256 s y) 0) (childOf x y) (faulty sha256 s y) k (judged sha256 s (k + 1) y ys) refl e in
-    let f : (1 ≤ round y) × (round y ≤ s .«last_round» .0) = form-round s y (sound-form s y (p .sound)) in
+    let f : (1 ≤ round y) × (round y ≤ s .«last_round» .0) = form-round s y (formed (blockForm s) y (p .sound)) in
     (w .0, ltb-true (round x) (round y) ((and-true (linked x y) (ltb (round x) (round y)) (p .follows)) .1), rising s (k + 1) y ys (f .1) (p .onward) (w .1))
 
 -- a judged branch of n frames whose first frame attaches to round a
@@ -71,7 +64,7 @@ ordered s log b (suc n) a g h e d =
     let x : List ℕ = take 512 b in
     let v : Verdict = judged sha256 s 1 x (frames n (drop 512 b)) in
     let p : Step (faulty sha256 s x) true v = step (eqb (faulty sha256 s x) 0) true (faulty sha256 s x) 0 v refl e in
-    let f : (1 ≤ round x) × (round x ≤ s .«last_round» .0) = form-round s x (sound-form s x (p .sound)) in
+    let f : (1 ≤ round x) × (round x ≤ s .«last_round» .0) = form-round s x (formed (blockForm s) x (p .sound)) in
     let l : a ≤ round x - 1 = attach-le log x (round x - 1) a d in
     let w : Whole (frames (suc n) b) = frames-whole (suc n) b h in
     (w .0, omega (arith, f .0), rising s 1 x (frames n (drop 512 b)) (f .1) (p .onward) (w .1))

@@ -5,7 +5,9 @@ use Prim.Native.Nat.{ℕ}
 use lib.Dec.{eqb}
 use Rattle.sha256.specs.Fips.{sha256}
 use Rattle.apollo.specs.declared.Setup.{Setup}
-use Rattle.apollo.specs.Branch.{Verdict, childOf, faulty, judgedAll}
+use Rattle.apollo.specs.declared.Verdict.{Verdict}
+use Rattle.apollo.specs.Judging.{noRefusal}
+use Rattle.apollo.specs.Branch.{childOf, faulty, judgedAll}
 use Rattle.apollo.specs.Refusal.{notChild}
 
 -- 7, 8 and 9 of frame y after frame x, 0 if there is none
@@ -14,5 +16,5 @@ judgedNext s x y = cond (eqb (faulty sha256 s y) 0) (cond (childOf x y) 0 notChi
 
 -- 7, 8 and 9 of all frames, none if there is no frame
 unfoldable pub judgedFrames : Setup → List (List ℕ) → Verdict
-judgedFrames s [] = record { number = 0; place = 0 }
+judgedFrames s [] = noRefusal
 judgedFrames s (x ∷ xs) = judgedAll sha256 s x xs

@@ -1,27 +1,22 @@
-// The links of a branch: each frame judged after the one before, and the round that the first attaches to. Every public function
-// takes slices of any length and any numbers.
+// The links of a branch: each frame judged after the one before, and the round that the first attaches to.
 use apollo::Setup;
+use apollo::Verdict;
 ghost use mathlib.Core.Path.{_≡_};
-ghost use Prim.Native.Nat.{_-_, _<_};
+ghost use Prim.Native.Nat.{_-_, _*_, _≤_, _<_};
+ghost use lib.ListN.{length};
 ghost use mathlib.Core.Bool.{_&&_};
 ghost use Rattle.sha256.specs.Fips.{sha256};
 ghost use Rattle.apollo.specs.Frame as Frame;
 ghost use Rattle.apollo.specs.Frame.{framesOf};
 ghost use Rattle.apollo.specs.Log as Log;
 ghost use Rattle.apollo.specs.Branch as Branch;
-ghost use Rattle.branch_links.specs.Answers.{attachOf, verdictOf};
+ghost use Rattle.branch_links.specs.Answers.{attachOf};
 ghost use Rattle.branch_links.specs.Judged.{judgedNext, judgedFrames};
 
 // Where a frame attaches: the round of a slot, 0 for the genesis.
 pub enum Attachment {
     At(u32),
     Nowhere,
-}
-
-// The refusal of a branch's frame, 0 if there is none, and the frame's index.
-pub struct Verdict {
-    pub number: u8,
-    pub place: usize,
 }
 
 // Frame x attaches to slot r.
@@ -102,7 +97,8 @@ fn judge_next(s: Setup, p: &[u8], x: &[u8]) -> u8
 
 // 7, 8 and 9 of the frames, lowest first, each judged in place.
 pub fn judge_frames(s: Setup, frames: &[u8]) -> Verdict
-    ensures { λ v. ⌜ verdictOf v ≡ judgedFrames s (framesOf (now (frames .entry))) ⌝ }
+    requires { ⌜ length (now frames) ≤ 512 * s .«last_round» .0 ⌝ }
+    ensures { λ v. ⌜ v ≡ judgedFrames s (framesOf (now (frames .entry))) ⌝ }
 {
     let n = frames.len() / 512;
     if n == 0 {
@@ -125,7 +121,10 @@ pub fn judge_frames(s: Setup, frames: &[u8]) -> Verdict
         let e = a + 512;
         let number = judge_next(s, &frames[p..a], &frames[a..e]);
         if number != 0 {
-            return Verdict { number, place: i };
+            return Verdict {
+                number,
+                place: i as u32,
+            };
         }
         i += 1;
     }

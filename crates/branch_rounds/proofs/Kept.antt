@@ -9,7 +9,7 @@ use Rattle.apollo.specs.Bytes.{same}
 use Rattle.apollo.specs.Frame.{round, blank}
 use Rattle.log.specs.Slots.{slotPart}
 use Rattle.branch_rounds.specs.Keeps.{keepsFrame, keepsAll}
-use Rattle.log.proofs.Frames.{rest, rest-next, rest-end, frame-part}
+use Rattle.frame.proofs.Frames.{rest, rest-next, rest-end, frame-part}
 
 module _ (log : List ℕ) (lo : ℕ) (x : List ℕ) (c r : ℕ) (b : Bool) (e : r ≡ round x) where
   pub keeps-past : c < r → b ≡ blank log (512 * lo) (512 * c) → b ≡ keepsFrame log lo x c

@@ -11,7 +11,7 @@ use Rattle.apollo.specs.declared.Setup.{Setup}
 use Rattle.apollo.specs.Frame.{round}
 use Rattle.apollo.specs.Masks.{certified, gap}
 use Rattle.apollo.specs.Branch.{firstUncertified}
-use Rattle.log.proofs.Frames.{rest, rest-next, rest-end, frame-part}
+use Rattle.frame.proofs.Frames.{rest, rest-next, rest-end, frame-part}
 
 module _ (s : Setup) (masks : List ℕ) where
   -- what is left of the walk, with the rounds up to p passed on the way to a frame of round `to`, and frames xs after it

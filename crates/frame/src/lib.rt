@@ -1,5 +1,5 @@
-// One frame: its fields read in place, its round's leader, and its parent; the last frame of a branch. Every function takes
-// slices of any length, as the definitions do.
+// One frame: its fields read in place, its round's leader, and its parent; whole frames, and the last of them. Every function
+// takes slices of any length, as the definitions do.
 use apollo::Setup;
 ghost use mathlib.Core.Path.{_≡_};
 ghost use Prim.Native.Nat.{_-_, _≤_, _<_};
@@ -87,6 +87,20 @@ pub fn previous(r: u32) -> u32
     ensures { λ q. ⌜ q ≡ r - 1 ⌝ }
 {
     if r == 0 { 0 } else { r - 1 }
+}
+
+// 1 to `most` whole frames.
+pub fn is_whole(most: u32, frames: &[u8]) -> bool
+    ensures { λ b. ⌜ b ≡ Frame.wholeFrames most (now (frames .entry)) ⌝ }
+{
+    let n = frames.len() / 512;
+    if frames.len() % 512 != 0 {
+        return false;
+    }
+    if n < 1 {
+        return false;
+    }
+    n <= most as usize
 }
 
 // The last frame of a branch, fewer bytes where there is no whole one.

@@ -1,2 +1,3 @@
 pub mod Forms
 pub mod Facts
+pub mod Fault

@@ -11,7 +11,7 @@ use Rattle.apollo.specs.Log.{store, clearAbove}
 use Rattle.apollo.specs.Frame.{round}
 use Rattle.apollo.specs.Branch.{storeAll}
 use Rattle.log.specs.Slots.{Slotted}
-use Rattle.log.proofs.Frames.{rest, rest-next, rest-end, frame-part}
+use Rattle.frame.proofs.Frames.{rest, rest-next, rest-end, frame-part}
 
 -- a log whose slots above round r are zeroed in place, and one that has none
 pub cleared : (log y : List ℕ) (r : ℕ) → 512 * r ≤ length log → y ≡ zeros (length (take (length log - 512 * r) (drop (512 * r) log)))

@@ -13,7 +13,7 @@ use Rattle.apollo.specs.Log.{slot}
 use Rattle.apollo.specs.Read.{readable, lowest}
 use Rattle.log.specs.Slots.{slotPart}
 use Rattle.log.proofs.Search.{slot-is}
-use Rattle.log.proofs.Frames.{frame-part}
+use Rattle.frame.proofs.Frames.{frame-part}
 use Rattle.log_heights.specs.Fetch.{isTall}
 use Rattle.log_heights.specs.Read.{isReadable}
 

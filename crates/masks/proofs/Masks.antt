@@ -35,19 +35,23 @@ unfolding certified
 enough s masks r m x e d = rw (d, e) (ap (leb (s .f + 1)) (ones-count (2 * s .f + 1) (mask masks r)))
 
 -- a bit of a mask, read by a shift
-pub bit-read : (masks : List ℕ) (r i m : ℕ) → m ≡ mask masks r → eqb (m / 2 ^ i % 2) 1 ≡ bit i (mask masks r)
-bit-read masks r i m e = rw (← e) (sym (bit-shift i m))
+pub bit-read : (i m : ℕ) → eqb (m / 2 ^ i % 2) 1 ≡ bit i m
+bit-read i m = sym (bit-shift i m)
 
 -- there is no bit from 16 on
-pub bit-high : (masks : List ℕ) (r i m : ℕ) → m ≡ mask masks r → m < 2 ^ 16 → 16 ≤ i → false ≡ bit i (mask masks r)
-bit-high masks r i m e h g =
+pub bit-high : (i m : ℕ) → m < 2 ^ 16 → 16 ≤ i → false ≡ bit i m
+bit-high i m h g =
     let z : m / 2 ^ i ≡ 0 = div-eq-of-lt (below-pow m i h g) in
-    rw (← e, bit-shift i m, z)
+    rw (bit-shift i m, z)
 
--- the or with 2 ^ i in the round's place
+-- the or with 2 ^ i
+pub bit-set : (i m : ℕ) → i < 16 → bitOr m (1 * 2 ^ i % 2 ^ 16) ≡ setBit i m
+bit-set i m h = rw (one-bit 16 i h, or-set i m)
+
+-- a bit set in the round's place
 module _ (masks : List ℕ) (r i k : ℕ) (e : k ≡ r - 1) where
-  pub blame-added : i < 16 → set masks k (bitOr (getD masks k 0) (1 * 2 ^ i % 2 ^ 16)) ≡ addBlame masks r i
-  blame-added h = rw (one-bit 16 i h, or-set i (getD masks k 0), e)
+  pub blame-added : (m : ℕ) → m ≡ setBit i (getD masks k 0) → set masks k m ≡ addBlame masks r i
+  blame-added m d = rw (d, e)
 
   pub blame-past : length masks ≤ k → masks ≡ addBlame masks r i
   blame-past g = rw (← e) (sym (set-out masks k (setBit i (getD masks k 0)) g))

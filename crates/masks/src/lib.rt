@@ -1,4 +1,4 @@
-// The blame masks of a replica: certified (shown) rounds, and blames added. A blame is added for a replica that has a bit.
+// The blame masks of a replica: their bits, certified (shown) rounds, and blames added. A bit is set for a replica that has one.
 use apollo::Setup;
 ghost use mathlib.Core.Path.{_≡_};
 ghost use Prim.Native.Nat.{_%_, _^_, _<_};
@@ -29,12 +29,26 @@ pub fn certified(s: Setup, masks: &[u16], r: u32) -> bool
     g + 1 <= u32::count_ones(reduced(m, 2 * g + 1))
 }
 
+// Bit i of a mask.
+pub fn has_bit(m: u16, i: u8) -> bool
+    ensures { λ x. ⌜ x ≡ Masks.bit i m ⌝ }
+{
+    if i < 16 { (m >> i) % 2 == 1 } else { false }
+}
+
+// A mask with bit i set.
+pub fn with_bit(m: u16, i: u8) -> u16
+    requires { ⌜ i < 16 ⌝ }
+    ensures { λ x. ⌜ x ≡ Masks.setBit i m ⌝ }
+{
+    m | (1u16 << i)
+}
+
 // Replica i's blame for round r is there.
 pub fn has_blame(masks: &[u16], r: u32, i: u8) -> bool
     ensures { λ x. ⌜ x ≡ Masks.bit i (Masks.mask (now (masks .entry)) r) ⌝ }
 {
-    let m = mask(masks, r);
-    if i < 16 { (m >> i) % 2 == 1 } else { false }
+    has_bit(mask(masks, r), i)
 }
 
 // Replica i's blame for round r is added.
@@ -44,6 +58,6 @@ pub fn add_blame(masks: &mut [u16], r: u32, i: u8)
 {
     let k = frame::previous(r) as usize;
     if k < masks.len() {
-        masks[k] = masks[k] | (1u16 << i);
+        masks[k] = with_bit(masks[k], i);
     }
 }

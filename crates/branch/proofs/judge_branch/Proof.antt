@@ -2,7 +2,7 @@
 use mathlib.Core.Path.{sym, _∙_}
 use borrow.Author.Tests.{not-true, not-false}
 use Rattle.branch.proofs.Judge.{branch-cut, branch-whole}
-use Rattle.branch.proofs.Frames.{whole-fits}
+use Rattle.apollo.proofs.Frames.{whole-fits}
 use borrow.Author.Needs.{needs}
 use Rattle.branch.proofs.judge_branch.Statement.{statement}
 use Rattle.branch.proofs.judge_branch.Tie as tie

@@ -1,7 +1,7 @@
 -- `branch_links::faulty` meets its contract: the check, then the form. Assumes nothing.
 use borrow.Author.Tests.{not-true, not-false}
 use borrow.Author.Needs.{needs}
-use Rattle.branch_links.proofs.Judged.{bad-digest, bad-form, no-fault}
+use Rattle.frame_forms.proofs.Fault.{bad-digest, bad-form, no-fault}
 use Rattle.branch_links.proofs.faulty.Statement.{statement}
 use Rattle.branch_links.proofs.faulty.Tie as tie
 

@@ -10,7 +10,7 @@ use Rattle.apollo.specs.Frame as Frame
 use Rattle.apollo.specs.Bytes.{part}
 use Rattle.branch_links.specs.Judged.{judgedFrames}
 use Rattle.branch_links.proofs.Judged.{judge-none, judge-first, judge-start, judge-stop, judge-more, judge-end}
-use Rattle.log.proofs.Frames.{rest}
+use Rattle.frame.proofs.Frames.{rest}
 use Rattle.branch_links.proofs.judge_frames.Statement.{statement}
 use Rattle.branch_links.proofs.judge_frames.Tie as tie
 
@@ -31,6 +31,11 @@ returns-2 c = judge-first _ (c .before .before .before .before .before .args .fr
 
 loop-holds : tie.Need-loop-holds Inv-loop μ-loop
 loop-holds c = (search needs, search needs, judge-start _ (c .before .before .before .before .before .args .frames .now) _ (omega arith) (c .before .faulty .result) (c .before .faulty .ensures) (c .if2 .left))
+
+cast-place : tie.Need-cast-t23 Inv-loop μ-loop
+cast-place c =
+    let s = c .before .before .before .before .before .before .before .before .before .before .before in
+    omega (arith, s .pre, s .good .0)
 
 returns-3 : tie.Need-returns-3 Inv-loop μ-loop
 returns-3 c = judge-stop _ (c .before .before .before .before .before .before .before .before .before .before .before .args .frames .now) _ (c .before .before .before .before .before .loop .i) (c .before .judge-next .result) _ (omega arith) (omega arith) (c .before .judge-next .ensures) (c .before .before .before .before .before .loop .inv .2) (c .if3 .taken)
@@ -62,6 +67,7 @@ judge-frames-spec =
     (λ c. search needs)
     (λ c. search needs)
     (λ c κs. search needs)
+    cast-place
     returns-3
     (λ c. search needs)
     (λ c. search needs)

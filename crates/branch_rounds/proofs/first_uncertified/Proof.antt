@@ -7,7 +7,7 @@ use borrow.Author.Tests.{not-true, not-false}
 use Rattle.apollo.specs.Branch as Branch
 use Rattle.apollo.specs.Frame as Frame
 use Rattle.branch_rounds.proofs.Walk.{onward, pass, stop, leave, enter, end}
-use Rattle.log.proofs.Frames.{rest, rest-start}
+use Rattle.frame.proofs.Frames.{rest, rest-start}
 use Rattle.branch_rounds.proofs.first_uncertified.Statement.{statement}
 use Rattle.branch_rounds.proofs.first_uncertified.Tie as tie
 

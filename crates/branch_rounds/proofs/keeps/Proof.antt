@@ -8,7 +8,7 @@ use borrow.Author.Tests.{not-true, not-false}
 use Rattle.apollo.specs.Frame as Frame
 use Rattle.branch_rounds.specs.Keeps.{keepsAll}
 use Rattle.branch_rounds.proofs.Kept.{keeps-stop, keeps-next, keeps-end}
-use Rattle.log.proofs.Frames.{rest}
+use Rattle.frame.proofs.Frames.{rest}
 use Rattle.branch_rounds.proofs.keeps.Statement.{statement}
 use Rattle.branch_rounds.proofs.keeps.Tie as tie
 

@@ -8,7 +8,7 @@ use Rattle.apollo.specs.Frame as Frame
 use Rattle.apollo.specs.Branch.{storeAll}
 use Rattle.log.specs.Slots.{Slotted}
 use Rattle.log.proofs.Slots.{each-more, each-end, slotted-next, next-slot}
-use Rattle.log.proofs.Frames.{rest, rest-start}
+use Rattle.frame.proofs.Frames.{rest, rest-start}
 use Rattle.log.proofs.store_each.Statement.{statement}
 use Rattle.log.proofs.store_each.Tie as tie
 

@@ -1,7 +1,7 @@
--- `branch::is_whole` meets its contract. Assumes nothing.
-use Rattle.branch.proofs.Judge.{whole-uneven, whole-none, whole-some}
-use Rattle.branch.proofs.is_whole.Statement.{statement}
-use Rattle.branch.proofs.is_whole.Tie as tie
+-- `frame::is_whole` meets its contract. Assumes nothing.
+use Rattle.frame.proofs.Whole.{whole-uneven, whole-none, whole-some}
+use Rattle.frame.proofs.is_whole.Statement.{statement}
+use Rattle.frame.proofs.is_whole.Tie as tie
 
 returns : tie.Need-returns
 returns c = whole-uneven _ _ (c .if1 .taken)

@@ -1,0 +1,41 @@
+-- The signers of a set that passed 7 and 8 have bits in a mask of 16. Assumes nothing.
+use mathlib.Core.Path.{_≡_, refl}
+use mathlib.Core.Bool.{Bool, true, false, cond}
+use mathlib.Core.List.{List, [], _∷_}
+use Prim.Native.Nat.{ℕ, _+_, _-_, _*_, _≤_, _<_}
+use native.Mathlib.Omega.{arith}
+use lib.Dec.{eqb}
+use lib.ListN.{take, drop}
+use borrow.Author.Tests.{eqb-true, eqb-false}
+use Rattle.sha256.specs.Fips.{sha256}
+use Rattle.apollo.specs.declared.Setup.{Setup}
+use Rattle.apollo.specs.declared.Verdict.{Verdict}
+use Rattle.apollo.specs.Bytes.{part}
+use Rattle.apollo.specs.Frame.{signer, blameForm}
+use Rattle.apollo.specs.Judging.{verdict, fault, judgedEach}
+use Rattle.frame.proofs.Frames.{rest, rest-next, frame-part}
+use Rattle.frame_forms.proofs.Facts.{BlameFields, blame-fields}
+use Rattle.frame_forms.proofs.Fault.{formed}
+use Rattle.blame_set.specs.Set.{Marked}
+
+none-first : (z : Bool) (k i : ℕ) (v : Verdict) → eqb k 0 ≡ z → cond z v (verdict k i) .number ≡ 0 → (k ≡ 0) × (v .number ≡ 0)
+none-first true k i v e h = (eqb-true k 0 e, h)
+none-first false k i v e h = absurd (eqb-false k 0 e h)
+
+pub each-marked : (s : Setup) → s .f ≤ 7 → (i : ℕ) (xs : List (List ℕ)) → judgedEach sha256 (blameForm s) i xs .number ≡ 0 → Marked xs
+unfolding judgedEach
+each-marked s l i [] e = tt
+each-marked s l i (x ∷ xs) e =
+    let k : ℕ = fault sha256 (blameForm s) x in
+    let p = none-first (eqb k 0) k i (judgedEach sha256 (blameForm s) (i + 1) xs) refl e in
+    let f : BlameFields s x = blame-fields s x (formed (blameForm s) x (p .0)) in
+    (omega (arith, f .by-replica), each-marked s l (i + 1) xs (p .1))
+
+-- frame i, and those after it
+pub marked-rest : (b : List ℕ) (n i : ℕ) → i < n → Marked (rest b n i)
+    → (signer (part b (512 * i) 512) < 16) × Marked (rest b n (i + 1))
+marked-rest b n i h m = rw (rest-next b n i h) at m
+
+pub marked-lent : (b : List ℕ) (n i : ℕ) → i < n → Marked (rest b n i)
+    → signer (take (512 * i + 512 - 512 * i) (drop (512 * i) b)) < 16
+marked-lent b n i h m = rw (frame-part b (512 * i)) (marked-rest b n i h m .0)

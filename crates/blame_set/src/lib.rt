@@ -1,0 +1,188 @@
+// A set of blames that is handed in: its judgement, 6, 7, 8, 16, 14 and 10, each frame judged in place, and its bits set. A blame is
+// a set of one.
+use apollo::Replica;
+use apollo::Setup;
+use apollo::Verdict;
+ghost use mathlib.Core.Path.{_≡_};
+ghost use mathlib.Core.Bool.{_&&_, not};
+ghost use Prim.Native.Nat.{_≤_, _<_};
+ghost use lib.Dec.{eqb};
+ghost use lib.ListN.{length};
+ghost use Rattle.sha256.specs.Fips.{sha256};
+ghost use Rattle.apollo.specs.Frame as Frame;
+ghost use Rattle.apollo.specs.Frame.{framesOf, blameForm};
+ghost use Rattle.apollo.specs.Masks as Masks;
+ghost use Rattle.apollo.specs.Judging as Judging;
+ghost use Rattle.apollo.specs.Blame as Blame;
+ghost use Rattle.blame_set.specs.Set as Set;
+ghost use Rattle.blame_set.specs.Set.{Marked};
+
+fn refusal(number: u8) -> Verdict
+    ensures { λ v. ⌜ v ≡ Judging.verdict number 0 ⌝ }
+{
+    Verdict { number, place: 0 }
+}
+
+// 7 and 8 of one frame, 0 if it is refused by neither.
+fn fault(s: Setup, x: &[u8]) -> u8
+    ensures { λ k. ⌜ k ≡ Judging.fault sha256 (blameForm s) (now (x .entry)) ⌝ }
+{
+    if !frame_forms::checked(x) {
+        return apollo::refusal::BAD_DIGEST;
+    }
+    if !frame_forms::blame_form(s, x) {
+        return apollo::refusal::BAD_FORM;
+    }
+    0
+}
+
+// 7 and 8 of the frames, lowest first.
+fn judge_each(s: Setup, frames: &[u8]) -> Verdict
+    requires { ⌜ length (now frames) ≤ 7680 ⌝ }
+    ensures { λ v. ⌜ v ≡ Judging.judgedEach sha256 (blameForm s) 0 (framesOf (now (frames .entry))) ⌝ }
+{
+    let n = frames.len() / 512;
+    let mut i = 0;
+    while i < n {
+        let a = 512 * i;
+        let e = a + 512;
+        let number = fault(s, &frames[a..e]);
+        if number != 0 {
+            return Verdict {
+                number,
+                place: i as u32,
+            };
+        }
+        i += 1;
+    }
+    refusal(0)
+}
+
+// Frame x is of round r, and its signer is not in the mask.
+fn joins(x: &[u8], r: u32, before: u16) -> bool
+    ensures { λ b. ⌜ b ≡ (eqb (Frame.round (now (x .entry))) r && not (Masks.bit (Frame.signer (now (x .entry))) before)) ⌝ }
+{
+    if frame::round(x) != r {
+        return false;
+    }
+    !masks::has_bit(before, frame::signer(x))
+}
+
+// The mask with the signer of frame x.
+fn joined(x: &[u8], before: u16) -> u16
+    requires { ⌜ Frame.signer (now x) < 16 ⌝ }
+    ensures { λ m. ⌜ m ≡ Masks.setBit (Frame.signer (now (x .entry))) before ⌝ }
+{
+    masks::with_bit(before, frame::signer(x))
+}
+
+// The frames are of round r, and no signer is there twice.
+fn is_one_set(frames: &[u8], r: u32) -> bool
+    requires { ⌜ Marked (framesOf (now frames)) ⌝ }
+    ensures { λ b. ⌜ b ≡ Blame.oneSet r 0 (framesOf (now (frames .entry))) ⌝ }
+{
+    let n = frames.len() / 512;
+    let mut before = 0u16;
+    let mut i = 0;
+    while i < n {
+        let a = 512 * i;
+        let e = a + 512;
+        if !joins(&frames[a..e], r, before) {
+            return false;
+        }
+        before = joined(&frames[a..e], before);
+        i += 1;
+    }
+    true
+}
+
+// The blame in frame x is there.
+fn is_heard(masks: &[u16], x: &[u8]) -> bool
+    ensures { λ b. ⌜ b ≡ Masks.bit (Frame.signer (now (x .entry))) (Masks.mask (now (masks .entry)) (Frame.round (now (x .entry)))) ⌝ }
+{
+    let r = frame::round(x);
+    masks::has_blame(masks, r, frame::signer(x))
+}
+
+// A blame of the set is not there yet.
+fn is_any_fresh(masks: &[u16], frames: &[u8]) -> bool
+    ensures { λ b. ⌜ b ≡ Blame.anyFresh (now (masks .entry)) (framesOf (now (frames .entry))) ⌝ }
+{
+    let n = frames.len() / 512;
+    let mut i = 0;
+    while i < n {
+        let a = 512 * i;
+        let e = a + 512;
+        if !is_heard(masks, &frames[a..e]) {
+            return true;
+        }
+        i += 1;
+    }
+    false
+}
+
+// 16, 14 and 10 of frames that passed 7 and 8.
+fn judge_together(r: Replica, masks: &[u16], frames: &[u8]) -> Verdict
+    requires { ⌜ Marked (framesOf (now frames)) ⌝ }
+    ensures { λ v. ⌜ v ≡ Set.judgedTogether r (now (masks .entry)) (now (frames .entry)) ⌝ }
+{
+    let round = frame::round(slices::part(frames, 0, 512));
+    if !is_one_set(frames, round) {
+        return refusal(apollo::refusal::NOT_A_SET);
+    }
+    if r.round.0 < round {
+        return refusal(apollo::refusal::EARLY);
+    }
+    if !is_any_fresh(masks, frames) {
+        return refusal(apollo::refusal::STALE);
+    }
+    refusal(0)
+}
+
+// 7 and 8 frame by frame, and what follows them.
+fn judge_frames(r: Replica, masks: &[u16], frames: &[u8]) -> Verdict
+    requires { ⌜ (r .f ≤ 7) × (length (now frames) ≤ 7680) ⌝ }
+    ensures { λ v. ⌜ v ≡ Set.judgedFrames r (now (masks .entry)) (now (frames .entry)) ⌝ }
+{
+    let each = judge_each(record::setup(r), frames);
+    if each.number != 0 {
+        return each;
+    }
+    judge_together(r, masks, frames)
+}
+
+// A set of 1 to `most` blames judged in place.
+pub fn judge_set(most: u32, r: Replica, masks: &[u16], frames: &[u8]) -> Verdict
+    requires { ⌜ (r .f ≤ 7) × (most ≤ 15) ⌝ }
+    ensures { λ v. ⌜ v ≡ Set.judgedSet most r (now (masks .entry)) (now (frames .entry)) ⌝ }
+{
+    if !frame::is_whole(most, frames) {
+        return refusal(apollo::refusal::BAD_LENGTH);
+    }
+    judge_frames(r, masks, frames)
+}
+
+// The blame in frame x is added.
+fn add_frame(masks: &mut [u16], x: &[u8])
+    requires { ⌜ Frame.signer (now x) < 16 ⌝ }
+    ensures { λ _. ⌜ now (masks .exit)
+        ≡ Masks.addBlame (now (masks .entry)) (Frame.round (now (x .entry))) (Frame.signer (now (x .entry))) ⌝ }
+{
+    let r = frame::round(x);
+    masks::add_blame(masks, r, frame::signer(x));
+}
+
+// The blames of the set are added.
+pub fn add_blames(masks: &mut [u16], frames: &[u8])
+    requires { ⌜ Marked (framesOf (now frames)) ⌝ }
+    ensures { λ _. ⌜ now (masks .exit) ≡ Blame.addBlames (now (masks .entry)) (framesOf (now (frames .entry))) ⌝ }
+{
+    let n = frames.len() / 512;
+    let mut i = 0;
+    while i < n {
+        let a = 512 * i;
+        let e = a + 512;
+        add_frame(masks, &frames[a..e]);
+        i += 1;
+    }
+}
