@@ -23,7 +23,7 @@ use Rattle.agreement.proofs.Adopt.{Known}
 use Rattle.agreement.proofs.Outcomes.{Fine, taken-fine, refused-plain, guarded-fine}
 
 module _ (s : Setup) (past : List Event) where
-  -- a blame that was seen, for one of the rounds
+  -- a blame that was seen, for a round from 1 to T
   record Heard (x : List ℕ) : Type 0 where
     blamed : Blamed past (signer x) (round x)
     lowest : 1 ≤ round x
@@ -74,18 +74,18 @@ module _ (s : Setup) (hash : List ℕ → List ℕ) (wide : (xs : List ℕ) → 
       (λ j. by-cond (Fine s past i c) (oneSet (round x) 0 (x ∷ xs))
       (λ _. by-cond (Fine s past i c) (ltb (c .replica .round .0) (round x)) (λ _. refused-plain s past i c st rests out 14 0 refl refl)
       (λ _. by-cond (Fine s past i c) (anyFresh (c .masks) (x ∷ xs))
-      (λ _. taken-fine s past i c _ out (heard-kept fits x xs (blames (eqb-true _ _ j))))
+      (λ _. taken-fine s past i c _ out (heard-kept fits x xs (all-heard (eqb-true _ _ j))))
       (λ _. refused-plain s past i c st rests out 10 0 refl refl)))
       (λ _. refused-plain s past i c st rests out 16 0 refl refl))
       (λ _. let l : Low (judgedEach hash form 0 (x ∷ xs) .number) = each-low hash form 0 (x ∷ xs) in
       refused-plain s past i c st rests out _ _ (l .0) (l .1))
     where
-      blames : judgedEach hash form 0 (x ∷ xs) .number ≡ 0 → (y : List ℕ) → In y (x ∷ xs) → Heard s past y
-      blames e y p =
+      all-heard : judgedEach hash form 0 (x ∷ xs) .number ≡ 0 → (y : List ℕ) → In y (x ∷ xs) → Heard s past y
+      all-heard e y p =
           let q : Passes hash form y = each-none hash form 0 (x ∷ xs) e y p in
           formed s past y (known y p (q .0)) (ap (λ k. blameForm k y) (sym (setup-is s i (c .replica) (st .good .fixed))) ∙ q .1)
 
-  -- one frame at most is blame, fifteen is blames
+  -- 1 to `most` blames are handed in: 1 by the call blame, 15 by blames
   pub handing-fine : (most : ℕ) (bytes out : List ℕ) → (wholeFrames most bytes ≡ true → Known s hash past (framesOf bytes))
       → Fine s past i c (handing hash most c bytes entry out)
   unfolding handing
