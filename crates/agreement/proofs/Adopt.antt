@@ -4,18 +4,19 @@ use mathlib.Core.Path.{_≡_, refl, sym, ap, _∙_, subst}
 use mathlib.Core.Logic.{inl, inr}
 use mathlib.Core.Option.{none, some}
 use mathlib.Core.List.{List, [], _∷_}
-use mathlib.Core.Bool.{true, not, _&&_}
+use mathlib.Core.Bool.{true, _&&_}
 use native.Mathlib.Omega.{arith}
 use lib.ListN.{length}
 use lib.Dec.{eqb}
-use borrow.Author.Tests.{eqb-true, eqb-false, leb-true, ltb-true, not-false}
+use borrow.Author.Tests.{eqb-true, eqb-false, leb-true, ltb-true}
 use Rattle.apollo.specs.declared.Setup.{Setup}
+use Rattle.apollo.specs.declared.Verdict.{Verdict}
 use Rattle.apollo.specs.Setup.{leader}
 use Rattle.apollo.specs.Bytes.{same}
 use Rattle.apollo.specs.Frame.{kind, signer, round, height, digest, parent, blockForm, linked, checked}
 use Rattle.apollo.specs.Log.{genesis, slot, filled, store, clearAbove, attach}
 use Rattle.apollo.specs.Masks.{gap}
-use Rattle.apollo.specs.Branch.{lastOf, childOf, firstUncertified, storeAll, grown, Verdict, faulty, judged, judgedAll}
+use Rattle.apollo.specs.Branch.{lastOf, childOf, firstUncertified, storeAll, grown, faulty, judged, judgedAll}
 use Rattle.agreement.specs.Run.{Event, In, Seen}
 use Rattle.agreement.proofs.Tests.{and-true, same-true, by-cond}
 use Rattle.agreement.proofs.Masks.{gap-none}
@@ -23,6 +24,7 @@ use Rattle.agreement.proofs.Slots.{store-same, clear-low}
 use Rattle.agreement.proofs.Frames.{Whole}
 use Rattle.agreement.proofs.Chain.{Held, Joins, within}
 use Rattle.agreement.proofs.Stored.{Stored, store-stored, clear-stored}
+use Rattle.agreement.proofs.Judged.{fault-none}
 
 linked-joins : (p x : List ℕ) → linked p x ≡ true → Joins p x
 unfolding linked
@@ -85,11 +87,7 @@ module _ (s : Setup) (hash : List ℕ → List ℕ) where
       }
 
   block : (x : List ℕ) → faulty hash s x ≡ 0 → Block x
-  unfolding faulty
-  block x e =
-      by-cond (λ v. v ≡ 0 → Block x) (not (checked hash x)) (λ g v. absurd (omega arith))
-      (λ g. by-cond (λ v. v ≡ 0 → Block x) (not (blockForm s x)) (λ h v. absurd (omega arith))
-      (λ h v. formed x (not-false _ g) (not-false _ h))) e
+  block x e = let p = fault-none hash (blockForm s) x e in formed x (p .0) (p .1)
 
   -- each frame of a branch is a block, and the child of the one before
   abbrev pub Row : List ℕ → List (List ℕ) → Type 0

@@ -1,22 +1,23 @@
 -- Branch: the state stays good, nothing committed is lost, and no refusal 2 is met. Assumes that a digest has 32 bytes.
-use Prim.Native.Nat.{ℕ, _+_, _-_, _*_, _/_, _%_, _≤_}
+use Prim.Native.Nat.{ℕ, _+_, _-_, _*_, _/_, _≤_}
 use mathlib.Core.Path.{_≡_, refl, sym, ap, _∙_}
 use mathlib.Core.Option.{Option, none, some}
 use mathlib.Core.List.{List, [], _∷_}
-use mathlib.Core.Bool.{true, false, not, _&&_}
+use mathlib.Core.Bool.{true, false}
 use native.Mathlib.Omega.{arith}
 use lib.ListN.{length, take}
 use lib.Dec.{eqb, ltb}
 use borrow.Author.Tests.{eqb-true, ltb-false}
 use Rattle.apollo.specs.declared.Setup.{Setup}
+use Rattle.apollo.specs.declared.Verdict.{Verdict}
 use Rattle.apollo.specs.Setup.{setupOf}
-use Rattle.apollo.specs.Bytes.{same, within}
-use Rattle.apollo.specs.Frame.{round, height, frames, blockForm, checked}
+use Rattle.apollo.specs.Bytes.{same}
+use Rattle.apollo.specs.Frame.{round, height, framesOf, wholeFrames, blockForm}
 use Rattle.apollo.specs.Log.{attach}
 use Rattle.apollo.specs.Replica.{leads}
 use Rattle.apollo.specs.Enter.{State, tipped, holding, commit}
 use Rattle.apollo.specs.Outcome.{taken}
-use Rattle.apollo.specs.Branch.{lastOf, childOf, firstUncertified, grown, Verdict, faulty, judged, judgedAll, adopting, placed, branched, branchWith}
+use Rattle.apollo.specs.Branch.{lastOf, childOf, firstUncertified, grown, faulty, judged, judgedAll, adopting, placed, branched, branchWith}
 use Rattle.agreement.specs.Run.{Event}
 use Rattle.agreement.proofs.Tests.{clash, same-true, same-of, by-cond}
 use Rattle.agreement.proofs.Slots.{slots-take}
@@ -24,32 +25,24 @@ use Rattle.agreement.proofs.Frames.{Whole, frames-whole}
 use Rattle.agreement.proofs.Stored.{Stored}
 use Rattle.agreement.proofs.Good.{setup-is, hold-good, hold-extends, committed-low, limit-tip}
 use Rattle.agreement.proofs.Effects.{Standing, standing-later, kept-trans, enter-kept}
+use Rattle.agreement.proofs.Judged.{Low, fault-low}
 use Rattle.agreement.proofs.Adopt.{Block, Row, branch-row, Known, grown-stored}
 use Rattle.agreement.proofs.Outcomes.{Fine, taken-fine, refused-fine, refused-plain, guarded-fine}
 
 -- the judgement of frames gives 0, 7, 8 or 9
 module _ (hash : List ℕ → List ℕ) (s : Setup) where
-  abbrev pub Low : ℕ → Type 0
-  Low k = (eqb k 2 ≡ false) × (eqb k 12 ≡ false) × (eqb k 6 ≡ false)
-
-  faulty-low : (x : List ℕ) → Low (faulty hash s x)
-  unfolding faulty
-  faulty-low x =
-      by-cond Low (not (checked hash x)) (λ _. (refl, refl, refl))
-      (λ _. by-cond Low (not (blockForm s x)) (λ _. (refl, refl, refl)) (λ _. (refl, refl, refl)))
-
   judged-low : (k : ℕ) (x : List ℕ) (ys : List (List ℕ)) → Low (judged hash s k x ys .number)
   unfolding judged
   judged-low k x [] = (refl, refl, refl)
   judged-low k x (y ∷ ys) =
       by-cond (λ (v : Verdict). Low (v .number)) (eqb (faulty hash s y) 0)
       (λ _. by-cond (λ (v : Verdict). Low (v .number)) (childOf x y) (λ _. judged-low (k + 1) y ys) (λ _. (refl, refl, refl)))
-      (λ _. faulty-low y)
+      (λ _. fault-low hash (blockForm s) y)
 
   pub judgedAll-low : (x : List ℕ) (ys : List (List ℕ)) → Low (judgedAll hash s x ys .number)
   unfolding judgedAll
   judgedAll-low x ys =
-      by-cond (λ (v : Verdict). Low (v .number)) (eqb (faulty hash s x) 0) (λ _. judged-low 1 x ys) (λ _. faulty-low x)
+      by-cond (λ (v : Verdict). Low (v .number)) (eqb (faulty hash s x) 0) (λ _. judged-low 1 x ys) (λ _. fault-low hash (blockForm s) x)
 
 module _ (s : Setup) (hash : List ℕ → List ℕ) (wide : (xs : List ℕ) → length (hash xs) ≡ 32) (past : List Event) (i : ℕ) (entry : List ℕ)
     (c : State) (st : Standing s past i c) (rests : leads (c .replica) ≡ false) where
@@ -112,7 +105,7 @@ module _ (s : Setup) (hash : List ℕ → List ℕ) (wide : (xs : List ℕ) → 
       (λ _. refused-plain s past i c st rests out 10 0 refl refl)
       (λ l. let r : Block s hash x × Row s hash x xs = rows (eqb-true _ _ j) in
       placed-fine fits x xs (r .0) (r .1) known whole (ltb-false _ _ l) out _ refl))
-      (λ j. let l : Low hash s (judgedAll hash (setupOf (c .replica)) x xs .number) = judgedAll-low hash (setupOf (c .replica)) x xs in
+      (λ j. let l : Low (judgedAll hash (setupOf (c .replica)) x xs .number) = judgedAll-low hash (setupOf (c .replica)) x xs in
       refused-plain s past i c st rests out _ _ (l .0) (l .1))
     where
       rows : judgedAll hash (setupOf (c .replica)) x xs .number ≡ 0 → Block s hash x × Row s hash x xs
@@ -120,13 +113,11 @@ module _ (s : Setup) (hash : List ℕ → List ℕ) (wide : (xs : List ℕ) → 
           branch-row s hash x xs
           (ap (λ k. judgedAll hash k x xs .number) (sym (setup-is s i (c .replica) (st .good .fixed))) ∙ e)
 
-  pub branch-fine : (bytes out : List ℕ)
-      → ((eqb (length bytes % 512) 0 && within 1 (length bytes / 512) (c .replica .«last_round» .0)) ≡ true
-      → Known s hash past (frames (length bytes / 512) bytes))
+  pub branch-fine : (bytes out : List ℕ) → (wholeFrames (c .replica .«last_round» .0) bytes ≡ true → Known s hash past (framesOf bytes))
       → Fine s past i c (branchWith hash c bytes entry out)
   unfolding branchWith
   branch-fine bytes out known =
       guarded-fine s past i c st rests entry out _
-      (λ low fits. by-cond (Fine s past i c) (eqb (length bytes % 512) 0 && within 1 (length bytes / 512) (c .replica .«last_round» .0))
-      (λ e. branched-fine out (frames (length bytes / 512) bytes) fits (known e) (frames-whole (length bytes / 512) bytes (omega arith)))
+      (λ low fits. by-cond (Fine s past i c) (wholeFrames (c .replica .«last_round» .0) bytes)
+      (λ e. branched-fine out (framesOf bytes) fits (known e) (frames-whole (length bytes / 512) bytes (omega arith)))
       (λ _. refused-plain s past i c st rests out 6 0 refl refl))

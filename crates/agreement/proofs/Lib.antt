@@ -10,6 +10,7 @@ pub mod Past
 pub mod Stored
 pub mod Good
 pub mod Effects
+pub mod Judged
 pub mod Adopt
 pub mod Valid
 pub mod Outcomes

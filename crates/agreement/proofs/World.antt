@@ -1,25 +1,22 @@
 -- The invariant of every list of calls that keeps the rules about opens, with SHA-256 as the hash. Assumes nothing.
-use Prim.Native.Nat.{ℕ, _/_, _%_, _<_}
+use Prim.Native.Nat.{ℕ, _<_}
 use mathlib.Core.Path.{_≡_, refl, sym, ap, _∙_, subst}
 use mathlib.Core.Logic.{_⊎_, inl, inr, _≢_, ⊎-elim}
 use mathlib.Core.Option.{Option, none, some}
 use mathlib.Core.List.{List, [], _∷_}
-use mathlib.Core.Bool.{Bool, true, false, _&&_, cond}
+use mathlib.Core.Bool.{Bool, true, false, cond}
 use native.Mathlib.Omega.{arith}
-use lib.ListN.{length}
-use lib.Seq.{take-all}
 use lib.Dec.{eqb}
 use borrow.Author.Tests.{eqb-true, eqb-false}
 use Rattle.sha256.specs.Fips.{sha256}
 use Rattle.sha256.proofs.Hash.{digest-length}
 use Rattle.apollo.specs.declared.Setup.{Setup}
-use Rattle.apollo.specs.Bytes.{within}
-use Rattle.apollo.specs.Frame.{kind, round, frames, checked}
+use Rattle.apollo.specs.Frame.{kind, round, framesOf, wholeFrames}
 use Rattle.apollo.specs.Replica.{leads}
 use Rattle.apollo.specs.Enter.{State}
 use Rattle.apollo.specs.Outcome.{Outcome}
 use Rattle.apollo.specs.Calls.{openCall}
-use Rattle.agreement.specs.Run.{Act, branch, blame, tick, Call, opening, act, Event, handed, emitted, answered, In, Seen, World, start, uncut, framesIn, hand, emit, emittedBy, note, stateOf, after, opened, answer, callAt, step, run}
+use Rattle.agreement.specs.Run.{Act, branch, blame, blames, tick, Call, opening, act, Event, handed, emitted, answered, In, World, start, uncut, framesIn, hand, emit, emittedBy, note, stateOf, after, opened, answer, callAt, step, run}
 use Rattle.agreement.specs.Premises.{Each, Lawful}
 use Rattle.agreement.proofs.Tests.{by-cond, cond-true}
 use Rattle.agreement.proofs.Past.{Grows, emitted-is, emit-grows, emit-back, hand-grows, hand-in, Given, hand-back}
@@ -29,7 +26,7 @@ use Rattle.agreement.proofs.Effects.{Tidy, Standing}
 use Rattle.agreement.proofs.Adopt.{Known}
 use Rattle.agreement.proofs.Outcomes.{Reverts, Fine}
 use Rattle.agreement.proofs.Tick.{tick-fine}
-use Rattle.agreement.proofs.Blame.{blame-fine}
+use Rattle.agreement.proofs.Blame.{handing-fine}
 use Rattle.agreement.proofs.Branch.{branch-fine}
 use Rattle.agreement.proofs.Open.{OpenFine, open-fine}
 
@@ -189,23 +186,10 @@ module _ (s : Setup) where
         }
 
   -- the frames of a buffer that is not cut are seen
-  known-uncut : (past : List Event) (most : ℕ) (bytes : List ℕ) → Known s sha256 past (uncut most bytes)
-      → (eqb (length bytes % 512) 0 && within 1 (length bytes / 512) most) ≡ true
-      → Known s sha256 past (frames (length bytes / 512) bytes)
+  known-uncut : (past : List Event) (most : ℕ) (bytes : List ℕ) → Known s sha256 past (uncut most bytes) → wholeFrames most bytes ≡ true
+      → Known s sha256 past (framesOf bytes)
   unfolding uncut
   known-uncut past most bytes k e = subst (Known s sha256 past) (cond-true _ _ e) k
-
-  -- the one frame of a blame is seen
-  known-one : (past : List Event) (bytes : List ℕ) → Known s sha256 past (uncut 1 bytes) → length bytes ≡ 512
-      → checked sha256 bytes ≡ true → Seen bytes past
-  unfolding frames
-  known-one past bytes k e =
-      let one : length bytes / 512 ≡ 1 = omega arith in
-      let whole : (eqb (length bytes % 512) 0 && within 1 (length bytes / 512) 1) ≡ true =
-      ap (λ n. eqb (n % 512) 0 && within 1 (n / 512) 1) e in
-      let h : Known s sha256 past (frames 1 bytes) =
-      subst (λ n. Known s sha256 past (frames n bytes)) one (known-uncut past 1 bytes k whole) in
-      h bytes (inl (sym (take-all 512 bytes (omega arith))))
 
   -- each call other than open keeps the state: the one place that names them
   act-fine : (past : List Event) (i : ℕ) (c : State) (a : Act) → Known s sha256 past (framesIn c a) → Standing s past i c
@@ -213,7 +197,10 @@ module _ (s : Setup) where
   unfolding answer framesIn
   act-fine past i c (branch bytes entry out) k st r =
       branch-fine s sha256 digest-length past i entry c st r bytes out (known-uncut past (c .replica .«last_round» .0) bytes k)
-  act-fine past i c (blame bytes entry out) k st r = blame-fine s sha256 digest-length past i entry c st r bytes out (known-one past bytes k)
+  act-fine past i c (blame bytes entry out) k st r =
+      handing-fine s sha256 digest-length past i entry c st r 1 bytes out (known-uncut past 1 bytes k)
+  act-fine past i c (blames bytes entry out) k st r =
+      handing-fine s sha256 digest-length past i entry c st r 15 bytes out (known-uncut past 15 bytes k)
   act-fine past i c (tick entry out) k st r = tick-fine s sha256 digest-length past i entry c st r out
 
   -- What a call does to the states: each that was there is still there, and extended.

@@ -1,24 +1,24 @@
 -- Demand 3's list of calls, at all replicas in the order in which they came, and the world that it leaves. Read and fetch change
 -- no record, log or masks: they may stand anywhere, and are left out.
-use Prim.Native.Nat.{ℕ, _/_, _%_}
+use Prim.Native.Nat.{ℕ}
 use mathlib.Core.Path.{_≡_}
 use mathlib.Core.Logic.{_⊎_}
 use mathlib.Core.Option.{Option, none, some}
 use mathlib.Core.List.{List, [], _∷_}
-use mathlib.Core.Bool.{_&&_, cond}
-use lib.ListN.{length}
+use mathlib.Core.Bool.{cond}
 use lib.Dec.{eqb}
 use Rattle.sha256.specs.Fips.{sha256}
-use Rattle.apollo.specs.Bytes.{within}
-use Rattle.apollo.specs.Frame.{frames, framesOf, checked}
+use Rattle.apollo.specs.Frame.{frames, framesOf, wholeFrames, checked}
 use Rattle.apollo.specs.Enter.{State}
 use Rattle.apollo.specs.Outcome.{Outcome}
-use Rattle.apollo.specs.Calls.{openCall, branchCall, blameCall, tickCall}
+use Rattle.apollo.specs.Calls.{openCall, branchCall, blameCall, blamesCall, tickCall}
 
 -- a call other than open, with the bytes handed in and the buffers lent, whatever they hold
 pub data Act : Type 0 where
   branch : (bytes entry out : List ℕ) → Act
   blame : (bytes entry out : List ℕ) → Act
+  -- document 02, F-1: a set of blames
+  blames : (bytes entry out : List ℕ) → Act
   tick : (entry out : List ℕ) → Act
 
 -- a call
@@ -52,13 +52,13 @@ start = record { states = λ i. none; past = [] }
 
 -- the frames of a buffer of 1 to `most` whole frames; any other buffer is cut (refusal 6), and no frame is handed in by it
 unfoldable pub uncut : (most : ℕ) (bytes : List ℕ) → List (List ℕ)
-uncut most bytes =
-    cond (eqb (length bytes % 512) 0 && within 1 (length bytes / 512) most) (framesOf bytes) []
+uncut most bytes = cond (wholeFrames most bytes) (framesOf bytes) []
 
 -- the frames that a call hands in at a replica in state c, whatever it answers
 unfoldable pub framesIn : State → Act → List (List ℕ)
 framesIn c (branch bytes entry out) = uncut (c .replica .«last_round» .0) bytes
 framesIn c (blame bytes entry out) = uncut 1 bytes
+framesIn c (blames bytes entry out) = uncut 15 bytes
 framesIn c (tick entry out) = []
 
 -- the past after some frames were handed in: those with a right check count
@@ -95,6 +95,7 @@ opened w i o = cond (eqb (o .answer .number) 0) (after w i o) (record { states =
 unfoldable pub answer : State → Act → Outcome
 answer c (branch bytes entry out) = branchCall c bytes entry out
 answer c (blame bytes entry out) = blameCall c bytes entry out
+answer c (blames bytes entry out) = blamesCall c bytes entry out
 answer c (tick entry out) = tickCall c entry out
 
 -- A call at replica i with the state that its last call left: its frames are handed in, and it is answered. Without a state

@@ -6,17 +6,18 @@ use mathlib.Core.Bool.{true}
 use Rattle.sha256.specs.Fips.{sha256}
 use Rattle.apollo.specs.Bytes.{zeros, number2, number4, same}
 use Rattle.apollo.specs.Setup.{leader}
-use Rattle.apollo.specs.Frame.{frames, checked, blockForm, blameForm, linked, blockHead, blameHead, sealed, makeBlock, makeBlame}
+use Rattle.apollo.specs.Frame.{frames, wholeFrames, checked, blockForm, blameForm, linked, blockHead, blameHead, sealed, makeBlock, makeBlame}
 use Rattle.apollo.specs.Log.{genesis, slot, store, clearAbove, attach, highest}
 use Rattle.apollo.specs.Masks.{bit, setBit, count, certified, gap}
 use Rattle.apollo.specs.Replica.{fresh, leads, validSetup, validReplica}
 use Rattle.apollo.specs.Enter.{State, commitLimit, commit, tipped, waiting, hearing, holding, ownBlock, proposing, enterRound, settle}
+use Rattle.apollo.specs.Judging.{fault, judgedEach}
 use Rattle.apollo.specs.Outcome.{Outcome, taken, guarded}
 use Rattle.apollo.specs.Open.{openWith}
-use Rattle.apollo.specs.Branch.{lastOf, firstUncertified, storeAll, grown, faulty, judged, judgedAll, adopting, placed, branched, branchWith}
-use Rattle.apollo.specs.Blame.{heard, blameWith}
+use Rattle.apollo.specs.Branch.{lastOf, firstUncertified, storeAll, grown, judged, judgedAll, adopting, placed, branched, branchWith}
+use Rattle.apollo.specs.Blame.{oneSet, anyFresh, addBlames, hearingAll, heard, handing}
 use Rattle.apollo.specs.Tick.{blaming, ticked, tickWith}
-use Rattle.apollo.specs.Calls.{openCall, branchCall, blameCall, tickCall}
+use Rattle.apollo.specs.Calls.{openCall, branchCall, blameCall, blamesCall, tickCall}
 use Rattle.witness.proofs.Frames.{d1, d3, d4, e0, e2, head1, head3, head4, head-m0, head-m2, b1, b3, b4, m0, m2, name1, name3, name4, name-m0, name-m2, checked1, checked3, checked4, checked-m0, checked-m2}
 
 unfoldable pub out : List ℕ
@@ -62,7 +63,7 @@ made c xs = taken (record { state = c; emitted = xs }) out
 
 -- all that computes, but for SHA-256 and the test of a check
 unfoldable pub all : Unit {0}
-unfolding out log0 log1 log3 log4 stateAt made b1 b3 b4 m0 m2 head1 head3 head4 head-m0 head-m2 d1 d3 d4 e0 e2 blockHead blameHead zeros number2 number4 same leader frames blockForm blameForm linked sealed makeBlock makeBlame genesis slot store clearAbove attach highest bit setBit count certified gap fresh leads validSetup validReplica commitLimit commit tipped waiting hearing holding ownBlock proposing enterRound settle taken guarded openWith lastOf firstUncertified storeAll grown faulty judged judgedAll adopting placed branched branchWith heard blameWith blaming ticked tickWith
+unfolding out log0 log1 log3 log4 stateAt made b1 b3 b4 m0 m2 head1 head3 head4 head-m0 head-m2 d1 d3 d4 e0 e2 blockHead blameHead zeros number2 number4 same leader frames wholeFrames blockForm blameForm linked sealed makeBlock makeBlame genesis slot store clearAbove attach highest bit setBit count certified gap fresh leads validSetup validReplica commitLimit commit tipped waiting hearing holding ownBlock proposing enterRound settle taken guarded openWith lastOf firstUncertified storeAll grown fault judgedEach judged judgedAll adopting placed branched branchWith oneSet anyFresh addBlames hearingAll heard handing blaming ticked tickWith
 all = tt
 
 -- Replica 0 opens, leads round 1 and emits block 1: for any hash, and then with the digest.
@@ -131,13 +132,14 @@ pub tick-2 : tickCall heard-2 [] out ≡ made skipped-2 (m2 ∷ b3 ∷ [])
 unfolding ticks-2 skipped-2 log3 m2 b3
 tick-2 = tick-2-by sha256 ∙ ap₂ (λ d e. ticks-2 (head-m2 ++ d) (head3 ++ e)) name-m2 name3
 
--- Replica 0 hears that blame: round 2 is certified here too, and it waits for round 3.
+-- Replica 0 hears both blames as a set: its own is passed over, the other is fresh. Round 2 is certified here too, and it waits for
+-- round 3.
 unfoldable pub skipped-0 : State
 skipped-0 = stateAt 0 3 1 (1, 1) (0, 0) log1 5
 
-pub hear-2 : blameCall blaming-0 m2 [] out ≡ made skipped-0 []
+pub hear-set : blamesCall blaming-0 (m0 ++ m2) [] out ≡ made skipped-0 []
 unfolding all blaming-0 skipped-0
-hear-2 = rw checked-m2 refl
+hear-set = rw (checked-m0, checked-m2) refl
 
 -- It takes block 3, leads round 4 and emits block 4, which commits block 3.
 takes-3 : List ℕ → Outcome

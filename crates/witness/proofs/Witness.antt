@@ -4,7 +4,7 @@ use Prim.Native.Nat.{ℕ}
 use mathlib.Core.Path.{_≡_, refl, sym, ap, _∙_, subst}
 use mathlib.Core.Logic.{_⊎_, inl, inr}
 use mathlib.Core.Option.{some}
-use mathlib.Core.List.{List, [], _∷_}
+use mathlib.Core.List.{List, [], _∷_, _++_}
 use mathlib.Core.Bool.{Bool, false, not, cond}
 use native.Mathlib.Omega.{arith}
 use lib.Dec.{eqb}
@@ -15,19 +15,19 @@ use Rattle.apollo.specs.Frame.{kind, signer, round, digest}
 use Rattle.apollo.specs.Log.{genesis, chain}
 use Rattle.apollo.specs.Masks.{count}
 use Rattle.apollo.specs.Enter.{State}
-use Rattle.agreement.specs.Run.{Act, branch, blame, tick, Call, opening, act, Event, handed, emitted, answered, In, Seen, World, start, uncut, framesIn, emit, answer, run}
+use Rattle.agreement.specs.Run.{Act, branch, blame, blames, tick, Call, opening, act, Event, handed, emitted, answered, In, Seen, World, start, uncut, framesIn, emit, answer, run}
 use Rattle.agreement.specs.Premises.{Mostly, Patient, Distinct, Premises}
 use Rattle.agreement.specs.Claim.{committed, Agreed}
 use Rattle.agreement.proofs.Agreement.{agreement}
 use Rattle.witness.proofs.Frames.{d1, d3, d4, e0, b1, b3, b4, m0, m2, checked1, checked3, checked4, checked-m0, checked-m2}
-use Rattle.witness.proofs.Answers.{out, log0, all, opened-0, opened-2, first-2, blaming-0, heard-2, skipped-2, skipped-0, last-0, last-2, open-0, open-2, take-1, tick-0, hear-0, tick-2, hear-2, take-3, take-4}
+use Rattle.witness.proofs.Answers.{out, log0, all, opened-0, opened-2, first-2, blaming-0, heard-2, skipped-2, skipped-0, last-0, last-2, open-0, open-2, take-1, tick-0, hear-0, tick-2, hear-set, take-3, take-4}
 use Rattle.witness.proofs.Worlds.{given, next, Goes, stay, goes, lawful, unforged, opens, acts}
 
 -- The list: f = 1, T = 4, a timeout of one tick; replica 1, the leader of round 2, is missing.
 --   0 opens and emits block 1; 2 opens; 2 takes block 1
 --   0 ticks and blames round 2; 2 hears that
 --   2 ticks and blames round 2, which is now certified: it enters round 3 and emits block 3 on block 1
---   0 hears that blame and passes round 2; it takes block 3, emits block 4 and commits block 3
+--   0 hears both blames as a set, its own bit standing already, and passes round 2; it takes block 3, emits block 4 and commits block 3
 --   2 takes block 4 and commits block 3
 openAt : ℕ → Call
 openAt i = opening i 1 1 4 log0 (zeros 4) [] out
@@ -38,13 +38,16 @@ taking b = branch b [] out
 hearing : List ℕ → Act
 hearing m = blame m [] out
 
+hearingSet : List ℕ → Act
+hearingSet ms = blames ms [] out
+
 ticking : Act
 ticking = tick [] out
 
 pub calls : List (ℕ × Call)
 calls =
     (0, openAt 0) ∷ (2, openAt 2) ∷ (2, act (taking b1)) ∷ (0, act ticking) ∷ (2, act (hearing m0)) ∷ (2, act ticking)
-    ∷ (0, act (hearing m2)) ∷ (0, act (taking b3)) ∷ (2, act (taking b4)) ∷ []
+    ∷ (0, act (hearingSet (m0 ++ m2))) ∷ (0, act (taking b3)) ∷ (2, act (taking b4)) ∷ []
 
 -- the worlds that it goes through
 w1 : World
@@ -66,7 +69,7 @@ w6 : World
 w6 = next w5 2 [] skipped-2 (m2 ∷ b3 ∷ [])
 
 w7 : World
-w7 = next w6 0 (m2 ∷ []) skipped-0 []
+w7 = next w6 0 (m0 ∷ m2 ∷ []) skipped-0 []
 
 w8 : World
 w8 = next w7 0 (b3 ∷ []) last-0 (b4 ∷ [])
@@ -75,7 +78,7 @@ w9 : World
 w9 = next w8 2 (b4 ∷ []) last-2 []
 
 worlds : Unit {0}
-unfolding openAt taking hearing ticking calls start given next emit w1 w2 w3 w4 w5 w6 w7 w8 w9
+unfolding openAt taking hearing hearingSet ticking calls start given next emit w1 w2 w3 w4 w5 w6 w7 w8 w9
 worlds = tt
 
 -- replicas 0 and 2 are correct
@@ -98,10 +101,10 @@ steps =
     (acts setup correct w3 0 ticking opened-0 blaming-0 [] (m0 ∷ []) refl refl tt tt tick-0 (refl, tt)
     (acts setup correct w4 2 (hearing m0) first-2 heard-2 (m0 ∷ []) [] refl refl (checked-m0, tt) (inr (inl (by m0 0 refl)), tt) hear-0 tt
     (acts setup correct w5 2 ticking heard-2 skipped-2 [] (m2 ∷ b3 ∷ []) refl refl tt tt tick-2 (refl, (refl, tt))
-    (acts setup correct w6 0 (hearing m2) blaming-0 skipped-0 (m2 ∷ []) [] refl refl (checked-m2, tt)
-    (inr (inr (inl (by m2 2 refl))), tt) hear-2 tt
+    (acts setup correct w6 0 (hearingSet (m0 ++ m2)) blaming-0 skipped-0 (m0 ∷ m2 ∷ []) [] refl refl (checked-m0, (checked-m2, tt))
+    (inr (inr (inr (inr (inr (inr (inl (by m0 0 refl))))))), (inr (inr (inl (by m2 2 refl))), tt)) hear-set tt
     (acts setup correct w7 0 (taking b3) skipped-0 last-0 (b3 ∷ []) (b4 ∷ []) refl refl (checked3, tt)
-    (inr (inr (inr (inl (by b3 2 refl)))), tt) take-3 (refl, tt)
+    (inr (inr (inr (inr (inl (by b3 2 refl))))), tt) take-3 (refl, tt)
     (acts setup correct w8 2 (taking b4) skipped-2 last-2 (b4 ∷ []) [] refl refl (checked4, tt) (inr (inl (by b4 0 refl)), tt) take-4 tt
     stay))))))))
 
@@ -144,7 +147,7 @@ is2 = inr (inr (inr (inr refl)))
 
 known-all : KnownAll (w9 .past)
 unfolding worlds
-known-all = (tt, (is4, (tt, (is4, (is3, (tt, (is2, (tt, (is3, (is2, (tt, (is0, (tt, (is0, (tt, (is1, (tt, (tt, (is1, tt)))))))))))))))))))
+known-all = (tt, (is4, (tt, (is4, (is3, (tt, (is2, (is0, (tt, (is3, (is2, (tt, (is0, (tt, (is0, (tt, (is1, (tt, (tt, (is1, tt))))))))))))))))))))
 
 known : (e : Event) → In e (run start calls .past) → Known e
 known e p = known-in (w9 .past) known-all e (subst (λ (w : World). In e (w .past)) (goes setup correct steps) p)
