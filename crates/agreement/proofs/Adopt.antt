@@ -24,7 +24,7 @@ use Rattle.agreement.proofs.Slots.{store-same, clear-low}
 use Rattle.agreement.proofs.Frames.{Whole}
 use Rattle.agreement.proofs.Chain.{Held, Joins, within}
 use Rattle.agreement.proofs.Stored.{Stored, store-stored, clear-stored}
-use Rattle.agreement.proofs.Judged.{fault-none}
+use Rattle.apollo.proofs.Fault.{fault-none}
 
 linked-joins : (p x : List ℕ) → linked p x ≡ true → Joins p x
 unfolding linked

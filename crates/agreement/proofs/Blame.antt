@@ -18,7 +18,8 @@ use Rattle.agreement.specs.Run.{Event, In, Seen}
 use Rattle.agreement.proofs.Tests.{and-true, by-cond}
 use Rattle.agreement.proofs.Good.{Blamed, setup-is, Extends, extends-refl, extends-trans, hear-extends}
 use Rattle.agreement.proofs.Effects.{Standing, Kept, kept-trans, hear-standing, settle-kept}
-use Rattle.agreement.proofs.Judged.{Low, Passes, each-low, each-none}
+use Rattle.apollo.proofs.Fault.{Passes}
+use Rattle.agreement.proofs.Judged.{Low, each-low, each-none}
 use Rattle.agreement.proofs.Adopt.{Known}
 use Rattle.agreement.proofs.Outcomes.{Fine, taken-fine, refused-plain, guarded-fine}
 

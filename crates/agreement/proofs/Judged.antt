@@ -3,13 +3,13 @@ use Prim.Native.Nat.{ℕ, _+_}
 use mathlib.Core.Path.{_≡_, refl, subst⁻¹}
 use mathlib.Core.Logic.{⊎-elim}
 use mathlib.Core.List.{List, [], _∷_}
-use mathlib.Core.Bool.{Bool, true, false, not}
-use native.Mathlib.Omega.{arith}
+use mathlib.Core.Bool.{Bool, false, not}
 use lib.Dec.{eqb}
-use borrow.Author.Tests.{eqb-true, eqb-false, not-false}
+use borrow.Author.Tests.{eqb-true, eqb-false}
 use Rattle.apollo.specs.declared.Verdict.{Verdict}
 use Rattle.apollo.specs.Frame.{checked}
 use Rattle.apollo.specs.Judging.{fault, judgedEach}
+use Rattle.apollo.proofs.Fault.{Passes, fault-none}
 use Rattle.agreement.specs.Run.{In}
 use Rattle.agreement.proofs.Tests.{by-cond}
 
@@ -18,21 +18,11 @@ abbrev pub Low : ℕ → Type 0
 Low k = (eqb k 2 ≡ false) × (eqb k 12 ≡ false) × (eqb k 6 ≡ false)
 
 module _ (hash : List ℕ → List ℕ) (form : List ℕ → Bool) where
-  -- a right check, and the form
-  abbrev pub Passes : List ℕ → Type 0
-  Passes x = (checked hash x ≡ true) × (form x ≡ true)
-
   pub fault-low : (x : List ℕ) → Low (fault hash form x)
   unfolding fault
   fault-low x =
       by-cond Low (not (checked hash x)) (λ _. (refl, refl, refl))
       (λ _. by-cond Low (not (form x)) (λ _. (refl, refl, refl)) (λ _. (refl, refl, refl)))
-
-  pub fault-none : (x : List ℕ) → fault hash form x ≡ 0 → Passes x
-  unfolding fault
-  fault-none x e =
-      by-cond (λ v. v ≡ 0 → Passes x) (not (checked hash x)) (λ g v. absurd (omega arith))
-      (λ g. by-cond (λ v. v ≡ 0 → Passes x) (not (form x)) (λ h v. absurd (omega arith)) (λ h v. (not-false _ g, not-false _ h))) e
 
   pub each-low : (k : ℕ) (xs : List (List ℕ)) → Low (judgedEach hash form k xs .number)
   unfolding judgedEach
@@ -40,10 +30,10 @@ module _ (hash : List ℕ → List ℕ) (form : List ℕ → Bool) where
   each-low k (x ∷ xs) =
       by-cond (λ (v : Verdict). Low (v .number)) (eqb (fault hash form x) 0) (λ _. each-low (k + 1) xs) (λ _. fault-low x)
 
-  pub each-none : (k : ℕ) (xs : List (List ℕ)) → judgedEach hash form k xs .number ≡ 0 → (x : List ℕ) → In x xs → Passes x
+  pub each-none : (k : ℕ) (xs : List (List ℕ)) → judgedEach hash form k xs .number ≡ 0 → (x : List ℕ) → In x xs → Passes hash form x
   unfolding judgedEach
   each-none k [] e x p = absurd p
   each-none k (y ∷ ys) e x p =
-      by-cond (λ (v : Verdict). v .number ≡ 0 → Passes x) (eqb (fault hash form y) 0)
-      (λ g v. ⊎-elim (λ q. subst⁻¹ Passes q (fault-none y (eqb-true _ _ g))) (λ q. each-none (k + 1) ys v x q) p)
+      by-cond (λ (v : Verdict). v .number ≡ 0 → Passes hash form x) (eqb (fault hash form y) 0)
+      (λ g v. ⊎-elim (λ q. subst⁻¹ (Passes hash form) q (fault-none hash form y (eqb-true _ _ g))) (λ q. each-none (k + 1) ys v x q) p)
       (λ g v. absurd (eqb-false _ _ g v)) e

@@ -3,6 +3,7 @@ pub mod Tests
 pub mod Validity
 pub mod Slots
 pub mod Frames
+pub mod Fault
 pub mod Single
 pub mod Judging
 pub mod Made

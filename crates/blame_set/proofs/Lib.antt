@@ -1,3 +1,4 @@
 pub mod Each
 pub mod Marked
 pub mod Judge
+pub mod Answer

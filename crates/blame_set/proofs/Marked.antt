@@ -15,12 +15,18 @@ use Rattle.apollo.specs.Frame.{signer, blameForm}
 use Rattle.apollo.specs.Judging.{verdict, fault, judgedEach}
 use Rattle.frame.proofs.Frames.{rest, rest-next, frame-part}
 use Rattle.frame_forms.proofs.Facts.{BlameFields, blame-fields}
-use Rattle.frame_forms.proofs.Fault.{formed}
+use Rattle.apollo.proofs.Fault.{fault-none}
 use Rattle.blame_set.specs.Set.{Marked}
 
 none-first : (z : Bool) (k i : ℕ) (v : Verdict) → eqb k 0 ≡ z → cond z v (verdict k i) .number ≡ 0 → (k ≡ 0) × (v .number ≡ 0)
 none-first true k i v e h = (eqb-true k 0 e, h)
 none-first false k i v e h = absurd (eqb-false k 0 e h)
+
+-- the frames of a set that nothing refuses passed 7 and 8
+pub none-second : (w z : Bool) (u v : Verdict) → eqb (v .number) 0 ≡ z → cond w (cond z u v) (verdict 6 0) .number ≡ 0 → v .number ≡ 0
+none-second true true u v e h = eqb-true (v .number) 0 e
+none-second true false u v e h = h
+none-second false z u v e h = absurd (omega arith)
 
 pub each-marked : (s : Setup) → s .f ≤ 7 → (i : ℕ) (xs : List (List ℕ)) → judgedEach sha256 (blameForm s) i xs .number ≡ 0 → Marked xs
 unfolding judgedEach
@@ -28,7 +34,7 @@ each-marked s l i [] e = tt
 each-marked s l i (x ∷ xs) e =
     let k : ℕ = fault sha256 (blameForm s) x in
     let p = none-first (eqb k 0) k i (judgedEach sha256 (blameForm s) (i + 1) xs) refl e in
-    let f : BlameFields s x = blame-fields s x (formed (blameForm s) x (p .0)) in
+    let f : BlameFields s x = blame-fields s x (fault-none sha256 (blameForm s) x (p .0) .1) in
     (omega (arith, f .by-replica), each-marked s l (i + 1) xs (p .1))
 
 -- frame i, and those after it

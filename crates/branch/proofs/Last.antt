@@ -16,7 +16,7 @@ use Rattle.apollo.specs.Log.{attach}
 use Rattle.apollo.specs.declared.Verdict.{Verdict}
 use Rattle.apollo.specs.Branch.{lastOf, childOf, faulty, judged, judgedAll}
 use Rattle.frame_forms.proofs.Facts.{BlockFields, block-fields}
-use Rattle.frame_forms.proofs.Fault.{formed}
+use Rattle.apollo.proofs.Fault.{fault-none}
 use Rattle.log.specs.Slots.{Slotted}
 use Rattle.branch_links.specs.Judged.{judgedFrames}
 use Rattle.branch_links.proofs.Ordered.{step}
@@ -35,7 +35,7 @@ slot-first : (s : Setup) (x : List ℕ) (ys : List (List ℕ)) → faulty sha256
     → Slotted (512 * s .«last_round» .0) (x ∷ ys)
 unfolding Slotted
 slot-first s x ys f h =
-    let b : BlockFields s x = block-fields s x (formed (blockForm s) x f) in
+    let b : BlockFields s x = block-fields s x (fault-none sha256 (blockForm s) x f .1) in
     (b .round-low, omega (arith, b .round-high), h)
 
 sound : (s : Setup) (k : ℕ) (x : List ℕ) (ys : List (List ℕ)) → faulty sha256 s x ≡ 0 → judged sha256 s k x ys .number ≡ 0 → Sound s x ys
@@ -78,5 +78,5 @@ branch-sound r log masks bytes e =
     in (
       rw f (g .slots),
       block-fields (setupOf r) (lastFrame bytes)
-          (formed (blockForm (setupOf r)) (lastFrame bytes) (ap (faulty sha256 (setupOf r)) (last-is (r .«last_round» .0) bytes w) ∙ g .last)),
+          (fault-none sha256 (blockForm (setupOf r)) (lastFrame bytes) (ap (faulty sha256 (setupOf r)) (last-is (r .«last_round» .0) bytes w) ∙ g .last) .1),
     )

@@ -18,7 +18,7 @@ use Rattle.apollo.specs.Branch.{childOf, faulty, judged, judgedAll}
 use Rattle.apollo.proofs.Tests.{and-true}
 use Rattle.apollo.proofs.Frames.{Whole, frames-whole}
 use Rattle.frame_forms.proofs.Facts.{BlockFields, block-fields}
-use Rattle.frame_forms.proofs.Fault.{formed}
+use Rattle.apollo.proofs.Fault.{fault-none}
 use Rattle.branch_links.specs.Judged.{judgedFrames}
 use Rattle.branch_links.specs.Ordered.{Ordered}
 use Rattle.branch_links.proofs.Attaching.{attach-le}
@@ -52,7 +52,7 @@ rising s k x [] r e w = r
 rising s k x (y ∷ ys) r e w =
     let p : Step (faulty sha256 s y) (childOf x y) (judged sha256 s (k + 1) y ys) =
     step (eqb (faulty sha256 s y) 0) (childOf x y) (faulty sha256 s y) k (judged sha256 s (k + 1) y ys) refl e in
-    let f : (1 ≤ round y) × (round y ≤ s .«last_round» .0) = form-round s y (formed (blockForm s) y (p .sound)) in
+    let f : (1 ≤ round y) × (round y ≤ s .«last_round» .0) = form-round s y (fault-none sha256 (blockForm s) y (p .sound) .1) in
     (w .0, ltb-true (round x) (round y) ((and-true (linked x y) (ltb (round x) (round y)) (p .follows)) .1), rising s (k + 1) y ys (f .1) (p .onward) (w .1))
 
 -- a judged branch of n frames whose first frame attaches to round a
@@ -64,7 +64,7 @@ ordered s log b (suc n) a g h e d =
     let x : List ℕ = take 512 b in
     let v : Verdict = judged sha256 s 1 x (frames n (drop 512 b)) in
     let p : Step (faulty sha256 s x) true v = step (eqb (faulty sha256 s x) 0) true (faulty sha256 s x) 0 v refl e in
-    let f : (1 ≤ round x) × (round x ≤ s .«last_round» .0) = form-round s x (formed (blockForm s) x (p .sound)) in
+    let f : (1 ≤ round x) × (round x ≤ s .«last_round» .0) = form-round s x (fault-none sha256 (blockForm s) x (p .sound) .1) in
     let l : a ≤ round x - 1 = attach-le log x (round x - 1) a d in
     let w : Whole (frames (suc n) b) = frames-whole (suc n) b h in
     (w .0, omega (arith, f .0), rising s 1 x (frames n (drop 512 b)) (f .1) (p .onward) (w .1))

@@ -1,36 +1,49 @@
--- A blame behind its refusals. Assumes nothing.
+-- Blames behind their refusals. Assumes nothing.
 use mathlib.Core.Path.{_≡_, sym, _∙_}
 use mathlib.Core.List.{List}
-use Prim.Native.Nat.{ℕ, _≤_, _<_}
+use Prim.Native.Nat.{ℕ, _≤_}
 use native.Mathlib.Omega.{arith}
 use lib.ListN.{length}
+use borrow.Author.Tests.{eq-eqb, ne-eqb}
 use Rattle.sha256.specs.Fips.{sha256}
 use Rattle.apollo.specs.declared.Replica.{Replica}
 use Rattle.apollo.specs.declared.Answer.{Answer}
-use Rattle.apollo.specs.Frame.{round, signer}
-use Rattle.apollo.specs.Enter.{hearing, settle, state}
-use Rattle.apollo.specs.Outcome.{Outcome, taken, outcome}
-use Rattle.apollo.specs.Blame.{blameWith}
-use Rattle.refusals.specs.Number.{blameNumber}
-use Rattle.refusals.proofs.Passed.{blame-passed}
-use Rattle.refusals.proofs.Answer.{blame-by}
+use Rattle.apollo.specs.declared.Verdict.{Verdict}
+use Rattle.apollo.specs.Frame.{round, framesOf}
+use Rattle.apollo.specs.Enter.{settle, state}
+use Rattle.apollo.specs.Outcome.{Outcome, refused, taken, outcome}
+use Rattle.apollo.specs.Blame.{addBlames, hearingAll, handing}
+use Rattle.frame.specs.Ends.{firstFrame}
+use Rattle.blame_set.specs.Set.{Marked, answered}
+use Rattle.refusals.specs.Blames.{guardedSet}
+use Rattle.refusals.proofs.Passed.{Passed, set-passed}
+use Rattle.refusals.proofs.Answer.{set-by}
 use Rattle.tip.specs.Ready.{Ready}
 use Rattle.calls.specs.Refused.{refusedAnswer}
-use Rattle.calls.proofs.Answers.{refused-by, taken-by, passed-ready}
+use Rattle.calls.proofs.Answers.{passed-ready}
 
-module _ (r : Replica) (log masks entry out : List ℕ) where
-  module _ (x : List ℕ) (n : ℕ) (en : n ≡ blameNumber r log masks x (length entry) (length out)) where
-    pub blame-refused : (a : Answer) → (n ≡ 0 → ⊥) → a ≡ refusedAnswer r n 0
-        → outcome a log masks out ≡ blameWith sha256 (state r log masks) x entry out
-    blame-refused a h ea = refused-by (state r log masks) out _ _ n en a h ea ∙ sym (blame-by (state r log masks) entry out x)
+module _ (most : ℕ) (r : Replica) (log masks entry out x : List ℕ) (v : Verdict)
+    (ev : v ≡ guardedSet most r log masks x (length entry) (length out)) where
+  pub set-refused : (a : Answer) → (v .number ≡ 0 → ⊥) → a ≡ refusedAnswer r (v .number) (v .place)
+      → outcome a log masks out ≡ handing sha256 most (state r log masks) x entry out
+  unfolding answered refused
+  set-refused a h ea = rw (set-by (state r log masks) entry out x most, ← ev, ne-eqb (v .number) 0 h, ea)
 
-    -- what hearing asks for
-    pub blame-asks : (i : ℕ) → n ≡ 0 → i ≡ signer x → Ready r log entry out × (r .round .0 ≤ r .«last_round» .0) × (i < 16)
-    blame-asks i z ei =
-        let p = blame-passed r log masks (length entry) (length out) x (sym en ∙ z) in
-        (passed-ready r log entry out (p .0) (r .timer .0) out (omega (arith, p .0 .out-least)), p .0 .round-last, rw ei (p .1))
+  module _ (z : v .number ≡ 0) where
+    set-is-passed : Passed r log (length entry) (length out) × Marked (framesOf x)
+    set-is-passed = set-passed r log masks (length entry) (length out) most x (rw ev at z)
 
-    pub blame-taken : (k i : ℕ) (o : Outcome) → n ≡ 0 → k ≡ round x → i ≡ signer x
-        → o ≡ taken (settle sha256 entry (hearing (state r log masks) k i) k) out → o ≡ blameWith sha256 (state r log masks) x entry out
-    blame-taken k i o z ek ei e =
-        rw (ek, ei) at e ∙ taken-by (state r log masks) out _ _ n en z ∙ sym (blame-by (state r log masks) entry out x)
+    -- what adding and settling ask for
+    pub set-has-bits : Marked (framesOf x)
+    set-has-bits = set-is-passed .1
+
+    pub set-asks : Ready r log entry out × (r .round .0 ≤ r .«last_round» .0)
+    set-asks =
+        let p = set-is-passed .0 in
+        (passed-ready r log entry out p (r .timer .0) out (omega (arith, p .out-least)), p .round-last)
+
+    pub set-taken : (masks′ f : List ℕ) (q : ℕ) (o : Outcome) → masks′ ≡ addBlames masks (framesOf x) → f ≡ firstFrame x → q ≡ round f
+        → o ≡ taken (settle sha256 entry (state r log masks′) q) out → o ≡ handing sha256 most (state r log masks) x entry out
+    unfolding answered hearingAll
+    set-taken masks′ f q o em ef eq e =
+        rw (em, eq, ef) at e ∙ sym (rw (set-by (state r log masks) entry out x most, ← ev, eq-eqb (v .number) 0 z))

@@ -1,8 +1,36 @@
-// The call blame. The answer and the lent buffers are those of the definition, refused or not.
+// The calls blame and blames: one frame, or a set of up to 15. The answer and the lent buffers are those of the definitions, refused
+// or not.
 use apollo::Answer;
 use apollo::Replica;
 ghost use mathlib.Core.Path.{_≡_};
-ghost use Rattle.apollo.specs.Calls.{state, outcome, blameCall};
+ghost use Prim.Native.Nat.{_≤_};
+ghost use Rattle.sha256.specs.Fips.{sha256};
+ghost use Rattle.apollo.specs.Blame.{handing};
+ghost use Rattle.apollo.specs.Calls.{state, outcome, blameCall, blamesCall};
+
+// Hands in 1 to `most` blames. Nothing is set before the last is judged.
+fn hand_in(
+    most: u32,
+    replica: Replica,
+    log: &mut [u8],
+    masks: &mut [u16],
+    frames: &[u8],
+    entry: &[u8],
+    out: &mut [u8],
+) -> Answer
+    requires { ⌜ most ≤ 15 ⌝ }
+    ensures { λ a. ⌜ outcome a (now (log .exit)) (now (masks .exit)) (now (out .exit))
+        ≡ handing sha256 most (state replica (now (log .entry)) (now (masks .entry))) (now (frames .entry)) (now (entry .entry))
+        (now (out .entry)) ⌝ }
+{
+    let judged = refusals::of_blames(most, replica, log, masks, frames, entry.len(), out.len());
+    if judged.number != 0 {
+        return calls::refused(replica, judged.number, judged.place);
+    }
+    blame_set::add_blames(masks, frames);
+    let round = frame::round(slices::part(frames, 0, 512));
+    rounds::settle(replica, log, masks, round, entry, out)
+}
 
 // Hands in a blame.
 pub fn blame(
@@ -17,10 +45,21 @@ pub fn blame(
         ≡ blameCall (state replica (now (log .entry)) (now (masks .entry))) (now (frame .entry)) (now (entry .entry))
         (now (out .entry)) ⌝ }
 {
-    let number = refusals::of_blame(replica, log, masks, frame, entry.len(), out.len());
-    if number != 0 {
-        return calls::refused(replica, number, 0);
-    }
-    let round = frame::round(frame);
-    rounds::hear(replica, log, masks, round, frame::signer(frame), entry, out)
+    hand_in(1, replica, log, masks, frame, entry, out)
+}
+
+// Hands in a set of blames.
+pub fn blames(
+    replica: Replica,
+    log: &mut [u8],
+    masks: &mut [u16],
+    frames: &[u8],
+    entry: &[u8],
+    out: &mut [u8],
+) -> Answer
+    ensures { λ a. ⌜ outcome a (now (log .exit)) (now (masks .exit)) (now (out .exit))
+        ≡ blamesCall (state replica (now (log .entry)) (now (masks .entry))) (now (frames .entry)) (now (entry .entry))
+        (now (out .entry)) ⌝ }
+{
+    hand_in(15, replica, log, masks, frames, entry, out)
 }

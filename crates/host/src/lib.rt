@@ -11,14 +11,14 @@ ghost use mathlib.Core.Path.{_≡_};
 ghost use mathlib.Core.Bool.{true};
 ghost use Rattle.sha256.specs.Fips as Fips;
 ghost use Rattle.apollo.specs.Calls.{state, outcome, fetched};
-ghost use Rattle.apollo.specs.Calls.{openCall, branchCall, blameCall, tickCall, readCall, fetchCall, mayCopy};
+ghost use Rattle.apollo.specs.Calls.{openCall, branchCall, blameCall, blamesCall, tickCall, readCall, fetchCall, mayCopy};
 
 // The version of the interface: APOLLO_VERSION of the header that belongs to this archive.
 #[no_mangle]
 pub extern "C" fn apollo_version() -> u32
-    ensures { λ v. ⌜ v ≡ 1 ⌝ }
+    ensures { λ v. ⌜ v ≡ 2 ⌝ }
 {
-    1
+    2
 }
 
 #[no_mangle]
@@ -69,6 +69,22 @@ pub extern "C" fn apollo_blame(
         (now (out .entry)) ⌝ }
 {
     call_blame::blame(replica, log, masks, frame, entry, out)
+}
+
+#[no_mangle]
+pub extern "C" fn apollo_blames(
+    replica: Replica,
+    log: &mut [u8],
+    masks: &mut [u16],
+    frames: &[u8],
+    entry: &[u8],
+    out: &mut [u8],
+) -> Answer
+    ensures { λ a. ⌜ outcome a (now (log .exit)) (now (masks .exit)) (now (out .exit))
+        ≡ blamesCall (state replica (now (log .entry)) (now (masks .entry))) (now (frames .entry)) (now (entry .entry))
+        (now (out .entry)) ⌝ }
+{
+    call_blame::blames(replica, log, masks, frames, entry, out)
 }
 
 #[no_mangle]

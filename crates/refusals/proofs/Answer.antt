@@ -7,19 +7,22 @@ use lib.Dec.{eqb, ltb}
 use lib.ListN.{length}
 use Rattle.sha256.specs.Fips.{sha256}
 use Rattle.apollo.specs.Bytes.{zeros}
-use Rattle.apollo.specs.Setup.{setupOf}
-use Rattle.apollo.specs.Frame.{signer, round, blameForm, checked}
-use Rattle.apollo.specs.Masks.{bit, mask}
+use Rattle.apollo.specs.declared.Verdict.{Verdict}
+use Rattle.apollo.specs.Judging.{verdict}
 use Rattle.apollo.specs.Replica.{fresh, zeroReplica, validSetup, validReplica, validMasks}
-use Rattle.apollo.specs.Enter.{State, hearing, enterRound, settle}
+use Rattle.apollo.specs.Enter.{State, enterRound}
 use Rattle.apollo.specs.Outcome.{Outcome, refused, taken, guarded}
 use Rattle.apollo.specs.Open.{openWith}
 use Rattle.apollo.specs.Branch.{branchWith}
-use Rattle.apollo.specs.Blame.{heard, blameWith}
+use Rattle.apollo.specs.Blame.{handing}
 use Rattle.branch.specs.declared.Judged.{Judged}
 use Rattle.branch.specs.Judge.{refusal, judgedBranch, answered}
 use Rattle.branch.proofs.Answer.{branch-answer}
-use Rattle.refusals.specs.Number.{roomNumber, openNumber, guardNumber, frameNumber, blameNumber}
+use Rattle.blame_set.specs.Set as Set
+use Rattle.blame_set.specs.Set.{judgedSet}
+use Rattle.blame_set.proofs.Answer.{set-answer}
+use Rattle.refusals.specs.Number.{roomNumber, openNumber, guardNumber}
+use Rattle.refusals.specs.Blames.{guardedSet}
 use Rattle.refusals.specs.Branch.{guardedBranch}
 
 -- what is answered by a number: o where it is 0
@@ -42,26 +45,18 @@ guard-chain false false true d o f = refl
 guard-chain false false false true o f = refl
 guard-chain false false false false o f = refl
 
-frame-chain : (a b c d e : Bool) (o : Outcome) (f : ℕ → Outcome)
-    → cond a (cond b (f 7) (cond c (f 8) (cond d (f 14) (cond e (f 10) o)))) (f 6)
-    ≡ by-number (cond a (cond b 7 (cond c 8 (cond d 14 (cond e 10 0)))) 6) o f
-frame-chain false b c d e o f = refl
-frame-chain true true c d e o f = refl
-frame-chain true false true d e o f = refl
-frame-chain true false false true e o f = refl
-frame-chain true false false false true o f = refl
-frame-chain true false false false false o f = refl
-
--- one number after another, and a judgement after a number
-both : (z : Bool) (m n : ℕ) (o : Outcome) (f : ℕ → Outcome) → eqb m 0 ≡ z → cond z (by-number n o f) (f m) ≡ by-number (cond z n m) o f
-both true m n o f e = refl
-both false m n o f e = rw e
-
+-- a judgement after a number
 judged-after : (entry out : List ℕ) (s : State) (x : List ℕ) (z : Bool) (n : ℕ) (j : Judged) → eqb n 0 ≡ z
     → cond z (answered entry out s x j) (refused s out n 0) ≡ answered entry out s x (cond z j (refusal n 0))
 unfolding answered
 judged-after entry out s x true n j e = refl
 judged-after entry out s x false n j e = rw e
+
+set-after : (entry out : List ℕ) (s : State) (x : List ℕ) (z : Bool) (n : ℕ) (v : Verdict) → eqb n 0 ≡ z
+    → cond z (Set.answered entry out s x v) (refused s out n 0) ≡ Set.answered entry out s x (cond z v (verdict n 0))
+unfolding Set.answered
+set-after entry out s x true n v e = refl
+set-after entry out s x false n v e = rw e
 
 -- open
 module _ (id f timeout last : ℕ) (log masks entry out : List ℕ) where
@@ -83,7 +78,7 @@ module _ (s : State) (entry out : List ℕ) where
   abbrev number : ℕ
   number = guardNumber (s .replica) (s .log) (s .masks) (length entry) (length out)
 
-  -- branch, blame and tick
+  -- branch, blame, blames and tick
   pub guarded-by : (o : Outcome) → guarded s entry out o ≡ by-number number o (λ n. refused s out n 0)
   unfolding guarded guardNumber roomNumber
   guarded-by o =
@@ -100,20 +95,10 @@ module _ (s : State) (entry out : List ℕ) where
         ∙ guarded-by (answered entry out s x (judgedBranch (s .replica) (s .log) (s .masks) x))
         ∙ judged-after entry out s x (eqb number 0) number (judgedBranch (s .replica) (s .log) (s .masks) x) refl
 
-    abbrev effect : Outcome
-    effect = taken (settle sha256 entry (hearing s (round x) (signer x)) (round x)) out
-
-    frame-by : cond (eqb (length x) 512) (heard sha256 entry out s x) (refused s out 6 0)
-        ≡ by-number (frameNumber (s .replica) (s .masks) x) effect (λ n. refused s out n 0)
-    unfolding heard frameNumber
-    frame-by =
-        frame-chain (eqb (length x) 512) (not (checked sha256 x)) (not (blameForm (setupOf (s .replica)) x))
-        (ltb (s .replica .round .0) (round x)) (bit (signer x) (mask (s .masks) (round x))) effect (λ n. refused s out n 0)
-
-    pub blame-by : blameWith sha256 s x entry out
-        ≡ by-number (blameNumber (s .replica) (s .log) (s .masks) x (length entry) (length out)) effect (λ n. refused s out n 0)
-    unfolding blameWith blameNumber
-    blame-by =
-        guarded-by (cond (eqb (length x) 512) (heard sha256 entry out s x) (refused s out 6 0))
-        ∙ ap (λ (o : Outcome). by-number number o (λ n. refused s out n 0)) frame-by
-        ∙ both (eqb number 0) number (frameNumber (s .replica) (s .masks) x) effect (λ n. refused s out n 0) refl
+    pub set-by : (most : ℕ) → handing sha256 most s x entry out
+        ≡ Set.answered entry out s x (guardedSet most (s .replica) (s .log) (s .masks) x (length entry) (length out))
+    unfolding handing guardedSet
+    set-by most =
+        ap (guarded s entry out) (set-answer s x entry out most)
+        ∙ guarded-by (Set.answered entry out s x (judgedSet most (s .replica) (s .masks) x))
+        ∙ set-after entry out s x (eqb number 0) number (judgedSet most (s .replica) (s .masks) x) refl

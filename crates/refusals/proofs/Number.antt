@@ -3,17 +3,16 @@ use mathlib.Core.Path.{_≡_}
 use mathlib.Core.Bool.{Bool, true, false, _&&_, not}
 use mathlib.Core.List.{List}
 use Prim.Native.Nat.{ℕ, _+_, _≤_, _<_}
-use lib.ListN.{length}
 use borrow.Author.Tests.{eq-eqb, ne-eqb, lt-ltb, le-ltb, not-true, not-false}
-use Rattle.sha256.specs.Fips.{sha256}
 use Rattle.apollo.specs.declared.Replica.{Replica}
-use Rattle.apollo.specs.Setup.{setupOf}
-use Rattle.apollo.specs.Frame.{signer, round, blameForm, checked}
-use Rattle.apollo.specs.Masks.{bit, mask}
+use Rattle.apollo.specs.declared.Verdict.{Verdict}
+use Rattle.apollo.specs.Judging.{verdict}
 use Rattle.apollo.specs.Replica.{validSetup, validReplica, validMasks}
 use Rattle.branch.specs.declared.Judged.{Judged}
 use Rattle.branch.specs.Judge.{refusal, judgedBranch}
-use Rattle.refusals.specs.Number.{roomNumber, openNumber, guardNumber, frameNumber, blameNumber}
+use Rattle.blame_set.specs.Set.{judgedSet}
+use Rattle.refusals.specs.Number.{roomNumber, openNumber, guardNumber}
+use Rattle.refusals.specs.Blames.{guardedSet}
 use Rattle.refusals.specs.Branch.{guardedBranch}
 
 -- 4 and 5
@@ -56,15 +55,15 @@ module _ (r : Replica) (log masks : List ℕ) (entry out : ℕ) where
     unfolding guardNumber
     guard-room n t h e = rw (← ea, ← eb, not-false (a && b) t, ne-eqb (r .round .0) (r .«last_round» .0 + 1) h) e
 
-  -- a blame and a branch behind 2 to 5
+  -- blames and a branch behind 2 to 5
   module _ (n : ℕ) (e : n ≡ guardNumber r log masks entry out) where
-    pub blame-guarded : (x : List ℕ) → (n ≡ 0 → ⊥) → n ≡ blameNumber r log masks x entry out
-    unfolding blameNumber
-    blame-guarded x h = rw (← e, ne-eqb n 0 h)
+    pub set-guarded : (most : ℕ) (x : List ℕ) → (n ≡ 0 → ⊥) → verdict n 0 ≡ guardedSet most r log masks x entry out
+    unfolding guardedSet
+    set-guarded most x h = rw (← e, ne-eqb n 0 h)
 
-    pub blame-judged : (x : List ℕ) (m : ℕ) → n ≡ 0 → m ≡ frameNumber r masks x → m ≡ blameNumber r log masks x entry out
-    unfolding blameNumber
-    blame-judged x m z k = rw (← e, eq-eqb n 0 z) k
+    pub set-judged : (most : ℕ) (x : List ℕ) (v : Verdict) → n ≡ 0 → v ≡ judgedSet most r masks x → v ≡ guardedSet most r log masks x entry out
+    unfolding guardedSet
+    set-judged most x v z k = rw (← e, eq-eqb n 0 z) k
 
     pub branch-guarded : (x : List ℕ) → (n ≡ 0 → ⊥) → refusal n 0 ≡ guardedBranch r log masks x entry out
     unfolding guardedBranch
@@ -73,33 +72,3 @@ module _ (r : Replica) (log masks : List ℕ) (entry out : ℕ) where
     pub branch-judged : (x : List ℕ) (j : Judged) → n ≡ 0 → j ≡ judgedBranch r log masks x → j ≡ guardedBranch r log masks x entry out
     unfolding guardedBranch
     branch-judged x j z k = rw (← e, eq-eqb n 0 z) k
-
--- 6, 7, 8, 14 and 10
-module _ (r : Replica) (masks x : List ℕ) where
-  pub frame-cut : (length x ≡ 512 → ⊥) → 6 ≡ frameNumber r masks x
-  unfolding frameNumber
-  frame-cut h = rw (ne-eqb (length x) 512 h)
-
-  module _ (l : length x ≡ 512) where
-    pub frame-digest : checked sha256 x ≡ false → 7 ≡ frameNumber r masks x
-    unfolding frameNumber
-    frame-digest k = rw (eq-eqb (length x) 512 l, k)
-
-    module _ (k : checked sha256 x ≡ true) where
-      pub frame-form : blameForm (setupOf r) x ≡ false → 8 ≡ frameNumber r masks x
-      unfolding frameNumber
-      frame-form g = rw (eq-eqb (length x) 512 l, k, g)
-
-      module _ (g : blameForm (setupOf r) x ≡ true) where
-        pub frame-early : r .round .0 < round x → 14 ≡ frameNumber r masks x
-        unfolding frameNumber
-        frame-early h = rw (eq-eqb (length x) 512 l, k, g, lt-ltb (r .round .0) (round x) h)
-
-        module _ (h : round x ≤ r .round .0) where
-          pub frame-stale : bit (signer x) (mask masks (round x)) ≡ true → 10 ≡ frameNumber r masks x
-          unfolding frameNumber
-          frame-stale b = rw (eq-eqb (length x) 512 l, k, g, le-ltb (r .round .0) (round x) h, b)
-
-          pub frame-new : bit (signer x) (mask masks (round x)) ≡ false → 0 ≡ frameNumber r masks x
-          unfolding frameNumber
-          frame-new b = rw (eq-eqb (length x) 512 l, k, g, le-ltb (r .round .0) (round x) h, b)

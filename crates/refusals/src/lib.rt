@@ -1,9 +1,12 @@
-// What refuses a call: the number of the first refusal, 0 if there is none, and for a branch its place. Of the entry and the out
-// buffer the length is enough. Every public function takes any record, and slices of any length and content.
+// What refuses a call: the number of the first refusal, 0 if there is none, and for a branch and for blames its place. Of the entry
+// and the out buffer the length is enough. Every public function takes any record, and slices of any length and content.
 use apollo::Replica;
+use apollo::Verdict;
 use branch::Judged;
 ghost use mathlib.Core.Path.{_≡_};
-ghost use Rattle.refusals.specs.Number.{roomNumber, openNumber, guardNumber, frameNumber, blameNumber};
+ghost use Prim.Native.Nat.{_≤_};
+ghost use Rattle.refusals.specs.Number.{roomNumber, openNumber, guardNumber};
+ghost use Rattle.refusals.specs.Blames.{guardedSet};
 ghost use Rattle.refusals.specs.Branch.{guardedBranch};
 
 // 4 and 5.
@@ -29,7 +32,7 @@ pub fn of_open(r: Replica, log: &[u8], masks: &[u16], entry: usize, out: usize) 
     judge_room(entry, out)
 }
 
-// Tick, and first in branch and blame: 2 to 5.
+// Tick, and first in branch, blame and blames: 2 to 5.
 pub fn of_tick(r: Replica, log: &[u8], masks: &[u16], entry: usize, out: usize) -> u8
     ensures { λ n. ⌜ n ≡ guardNumber r (now (log .entry)) (now (masks .entry)) entry out ⌝ }
 {
@@ -44,38 +47,24 @@ pub fn of_tick(r: Replica, log: &[u8], masks: &[u16], entry: usize, out: usize) 
     judge_room(entry, out)
 }
 
-// The frame of a blame: 6, 7, 8, 14 and 10.
-fn judge_frame(r: Replica, masks: &[u16], x: &[u8]) -> u8
-    ensures { λ n. ⌜ n ≡ frameNumber r (now (masks .entry)) (now (x .entry)) ⌝ }
-{
-    if x.len() != 512 {
-        return apollo::refusal::BAD_LENGTH;
-    }
-    if !frame_forms::checked(x) {
-        return apollo::refusal::BAD_DIGEST;
-    }
-    if !frame_forms::blame_form(record::setup(r), x) {
-        return apollo::refusal::BAD_FORM;
-    }
-    let round = frame::round(x);
-    if r.round.0 < round {
-        return apollo::refusal::EARLY;
-    }
-    if masks::has_blame(masks, round, frame::signer(x)) {
-        return apollo::refusal::STALE;
-    }
-    0
-}
-
-// Blame: 2 to 5, then those of the frame.
-pub fn of_blame(r: Replica, log: &[u8], masks: &[u16], x: &[u8], entry: usize, out: usize) -> u8
-    ensures { λ n. ⌜ n ≡ blameNumber r (now (log .entry)) (now (masks .entry)) (now (x .entry)) entry out ⌝ }
+// Blames, 1 to `most`: 2 to 5, then 6, 7, 8, 16, 14 and 10.
+pub fn of_blames(
+    most: u32,
+    r: Replica,
+    log: &[u8],
+    masks: &[u16],
+    frames: &[u8],
+    entry: usize,
+    out: usize,
+) -> Verdict
+    requires { ⌜ most ≤ 15 ⌝ }
+    ensures { λ v. ⌜ v ≡ guardedSet most r (now (log .entry)) (now (masks .entry)) (now (frames .entry)) entry out ⌝ }
 {
     let number = of_tick(r, log, masks, entry, out);
     if number != 0 {
-        return number;
+        return Verdict { number, place: 0 };
     }
-    judge_frame(r, masks, x)
+    blame_set::judge_set(most, r, masks, frames)
 }
 
 // Branch: 2 to 5, then 6 to 13.

@@ -1,4 +1,4 @@
--- Entering a round and hearing a blame, by the code's tests. Assumes nothing.
+-- Entering a round, and settling one after blames, by the code's tests. Assumes nothing.
 use mathlib.Core.Path.{_≡_, sym, ap, _∙_}
 use mathlib.Core.Bool.{Bool, true, false, _&&_}
 use mathlib.Core.List.{List, _++_, flatten, append-nil}
@@ -77,22 +77,28 @@ module _ (r : Replica) (masks : List ℕ) (round : ℕ) where
       → b ≡ eqb round (r .round .0) && certified (setupOf r) masks round
   certifies-own s b h d e = rw (eq-eqb round (r .round .0) h) (rw d at e)
 
--- a blame that is heard, with masks that are now masks′: R stays, or the next round is entered
-module _ (r : Replica) (log masks masks′ entry out : List ℕ) (round signer : ℕ) (em : masks′ ≡ addBlame masks round signer)
-    (b : Bool) (eb : b ≡ eqb round (r .round .0) && certified (setupOf r) masks′ round) where
-  pub heard-still : (a : Answer) → b ≡ false → a ≡ told r 0
-      → outcome a log masks′ out ≡ taken (settle sha256 entry (hearing (state r log masks) round signer) round) out
-  unfolding settle hearing taken flatten
-  heard-still a k ea = rw (← em, ← eb, k, ea)
+-- after blames for a round: R stays, or the next round is entered
+module _ (r : Replica) (log masks entry out : List ℕ) (round : ℕ)
+    (b : Bool) (eb : b ≡ eqb round (r .round .0) && certified (setupOf r) masks round) where
+  pub settled-still : (a : Answer) → b ≡ false → a ≡ told r 0
+      → outcome a log masks out ≡ taken (settle sha256 entry (state r log masks) round) out
+  unfolding settle taken flatten
+  settled-still a k ea = rw (← eb, k, ea)
 
-  pub heard-next : (q : Replica) (o : Outcome) → b ≡ true → q ≡ withRound r (round + 1)
-      → o ≡ taken (enterRound sha256 entry (state q log masks′)) out
-      → o ≡ taken (settle sha256 entry (hearing (state r log masks) round signer) round) out
-  unfolding settle hearing waiting
-  heard-next q o k eq e = rw (← em, ← eb, k) (rw eq at e)
+  pub settled-next : (q : Replica) (o : Outcome) → b ≡ true → q ≡ withRound r (round + 1)
+      → o ≡ taken (enterRound sha256 entry (state q log masks)) out → o ≡ taken (settle sha256 entry (state r log masks) round) out
+  unfolding settle waiting
+  settled-next q o k eq e = rw (← eb, k) (rw eq at e)
 
-  pub heard-round : b ≡ true → round ≡ r .round .0
-  heard-round k = eqb-true round (r .round .0) (and-first _ _ (sym eb ∙ k))
+  pub settled-round : b ≡ true → round ≡ r .round .0
+  settled-round k = eqb-true round (r .round .0) (and-first _ _ (sym eb ∙ k))
+
+-- a blame that is heard, with masks that are now masks′
+pub heard-settled : (r : Replica) (log masks masks′ entry out : List ℕ) (round signer : ℕ) (o : Outcome) → masks′ ≡ addBlame masks round signer
+    → o ≡ taken (settle sha256 entry (state r log masks′) round) out
+    → o ≡ taken (settle sha256 entry (hearing (state r log masks) round signer) round) out
+unfolding hearing
+heard-settled r log masks masks′ entry out round signer o em e = rw em at e
 
 -- the next round may be entered
 pub next-ready : (r : Replica) (log entry out : List ℕ) → Ready r log entry out → r .round .0 ≤ r .«last_round» .0

@@ -1,4 +1,5 @@
-// What a replica does without being refused: it enters a round, hears a blame, or counts a tick down.
+// What a replica does without being refused: it enters a round, hears its own blame, settles a round after blames, or counts a tick
+// down.
 use apollo::Answer;
 use apollo::Replica;
 ghost use mathlib.Core.Path.{_≡_};
@@ -10,7 +11,8 @@ ghost use Rattle.sha256.specs.Fips.{sha256};
 ghost use Rattle.apollo.specs.Setup.{setupOf};
 ghost use Rattle.apollo.specs.Masks as Masks;
 ghost use Rattle.apollo.specs.Replica.{withTimer};
-ghost use Rattle.apollo.specs.Enter.{state, hearing, enterRound, settle};
+ghost use Rattle.apollo.specs.Enter as Enter;
+ghost use Rattle.apollo.specs.Enter.{state, hearing, enterRound};
 ghost use Rattle.apollo.specs.Outcome as Outcome;
 ghost use Rattle.apollo.specs.Outcome.{outcome, nextLeader};
 ghost use Rattle.tip.specs.Ready.{Ready};
@@ -66,7 +68,27 @@ fn certifies(r: Replica, masks: &[u16], round: u32) -> bool
     masks::certified(record::setup(r), masks, round)
 }
 
-// A replica's blame for a round is heard: if that is R and now certified, R grows by 1 and is entered.
+// After blames for a round: if that is R and now certified, R grows by 1 and is entered.
+pub fn settle(
+    r: Replica,
+    log: &mut [u8],
+    masks: &[u16],
+    round: u32,
+    entry: &[u8],
+    out: &mut [u8],
+) -> Answer
+    requires { ⌜ Ready r (now log) (now entry) (now out) × (r .round .0 ≤ r .«last_round» .0) ⌝ }
+    ensures { λ a. ⌜ outcome a (now (log .exit)) (now (masks .entry)) (now (out .exit))
+        ≡ Outcome.taken
+        (Enter.settle sha256 (now (entry .entry)) (state r (now (log .entry)) (now (masks .entry))) round) (now (out .entry)) ⌝ }
+{
+    if !certifies(r, masks, round) {
+        return taken(r, 0);
+    }
+    enter_round(record::with_round(r, round + 1), log, entry, out)
+}
+
+// A replica's blame for a round is heard, and the round settled.
 pub fn hear(
     r: Replica,
     log: &mut [u8],
@@ -79,14 +101,11 @@ pub fn hear(
     requires { ⌜ Ready r (now log) (now entry) (now out) × (r .round .0 ≤ r .«last_round» .0) × (signer < 16) ⌝ }
     ensures { λ a. ⌜ outcome a (now (log .exit)) (now (masks .exit)) (now (out .exit))
         ≡ Outcome.taken
-        (settle sha256 (now (entry .entry)) (hearing (state r (now (log .entry)) (now (masks .entry))) round signer) round)
+        (Enter.settle sha256 (now (entry .entry)) (hearing (state r (now (log .entry)) (now (masks .entry))) round signer) round)
         (now (out .entry)) ⌝ }
 {
     masks::add_blame(masks, round, signer);
-    if !certifies(r, masks, round) {
-        return taken(r, 0);
-    }
-    enter_round(record::with_round(r, round + 1), log, entry, out)
+    settle(r, log, masks, round, entry, out)
 }
 
 // Ticks left lowered by 1; nothing where they are 0.
