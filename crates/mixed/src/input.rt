@@ -104,7 +104,7 @@ fn form(letter: u8) -> u64 {
         b'm' => 0x651,
         b'g' => 0xaaaaaaaa99,
         b'o' => 0x7432aa991,
-        b'b' | b'v' => 0x874321,
+        b'a' | b'b' | b'v' => 0x874321,
         b't' => 0x74321,
         b'q' => 0xa21,
         b'f' => 0xa421,

@@ -188,7 +188,7 @@ fn look(t: Table, l: Task, log: &[u8; 4608]) -> Table {
     called(t, fetch(l, r, lent, &mut out))
 }
 
-// The answer of `o`, `b`, `v` or `t`.
+// The answer of `o`, `a`, `b`, `v` or `t`.
 fn answer(
     letter: u8,
     r: Replica,
@@ -201,6 +201,7 @@ fn answer(
     match letter {
         b'o' => call_open::open(r.id, r.f, r.timeout, r.last_round, log, masks, entry, out),
         b't' => call_tick::tick(r, log, masks, entry, out),
+        b'a' => call_blame::blames(r, log, masks, frames, entry, out),
         b'v' => call_blame::blame(r, log, masks, frames, entry, out),
         _ => call_branch::branch(r, log, masks, frames, entry, out),
     }
@@ -239,7 +240,7 @@ fn kept(t: Table, l: Task, x: Answer, is_written: bool) -> Table {
     next
 }
 
-// `o`, `b`, `v` or `t`
+// `o`, `a`, `b`, `v` or `t`
 fn change(
     t: Table,
     l: Task,
@@ -317,7 +318,7 @@ fn call(t: Table, l: Task, logs: &mut Logs, masks: &mut Masks, bytes: &[u8; 8704
     match letter {
         b'h' => told(t, digest(l, bytes)),
         b'q' | b'f' => look(t, l, &logs[i]),
-        b'o' | b'b' | b'v' | b't' => change(t, l, &mut logs[i], &mut masks[i], bytes),
+        b'o' | b'a' | b'b' | b'v' | b't' => change(t, l, &mut logs[i], &mut masks[i], bytes),
         _ => t,
     }
 }
