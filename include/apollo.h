@@ -58,7 +58,7 @@
  *   - Questions also compare lists: whoever has committed that round must have the same digest there. Another block or none means that
  *     the lists have parted or that the asker lies: f + 1 cards must say so.
  *
- * Handing in: blocks by apollo_branch, the blames of a round by apollo_blames, a lone one also by apollo_blame (byte 0 says which)
+ * Handing in: blocks by apollo_branch, blames by apollo_blames (byte 0 says which); for a lone blame apollo_blame does the same
  *   - The blames of a round are a set: they wait, go in, are kept and are sent again together, each signer's once. A set is taken whole
  *     or not at all, and bits that stand are passed over: it may be all that is kept of its round.
  *   - First, for each round up to R, the blames that are not in its mask. Then the kept blocks of round R or above, lowest first, each
@@ -152,17 +152,17 @@ typedef enum {
   APOLLO_ROUNDS_OVER = 3,        /* "term over": branch, blame, blames, tick: every round has been passed */
   APOLLO_OUT_TOO_SHORT = 4,      /* "short tray": the out buffer has less than 1,024 bytes */
   APOLLO_ENTRY_TOO_LONG = 5,     /* "long entry": the entry has more than 400 bytes */
-  APOLLO_BAD_LENGTH = 6,         /* "cut": not whole frames: 1 to T in a branch, one for blame, 1 to 15 for blames */
+  APOLLO_BAD_LENGTH = 6,         /* "cut": a branch that is not 1 to T whole frames, a blame not one, a set of blames not 1 to 15 */
   APOLLO_BAD_DIGEST = 7,         /* "check": a frame's digest is wrong; place: the frame's index */
   APOLLO_BAD_FORM = 8,           /* "form": a field outside the frame table, wrong kind or signer; place: the frame's index */
   APOLLO_NOT_CHILD = 9,          /* "parted": a frame is not the child of the one before; place: its index */
-  APOLLO_STALE = 10,             /* "stale": the branch ends below the round waited for: keep it; or no blame of the set is new */
+  APOLLO_STALE = 10,             /* "stale": the branch ends below the round waited for: keep it; or the blames are there already */
   APOLLO_UNATTACHED = 11,        /* "loose": the first frame's parent, with one height less, is not in the log. Get it or drop: above */
   APOLLO_REVERTS_COMMITTED = 12, /* "undone": a committed block would change: a premise is broken, see below */
   APOLLO_NOT_CERTIFIED = 13,     /* "unshown": a skipped round lacks f + 1 blames; place: that round. Again when it has them */
   APOLLO_EARLY = 14,             /* "early": blames for a round above the one waited for. Again when that has come */
   APOLLO_ABSENT = 15,            /* "absent": read: no such committed height; fetch: no frame above that height */
-  APOLLO_NOT_A_SET = 16          /* blames: frames of two rounds, or a signer twice */
+  APOLLO_NOT_A_SET = 16          /* blames: frames of two rounds, or a signer twice: the host's own mistake */
 } apollo_number;
 
 /* 12 means that a premise of the agreement (docs/AGREEMENT.md) is broken: more than f cards failed in this term, a frame was forged, or
@@ -232,10 +232,10 @@ apollo_answer apollo_blame(apollo_replica replica, uint8_t *log, size_t log_len,
                            const uint8_t *frame, size_t frame_len, const uint8_t *entry, size_t entry_len, uint8_t *out,
                            size_t out_len);
 
-/* Hands in a set of blames: 1 to 15 blame frames of one round end to end, in any order, no signer twice. All their bits are set or none
- * is; bits that stand are passed over. Then all is as after one blame: f + 1 or more pass the round waited for over, and R grows by 1
- * for the whole set, with the next round entered once. One frame is answered, and leaves everything, as by apollo_blame. Of the frames
- * the masks keep the bits alone: the host keeps the signatures, and a set answered 14 until R has come.
+/* Hands in a set of blames: 1 to 15 blame frames of one round end to end, in any order, no signer twice. All their bits are set, or
+ * none; bits that stand are passed over. The rest is as with one blame, once for the set: with f + 1 blames or more R grows by 1 and the
+ * next round is entered. A set of one is answered as apollo_blame answers that frame, and leaves the same. The masks have the bits
+ * alone: the host keeps the signatures, and a set answered 14 until R has come.
  * Refuses 2 to 6, then 7, 8 frame by frame, 16, 14, 10. */
 apollo_answer apollo_blames(apollo_replica replica, uint8_t *log, size_t log_len, uint16_t *masks, size_t masks_len,
                             const uint8_t *frames, size_t frames_len, const uint8_t *entry, size_t entry_len, uint8_t *out,
