@@ -233,8 +233,8 @@ apollo_answer apollo_blame(apollo_replica replica, uint8_t *log, size_t log_len,
                            size_t out_len);
 
 /* Hands in a set of blames: 1 to 15 blame frames of one round end to end, in any order, no signer twice. All their bits are set, or
- * none; bits that stand are passed over. The rest is as with one blame, once for the set: with f + 1 blames or more R grows by 1 and the
- * next round is entered. A set of one is answered as apollo_blame answers that frame, and leaves the same. The masks have the bits
+ * none; bits that stand are passed over. The rest is as with one blame, once for the set: with f + 1 blames or more R grows by 1 and
+ * the next round is entered. A set of one is answered as apollo_blame answers that frame, and leaves the same. The masks have the bits
  * alone: the host keeps the signatures, and a set answered 14 until R has come.
  * Refuses 2 to 6, then 7, 8 frame by frame, 16, 14, 10. */
 apollo_answer apollo_blames(apollo_replica replica, uint8_t *log, size_t log_len, uint16_t *masks, size_t masks_len,

@@ -31,8 +31,8 @@ static apollo_replica second_round(void) {
 }
 
 /* apollo_blame and apollo_blames */
-typedef apollo_answer blame_call(apollo_replica, uint8_t *, size_t, uint16_t *, size_t, const uint8_t *, size_t, const uint8_t *, size_t,
-                                 uint8_t *, size_t);
+typedef apollo_answer blame_call(apollo_replica, uint8_t *, size_t, uint16_t *, size_t, const uint8_t *, size_t, const uint8_t *,
+                                 size_t, uint8_t *, size_t);
 
 /* The blame comes before the own one, which then passes over round 2, and after it. The record at the end. */
 static apollo_replica hand_in(blame_call *call) {
