@@ -452,7 +452,7 @@ static int report_blames(void) {
 /* How the library answered the cards that keep the rules. */
 static void report_answers(void) {
   printf("answers");
-  for (int k = 0; k < 16; k++) {
+  for (int k = 0; k < NUMBERS; k++) {
     uint32_t count = 0;
     for (int i = 0; i < cabinet.n; i++) count += keeps_rules(i) ? cabinet.cards[i].answers[k] : 0;
     if (count > 0) printf("  %d: %u", k, count);

@@ -56,11 +56,8 @@ static void send_block(const card *c, int to, uint32_t round) {
 
 /* Those of the kept blames of a round whose signers are among the given ones. */
 static void send_blames(const card *c, int to, uint32_t round, uint16_t signers) {
-  const kept_blames *set = &c->blames[round - 1];
-  packet p = {.kind = PACKET_BLAMES, .from = c->setup.id};
-  p.blames.round = round;
-  p.blames.signers = set->signers & signers;
-  memcpy(p.blames.signature, set->signature, sizeof set->signature);
+  packet p = {.kind = PACKET_BLAMES, .from = c->setup.id, .blames = c->blames[round - 1]};
+  p.blames.signers &= signers;
   if (p.blames.signers) host_send(c->setup.id, to, &p);
 }
 
@@ -158,7 +155,6 @@ static void sign(card *c, const uint8_t *frame, proposal *lent) {
   if (frame[0] == APOLLO_BLAME) {
     host_sign(me, frame, c->blames[r - 1].signature[me]);
     c->blames[r - 1].signers |= bit(me);
-    c->blames[r - 1].taken |= bit(me);
   } else {
     host_sign(me, frame, c->signature[r - 1]);
     if (!lent) return;
@@ -170,7 +166,7 @@ static void sign(card *c, const uint8_t *frame, proposal *lent) {
 /* Takes over a call's answer: keeps the record, signs and sends what was emitted, and tells a new round's leader what it needs. */
 static void take(card *c, apollo_answer a, const uint8_t *out, proposal *lent) {
   uint32_t before = waited(c);
-  c->answers[a.number & 15]++;
+  if (a.number < NUMBERS) c->answers[a.number]++;
   if (a.number == APOLLO_BAD_REPLICA) host_alarm(c->setup.id, ALARM_STATE, c->setup.id, 0);
   if (a.number == APOLLO_REVERTS_COMMITTED) host_alarm(c->setup.id, ALARM_UNDONE, c->setup.id, committed(c));
   if (a.number != APOLLO_TAKEN) return;
@@ -188,19 +184,17 @@ static void take(card *c, apollo_answer a, const uint8_t *out, proposal *lent) {
 
 /* ---- handing in */
 
-/* Hands in the blames of a round that the library does not have yet. */
+/* Hands in, as one set, the blames of a round that the library does not have yet. */
 static void hand_in_blames(card *c, uint32_t round) {
-  kept_blames *set = &c->blames[round - 1];
-  for (int i = 0; i < cards(c); i++) {
-    uint8_t frame[APOLLO_FRAME], out[APOLLO_OUT];
-    if (!((set->signers & ~set->taken) >> i & 1) || card_is_over(c)) continue;
-    proposal *p = lend(c);
-    make_blame(round, i, frame);
-    apollo_answer a = apollo_blame(c->record, c->log, log_len(c), c->masks, c->setup.rounds, frame, sizeof frame, p ? p->entry : NULL,
-                                   p ? p->len : 0, out, sizeof out);
-    if (a.number == APOLLO_TAKEN || a.number == APOLLO_STALE) set->taken |= bit(i);
-    take(c, a, out, p);
-  }
+  int fresh = c->blames[round - 1].signers & ~c->masks[round - 1], count = 0;
+  uint8_t out[APOLLO_OUT];
+  if (!fresh) return;
+  for (int i = 0; i < cards(c); i++)
+    if (fresh >> i & 1) make_blame(round, i, c->frames + APOLLO_FRAME * count++);
+  proposal *p = lend(c);
+  apollo_answer a = apollo_blames(c->record, c->log, log_len(c), c->masks, c->setup.rounds, c->frames, (size_t)count * APOLLO_FRAME,
+                                  p ? p->entry : NULL, p ? p->len : 0, out, sizeof out);
+  take(c, a, out, p);
 }
 
 static kept_block *find_kept(card *c, const uint8_t *digest) {
@@ -253,8 +247,8 @@ static void hand_in_block(card *c, int sender, kept_block *top) {
   uint8_t out[APOLLO_OUT];
   int count = trace_branch(c, top, chain);
   proposal *p = lend(c);
-  for (int k = 0; k < count; k++) memcpy(c->branch + k * APOLLO_FRAME, chain[count - 1 - k]->block.frame, APOLLO_FRAME);
-  apollo_answer a = apollo_branch(c->record, c->log, log_len(c), c->masks, c->setup.rounds, c->branch, (size_t)count * APOLLO_FRAME,
+  for (int k = 0; k < count; k++) memcpy(c->frames + k * APOLLO_FRAME, chain[count - 1 - k]->block.frame, APOLLO_FRAME);
+  apollo_answer a = apollo_branch(c->record, c->log, log_len(c), c->masks, c->setup.rounds, c->frames, (size_t)count * APOLLO_FRAME,
                                   p ? p->entry : NULL, p ? p->len : 0, out, sizeof out);
   if (a.number == APOLLO_TAKEN)
     for (int k = 0; k < count; k++) memcpy(c->signature[round_of(chain[k]->block.frame) - 1], chain[k]->block.signature, SIGNATURE);
@@ -294,7 +288,7 @@ static void settle(card *c) {
   int sender = 0;
   kept_block *b;
   do {
-    for (uint32_t r = committed(c) + 1; r <= waited(c) && r <= c->setup.rounds; r++) hand_in_blames(c, r);
+    for (uint32_t r = committed(c) + 1; r <= waited(c) && !card_is_over(c); r++) hand_in_blames(c, r);
     b = card_is_over(c) ? NULL : lowest(c, &sender);
     if (b) hand_in_block(c, sender, b);
   } while (b);
@@ -324,7 +318,7 @@ static void hear_block(card *c, int from, const signed_block *b) {
 
 static void hear_blames(card *c, const signed_blames *b) {
   if (b->round <= committed(c) || b->round > c->setup.rounds) return;
-  kept_blames *set = &c->blames[b->round - 1];
+  signed_blames *set = &c->blames[b->round - 1];
   for (int i = 0; i < cards(c); i++) {
     uint8_t frame[APOLLO_FRAME];
     if (!((b->signers & ~set->signers) >> i & 1)) continue;
@@ -414,6 +408,7 @@ int card_open(card *c, card_setup setup) {
   c->signature = calloc(t, sizeof *c->signature);
   c->blames = calloc(t, sizeof *c->blames);
   if (!c->log || !c->masks || !c->signature || !c->blames) return 0;
+  for (uint32_t r = 1; r <= setup.rounds; r++) c->blames[r - 1].round = r;
   apollo_answer a = apollo_open(setup.id, setup.f, (apollo_ticks){setup.timeout}, (apollo_round){setup.rounds}, c->log, log_len(c),
                                 c->masks, t, NULL, 0, out, sizeof out);
   take(c, a, out, NULL);

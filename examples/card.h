@@ -7,6 +7,7 @@
 #include "apollo.h"
 
 enum {
+  NUMBERS = APOLLO_NOT_A_SET + 1, /* that the library answers: 0 and the refusals */
   MAX_CARDS = 2 * APOLLO_MAX_F + 1,
   SIGNATURE = 32, /* bytes of a signature: 64 for Ed25519 */
   WINDOW = 32,    /* rounds above the committed one whose blocks are kept, and that an answer has: 2 f + 1 at least (docs/HOSTS.md) */
@@ -22,7 +23,8 @@ typedef struct {
   uint8_t frame[APOLLO_FRAME], signature[SIGNATURE];
 } signed_block;
 
-/* Blames of one round. Round and signer make the frame, so signatures are enough: that of card i counts if bit i is set. */
+/* The blames of one round, as they travel and as they are kept. Round and signer make the frame, so signatures are enough: that of card
+ * i counts if bit i is set. */
 typedef struct {
   uint32_t round;
   uint16_t signers;
@@ -69,11 +71,6 @@ typedef struct {
 } kept_block;
 
 typedef struct {
-  uint16_t signers, taken; /* whose blames are kept, and which of them the library has */
-  uint8_t signature[MAX_CARDS][SIGNATURE];
-} kept_blames;
-
-typedef struct {
   uint8_t entry[APOLLO_ENTRY];
   size_t len;
   uint32_t round; /* of the block that it was proposed in, 0 while it waits; and that block's digest */
@@ -86,9 +83,9 @@ typedef struct {
   uint8_t *log;
   uint16_t *masks;
   uint8_t (*signature)[SIGNATURE];       /* of the block in each slot */
-  kept_blames *blames;                   /* of each round */
+  signed_blames *blames;                 /* of each round; the masks say which of them the library has */
   kept_block kept[MAX_CARDS][WINDOW];    /* by sender and round: no sender pushes out what another sent */
-  uint8_t branch[WINDOW * APOLLO_FRAME]; /* the frames of the call under way */
+  uint8_t frames[WINDOW * APOLLO_FRAME]; /* of the call under way: a branch, or the blames of a round */
   proposal line[LINE];                   /* entries until they are on the list, oldest first */
   size_t lined;
   uint32_t now, moved;        /* ticks since the opening, and at the last new round */
@@ -97,9 +94,9 @@ typedef struct {
   uint32_t acted;             /* rounds whose entries were handed to host_act */
   uint16_t heard, ask;        /* cards that were heard; cards to ask at the end of the tick */
   int next_peer;
-  uint32_t progress;    /* grows with every new frame and every new round: only then is anything tried again */
-  uint32_t again;       /* entries put back in line because their blocks were passed over */
-  uint32_t answers[16]; /* of the library, by number */
+  uint32_t progress;         /* grows with every new frame and every new round: only then is anything tried again */
+  uint32_t again;            /* entries put back in line because their blocks were passed over */
+  uint32_t answers[NUMBERS]; /* of the library, by number */
 } card;
 
 /* 0 if the library refused, the archive is of another version or memory is short. Close it in any case. */

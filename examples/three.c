@@ -1,6 +1,7 @@
 /* The smallest host: three cards in one process, f = 1, a term of nine rounds. Card 1 falls silent after its first turn: the others
  * blame it, pass over the rounds that it leads, and commit the same list, which is printed.
- * A real host runs one card: it signs and sends what `after` hands round, and checks the signature of what `turn` hands in. */
+ * A real host runs one card: it signs and sends what `after` hands round, checks the signature of what `turn` hands in, and hands in
+ * the blames of a round as one set (card.c). */
 #include "apollo.h"
 
 #include <stdio.h>

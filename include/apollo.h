@@ -32,7 +32,7 @@
  *   - Authenticate the sender of every datagram as well, under another word: blocks are kept and questions answered by sender, and that
  *     is who sent them, not who signed the frames. The sender's word says nothing about a frame.
  *   - Keep the signature of each block in the log and of each blame, to pass it on as long as the term lasts. A blame is a function of
- *     round and signer (table below): these two and a signature are enough on the wire.
+ *     round and signer (table below): on the wire the blames of a round are that round, the signers and their signatures.
  *
  * Hearing: before anything is looked up, kept or handed in
  *   - The datagram's size, term and sender; of each frame the kind (byte 0), a signer below n and a round from 1 to T (of a question R
@@ -58,23 +58,29 @@
  *   - Questions also compare lists: whoever has committed that round must have the same digest there. Another block or none means that
  *     the lists have parted or that the asker lies: f + 1 cards must say so.
  *
- * Handing in: blocks by apollo_branch, blames by apollo_blame (byte 0 says which)
- *   - First the blames of rounds up to R that are not in the masks. Then the kept blocks of round R or above, lowest first, each with
- *     its kept parents before it in one branch, down to one whose parent is in the log, until one is taken; then both again. Do not
- *     stop at the first that is refused, and try all blocks of a round: one may be a liar's.
- *   - A refused frame goes in again only when its cause is gone. 11: the parent that the branch's first frame names has come. 13: round
- *     `place` has f + 1 bits in its mask. 14: R has come to its round. Where a host tried again after each new frame, 5,000 to 7,800
- *     calls a card were answered 13; with these triggers 155 to 290.
- *   - Dropped are, of a branch answered 7 to 9, frame `place` and no other; a first frame answered 11 whose parent is in the log
- *     (zeros: the genesis, always there), since its height or round is a lie; a blame answered 10. For 12 see there.
+ * Handing in: blocks by apollo_branch, blames by apollo_blames (byte 0 says which); for a lone blame apollo_blame does the same
+ *   - The blames of a round are a set: they wait, go in, are kept and are sent again together, each signer's once. A set is taken whole
+ *     or not at all, and bits that stand are passed over: it may be all that is kept of its round.
+ *   - First, for each round up to R, the blames that are not in its mask. Then the kept blocks of round R or above, lowest first, each
+ *     with its kept parents before it in one branch, down to one whose parent is in the log, until one is taken; then both again. Do
+ *     not stop at the first that is refused, and try all blocks of a round: one may be a liar's.
+ *   - What was refused goes in again only when the cause is gone. 11: the parent that the branch's first frame names has come. 13:
+ *     round `place` has f + 1 bits in its mask. 14: R has come to the blames' round. Where a host tried again after each new frame,
+ *     5,000 to 7,800 calls a card were answered 13; with these triggers 155 to 290.
+ *   - Dropped are, of a branch or a set answered 7 to 9, frame `place` and no other, and the rest of a set goes in again at once; a
+ *     first frame answered 11 whose parent is in the log (zeros: the genesis, always there), since its height or round is a lie. For 12
+ *     see there.
+ *   - Blames answered 10 are in the mask already: they wait no longer, but those kept for sending stay. 16 is the host's own mistake:
+ *     sort the blames by round and signer, and drop none.
  *   - Keep each block until its round is committed, also one that is answered 10: a later block may need it as its parent. Keep them by
  *     sender, so that a liar pushes out only what it sent: for each sender one block a round, the last that came, of the 2f + 1 rounds
  *     or more above the committed one. Drop a higher one, and ask who sent it.
  *
  * Entries
- *   - Lend each of open, branch, blame and tick an entry: the call that brings a card to a round that it leads proposes it at once, an
- *     empty one too. That round is 1 for open, R + 1 for a blame or a tick, the last frame's + 1 for a branch. A host that wants to
- *     wait for an entry withholds the branch, at most until w ticks after the card came to R. Ticks go on: w is in the timeout (Clock).
+ *   - Lend each of open, branch, blame, blames and tick an entry: the call that brings a card to a round that it leads proposes it at
+ *     once, an empty one too. That round is 1 for open, R + 1 for a blame, a set or a tick, the last frame's + 1 for a branch. A host
+ *     that wants to wait for an entry withholds the branch, at most until w ticks after the card came to R. Ticks go on: w is in the
+ *     timeout (Clock).
  *   - Lend an empty entry for a round above T - 2f, and while the card is behind (f + 1 cards have signed frames of rounds above
  *     R + 1): it may come to lead a round that the others passed over long ago.
  *   - The entry was used if the call emitted a block, and is on the list for good when that block's round is at most the committed
@@ -111,7 +117,7 @@ extern "C" {
 
 /* Header and archive belong together: a host starts only where apollo_version() == APOLLO_VERSION. The number grows with every change
  * of a declaration here, or of what a call does. */
-#define APOLLO_VERSION 1u
+#define APOLLO_VERSION 2u
 uint32_t apollo_version(void);
 
 enum {
@@ -120,6 +126,7 @@ enum {
   APOLLO_ENTRY = 400,       /* an entry's most bytes */
   APOLLO_DIGEST = 32,       /* bytes of a digest */
   APOLLO_MAX_F = 7,         /* most cards that may fail: n = 2 f + 1 is at most 15 */
+  APOLLO_MAX_BLAMES = 15,   /* most frames of a set of blames, whatever n is */
   APOLLO_MAX_ROUNDS = 4096, /* most rounds of a term, T */
   APOLLO_MAX_TIMEOUT = 60000,
   APOLLO_NO_LEADER = 255    /* the leader told after a refusal, or when the term is over */
@@ -137,24 +144,25 @@ enum {
  *     480 to 511 the frame's digest: SHA-256 of bytes 0 to 479 */
 enum { APOLLO_BLOCK = 1, APOLLO_BLAME = 2 };
 
-/* Refusals. The word in quotes is the one on the repair sheets. */
+/* Refusals. The word in quotes is the one on the repair sheets, which have none for 16. */
 typedef enum {
   APOLLO_TAKEN = 0,
   APOLLO_BAD_SETUP = 1,          /* "set-up": open: a number outside its range, or a log or masks of another length */
   APOLLO_BAD_REPLICA = 2,        /* "record": the other calls: the same, or a field out of range; the record is no card's */
-  APOLLO_ROUNDS_OVER = 3,        /* "term over": branch, blame, tick: every round has been passed */
+  APOLLO_ROUNDS_OVER = 3,        /* "term over": branch, blame, blames, tick: every round has been passed */
   APOLLO_OUT_TOO_SHORT = 4,      /* "short tray": the out buffer has less than 1,024 bytes */
   APOLLO_ENTRY_TOO_LONG = 5,     /* "long entry": the entry has more than 400 bytes */
-  APOLLO_BAD_LENGTH = 6,         /* "cut": a branch that is not 1 to T whole frames, a blame that is not one frame */
+  APOLLO_BAD_LENGTH = 6,         /* "cut": a branch that is not 1 to T whole frames, a blame not one, a set of blames not 1 to 15 */
   APOLLO_BAD_DIGEST = 7,         /* "check": a frame's digest is wrong; place: the frame's index */
   APOLLO_BAD_FORM = 8,           /* "form": a field outside the frame table, wrong kind or signer; place: the frame's index */
   APOLLO_NOT_CHILD = 9,          /* "parted": a frame is not the child of the one before; place: its index */
-  APOLLO_STALE = 10,             /* "stale": the branch ends below the round waited for: keep it; or the blame is there already */
+  APOLLO_STALE = 10,             /* "stale": the branch ends below the round waited for: keep it; or the blames are there already */
   APOLLO_UNATTACHED = 11,        /* "loose": the first frame's parent, with one height less, is not in the log. Get it or drop: above */
   APOLLO_REVERTS_COMMITTED = 12, /* "undone": a committed block would change: a premise is broken, see below */
   APOLLO_NOT_CERTIFIED = 13,     /* "unshown": a skipped round lacks f + 1 blames; place: that round. Again when it has them */
-  APOLLO_EARLY = 14,             /* "early": a blame for a round above the one waited for. Again when that has come */
-  APOLLO_ABSENT = 15             /* "absent": read: no such committed height; fetch: no frame above that height */
+  APOLLO_EARLY = 14,             /* "early": blames for a round above the one waited for. Again when that has come */
+  APOLLO_ABSENT = 15,            /* "absent": read: no such committed height; fetch: no frame above that height */
+  APOLLO_NOT_A_SET = 16          /* blames: frames of two rounds, or a signer twice: the host's own mistake */
 } apollo_number;
 
 /* 12 means that a premise of the agreement (docs/AGREEMENT.md) is broken: more than f cards failed in this term, a frame was forged, or
@@ -223,6 +231,15 @@ apollo_answer apollo_branch(apollo_replica replica, uint8_t *log, size_t log_len
 apollo_answer apollo_blame(apollo_replica replica, uint8_t *log, size_t log_len, uint16_t *masks, size_t masks_len,
                            const uint8_t *frame, size_t frame_len, const uint8_t *entry, size_t entry_len, uint8_t *out,
                            size_t out_len);
+
+/* Hands in a set of blames: 1 to 15 blame frames of one round end to end, in any order, no signer twice. All their bits are set, or
+ * none; bits that stand are passed over. The rest is as with one blame, once for the set: with f + 1 blames or more R grows by 1 and
+ * the next round is entered. A set of one is answered as apollo_blame answers that frame, and leaves the same. The masks have the bits
+ * alone: the host keeps the signatures, and a set answered 14 until R has come.
+ * Refuses 2 to 6, then 7, 8 frame by frame, 16, 14, 10. */
+apollo_answer apollo_blames(apollo_replica replica, uint8_t *log, size_t log_len, uint16_t *masks, size_t masks_len,
+                            const uint8_t *frames, size_t frames_len, const uint8_t *entry, size_t entry_len, uint8_t *out,
+                            size_t out_len);
 
 /* One tick of the clock. The tick that brings the timer to 0 emits the card's blame for the round waited for; if that is the last of
  * f + 1, the round is passed over as above. Else the card waits on, and still takes the round's block. With no ticks left nothing

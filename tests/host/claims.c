@@ -1,5 +1,5 @@
 /* What the header tells a host's engineer beyond each call is so: slots, masks and leaders; which frames may be needed again; what an
- * old term's frames do; what a blame is. Three cards, f = 1. Exits with 0 if all is so. */
+ * old term's frames do; what a blame is, and a set of them. Three cards, f = 1. Exits with 0 if all is so. */
 #include "apollo.h"
 #include "expect.h"
 
@@ -53,6 +53,30 @@ static apollo_answer blame(card *c, uint8_t round, uint8_t signer) {
   return a;
 }
 
+static uint8_t frames[(APOLLO_MAX_BLAMES + 1) * APOLLO_FRAME];
+static uint8_t *nth(size_t k) { return frames + k * APOLLO_FRAME; }
+
+static apollo_answer hand_in(card *c, const uint8_t *set, size_t len) {
+  apollo_answer a = apollo_blames(c->record, c->log, LOG, c->masks, T, set, len, (const uint8_t *)"y", 1, out, sizeof out);
+  c->record = a.replica;
+  return a;
+}
+
+/* Some blames of a round as one set: those of the cards with a one in `signers`. */
+static apollo_answer hand_in_set(card *c, uint8_t round, unsigned signers) {
+  size_t count = 0;
+  for (uint8_t i = 0; i < 3; i++)
+    if (signers >> i & 1) make_blame(round, i, nth(count++));
+  return hand_in(c, frames, count * APOLLO_FRAME);
+}
+
+static int same_record(apollo_replica a, apollo_replica b) {
+  return a.id == b.id && a.f == b.f && a.timeout.value == b.timeout.value && a.last_round.value == b.last_round.value &&
+         a.round.value == b.round.value && a.timer.value == b.timer.value && a.tip_round.value == b.tip_round.value &&
+         a.tip_height.value == b.tip_height.value && a.committed_round.value == b.committed_round.value &&
+         a.committed_height.value == b.committed_height.value;
+}
+
 static card zero, other, one, two;
 
 /* A lying card 0 has two blocks for round 1. Card 2 takes one and is answered 10 for the other, which block 2 then needs. */
@@ -97,11 +121,101 @@ static void blames(void) {
   EXPECT(memcmp(out, frame, APOLLO_FRAME) == 0 && two.masks[0] == 1u << 2);
   apollo_replica before = two.record;
   apollo_answer a = tick(&two);
-  EXPECT(a.number == APOLLO_TAKEN && a.frames == 0 && memcmp(&before, &two.record, sizeof before) == 0);
+  EXPECT(a.number == APOLLO_TAKEN && a.frames == 0 && same_record(before, two.record));
   EXPECT(blame(&two, 2, 1).number == APOLLO_EARLY);
   EXPECT(blame(&two, 1, 1).number == APOLLO_TAKEN && two.record.round.value == 2);
   a = blame(&two, 1, 0);
   EXPECT(a.number == APOLLO_TAKEN && a.frames == 0 && two.record.round.value == 2 && two.masks[0] == 7);
+}
+
+/* A set is taken whole. Bits that stand are passed over, so all that is kept of a round may go in; with no new bit it is stale. R grows
+ * once, though there are more than f + 1. Above R it is early until R has come, below R it sets bits and nothing else. */
+static void sets(void) {
+  open_card(&two, 2, "");
+  EXPECT(hand_in_set(&two, 2, 3).number == APOLLO_EARLY && two.masks[1] == 0);
+  EXPECT(hand_in_set(&two, 1, 1).number == APOLLO_TAKEN && two.masks[0] == 1 && two.record.round.value == 1);
+  EXPECT(hand_in_set(&two, 1, 1).number == APOLLO_STALE);
+  apollo_answer a = hand_in_set(&two, 1, 7);
+  EXPECT(a.number == APOLLO_TAKEN && a.frames == 0 && a.leader == 1 && two.masks[0] == 7 && two.record.round.value == 2);
+  EXPECT(hand_in_set(&two, 1, 7).number == APOLLO_STALE && blame(&two, 1, 0).number == APOLLO_STALE);
+  a = hand_in_set(&two, 2, 3); /* it leads round 3 and proposes "y" in the same call */
+  EXPECT(a.number == APOLLO_TAKEN && a.frames == 1 && two.masks[1] == 3 && two.record.round.value == 4);
+  EXPECT(out[0] == APOLLO_BLOCK && out[7] == 3 && out[44] == 'y' && memcmp(out, two.log + 2 * APOLLO_FRAME, APOLLO_FRAME) == 0);
+  a = hand_in_set(&two, 2, 6);
+  EXPECT(a.number == APOLLO_TAKEN && a.frames == 0 && two.masks[1] == 7 && two.record.round.value == 4);
+}
+
+static void fill(size_t count, uint8_t round, uint8_t signer) {
+  for (size_t k = 0; k < count; k++) make_blame(round, signer, nth(k));
+}
+
+/* Is card 2 answered so for the first few of `frames`, with no bit set? */
+static int refused(size_t count, int number, uint32_t place) {
+  uint16_t before[T];
+  memcpy(before, two.masks, sizeof before);
+  apollo_answer a = hand_in(&two, frames, count * APOLLO_FRAME);
+  return a.number == number && a.place == place && a.leader == APOLLO_NO_LEADER && memcmp(before, two.masks, sizeof before) == 0;
+}
+
+/* A bad frame holds up its set, which goes in without it. Two rounds or a signer twice are no set: that comes after every frame's own
+ * refusals, before early and stale. Up to 15 frames are no cut, for three cards either. */
+static void bad_sets(void) {
+  open_card(&two, 2, "");
+  fill(APOLLO_MAX_BLAMES + 1, 1, 0);
+  EXPECT(refused(APOLLO_MAX_BLAMES + 1, APOLLO_BAD_LENGTH, 0) && refused(0, APOLLO_BAD_LENGTH, 0));
+  EXPECT(hand_in(&two, frames, APOLLO_FRAME + 1).number == APOLLO_BAD_LENGTH);
+  EXPECT(refused(APOLLO_MAX_BLAMES, APOLLO_NOT_A_SET, 0) && refused(2, APOLLO_NOT_A_SET, 0));
+  nth(2)[480] ^= 1;
+  EXPECT(refused(3, APOLLO_BAD_DIGEST, 2));
+  nth(2)[100] = 1; /* where a blame has zeros */
+  apollo_digest(nth(2), 480, nth(2) + 480);
+  EXPECT(refused(3, APOLLO_BAD_FORM, 2));
+  make_blame(2, 1, nth(1));
+  EXPECT(refused(2, APOLLO_NOT_A_SET, 0));
+  EXPECT(hand_in(&two, frames, APOLLO_FRAME).number == APOLLO_TAKEN && two.masks[0] == 1);
+  fill(2, 1, 0); /* stands already */
+  EXPECT(refused(2, APOLLO_NOT_A_SET, 0));
+  fill(2, 2, 1); /* above R */
+  EXPECT(refused(2, APOLLO_NOT_A_SET, 0) && refused(1, APOLLO_EARLY, 0));
+}
+
+/* Hands one buffer to both calls, on a state each, lent `entry` and `space` bytes: they answer the same and leave the same. */
+static uint8_t alike(const card *c, const uint8_t *frame, size_t len, size_t entry, size_t space) {
+  static const uint8_t text[APOLLO_ENTRY + 1] = "z";
+  static uint8_t tray[APOLLO_OUT];
+  card x = *c, y = *c;
+  memset(out, 5, sizeof out);
+  memset(tray, 5, sizeof tray);
+  apollo_answer a = apollo_blame(x.record, x.log, LOG, x.masks, T, frame, len, text, entry, out, space);
+  apollo_answer b = apollo_blames(y.record, y.log, LOG, y.masks, T, frame, len, text, entry, tray, space);
+  EXPECT(a.number == b.number && a.frames == b.frames && a.leader == b.leader && a.place == b.place);
+  EXPECT(same_record(a.replica, b.replica) && memcmp(out, tray, sizeof out) == 0);
+  EXPECT(memcmp(x.log, y.log, LOG) == 0 && memcmp(x.masks, y.masks, sizeof x.masks) == 0);
+  return a.number;
+}
+
+/* A set of one is a blame: taken in R, below it and where it passes R over and the card proposes, and with each refusal. */
+static void set_of_one(void) {
+  uint8_t frame[APOLLO_FRAME];
+  open_card(&two, 2, "");
+  EXPECT(hand_in_set(&two, 1, 3).number == APOLLO_TAKEN && hand_in_set(&two, 2, 1).number == APOLLO_TAKEN);
+  for (uint8_t round = 1; round < 4; round++)
+    for (uint8_t signer = 0; signer < 4; signer++) {
+      make_blame(round, signer, frame);
+      int number = signer > 2 ? APOLLO_BAD_FORM : round > 2 ? APOLLO_EARLY : two.masks[round - 1] >> signer & 1 ? APOLLO_STALE : 0;
+      EXPECT(alike(&two, frame, sizeof frame, 3, sizeof out) == number);
+    }
+  make_blame(2, 1, frame);
+  EXPECT(alike(&two, frame, sizeof frame, APOLLO_ENTRY + 1, sizeof out) == APOLLO_ENTRY_TOO_LONG);
+  EXPECT(alike(&two, frame, sizeof frame, 0, sizeof out - 1) == APOLLO_OUT_TOO_SHORT);
+  EXPECT(alike(&two, frame, sizeof frame - 1, 0, sizeof out) == APOLLO_BAD_LENGTH);
+  other = two;
+  other.record.round.value = T + 1;
+  EXPECT(alike(&other, frame, sizeof frame, 0, sizeof out) == APOLLO_ROUNDS_OVER);
+  other.record.round.value = T + 2;
+  EXPECT(alike(&other, frame, sizeof frame, 0, sizeof out) == APOLLO_BAD_REPLICA);
+  frame[480] ^= 1;
+  EXPECT(alike(&two, frame, sizeof frame, 0, sizeof out) == APOLLO_BAD_DIGEST);
 }
 
 /* 0 is no block. The timer is full on each new round. A block is taken after the own blame of its round. What is f rounds below the
@@ -176,6 +290,9 @@ int main(void) {
   stale_parent();
   layout_of_state();
   blames();
+  sets();
+  bad_sets();
+  set_of_one();
   what_calls_leave();
   false_height();
   skipped_round();

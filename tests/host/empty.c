@@ -23,8 +23,37 @@ static apollo_answer open_card(uint8_t id) {
   return apollo_open(id, 1, (apollo_ticks){1}, (apollo_round){T}, log_, LOG, masks, T, NULL, 0, out, sizeof out);
 }
 
+static uint8_t block[APOLLO_FRAME], blame[APOLLO_FRAME]; /* card 0's block of round 1 and blame of round 2 */
+
+/* Card 2 waits for round 2. */
+static apollo_replica second_round(void) {
+  return apollo_branch(open_card(2).replica, log_, LOG, masks, T, block, sizeof block, NULL, 0, out, sizeof out).replica;
+}
+
+/* apollo_blame and apollo_blames */
+typedef apollo_answer blame_call(apollo_replica, uint8_t *, size_t, uint16_t *, size_t, const uint8_t *, size_t, const uint8_t *,
+                                 size_t, uint8_t *, size_t);
+
+/* The blame comes before the own one, which then passes over round 2, and after it. The record at the end. */
+static apollo_replica hand_in(blame_call *call) {
+  apollo_replica r = second_round();
+  EXPECT(call(r, NULL, 0, masks, T, blame, sizeof blame, NULL, 0, out, sizeof out).number == APOLLO_BAD_REPLICA);
+  EXPECT(call(r, log_, LOG, NULL, 0, blame, sizeof blame, NULL, 0, out, sizeof out).number == APOLLO_BAD_REPLICA);
+  EXPECT(call(r, log_, LOG, masks, T, NULL, 0, NULL, 0, out, sizeof out).number == APOLLO_BAD_LENGTH);
+  EXPECT(call(r, log_, LOG, masks, T, blame, sizeof blame, NULL, 0, NULL, 0).number == APOLLO_OUT_TOO_SHORT);
+  apollo_answer a = call(r, log_, LOG, masks, T, blame, sizeof blame, NULL, 0, out, sizeof out);
+  EXPECT(a.number == APOLLO_TAKEN && a.frames == 0);
+  a = apollo_tick(a.replica, log_, LOG, masks, T, NULL, 0, out, sizeof out);
+  EXPECT(a.frames == 2 && proposed(a, 3));
+
+  r = apollo_tick(second_round(), log_, LOG, masks, T, NULL, 0, out, sizeof out).replica;
+  a = call(r, log_, LOG, masks, T, blame, sizeof blame, NULL, 0, out, sizeof out);
+  EXPECT(a.frames == 1 && proposed(a, 3) && a.replica.committed_height.value == 1);
+  return a.replica;
+}
+
 int main(void) {
-  uint8_t block[APOLLO_FRAME], blame[APOLLO_FRAME], digest[APOLLO_DIGEST];
+  uint8_t digest[APOLLO_DIGEST];
   apollo_ticks one = {1};
   apollo_round last = {T};
   EXPECT(apollo_open(0, 1, one, last, NULL, 0, masks, T, NULL, 0, out, sizeof out).number == APOLLO_BAD_SETUP);
@@ -44,32 +73,20 @@ int main(void) {
   EXPECT(apollo_branch(r, log_, LOG, masks, T, block, sizeof block, NULL, 0, NULL, 0).number == APOLLO_OUT_TOO_SHORT);
   EXPECT(proposed(apollo_branch(r, log_, LOG, masks, T, block, sizeof block, NULL, 0, out, sizeof out), 2));
 
-  r = open_card(2).replica;
-  r = apollo_branch(r, log_, LOG, masks, T, block, sizeof block, NULL, 0, out, sizeof out).replica;
+  r = second_round();
   EXPECT(apollo_tick(r, NULL, 0, masks, T, NULL, 0, out, sizeof out).number == APOLLO_BAD_REPLICA);
   EXPECT(apollo_tick(r, log_, LOG, NULL, 0, NULL, 0, out, sizeof out).number == APOLLO_BAD_REPLICA);
   EXPECT(apollo_tick(r, log_, LOG, masks, T, NULL, 0, NULL, 0).number == APOLLO_OUT_TOO_SHORT);
-  EXPECT(apollo_blame(r, NULL, 0, masks, T, blame, sizeof blame, NULL, 0, out, sizeof out).number == APOLLO_BAD_REPLICA);
-  EXPECT(apollo_blame(r, log_, LOG, NULL, 0, blame, sizeof blame, NULL, 0, out, sizeof out).number == APOLLO_BAD_REPLICA);
-  EXPECT(apollo_blame(r, log_, LOG, masks, T, NULL, 0, NULL, 0, out, sizeof out).number == APOLLO_BAD_LENGTH);
-  EXPECT(apollo_blame(r, log_, LOG, masks, T, blame, sizeof blame, NULL, 0, NULL, 0).number == APOLLO_OUT_TOO_SHORT);
-  a = apollo_blame(r, log_, LOG, masks, T, blame, sizeof blame, NULL, 0, out, sizeof out);
-  EXPECT(a.number == APOLLO_TAKEN && a.frames == 0);
-  a = apollo_tick(a.replica, log_, LOG, masks, T, NULL, 0, out, sizeof out); /* the second blame: round 2 is passed over */
-  EXPECT(a.frames == 2 && proposed(a, 3));
 
-  r = open_card(2).replica;
-  r = apollo_branch(r, log_, LOG, masks, T, block, sizeof block, NULL, 0, out, sizeof out).replica;
-  r = apollo_tick(r, log_, LOG, masks, T, NULL, 0, out, sizeof out).replica;
-  a = apollo_blame(r, log_, LOG, masks, T, blame, sizeof blame, NULL, 0, out, sizeof out);
-  EXPECT(a.frames == 1 && proposed(a, 3) && a.replica.committed_height.value == 1);
+  hand_in(apollo_blame);
+  r = hand_in(apollo_blames);
 
   apollo_height height = {1}, none = {0};
-  EXPECT(apollo_read(a.replica, NULL, 0, height).number == APOLLO_BAD_REPLICA);
-  apollo_part p = apollo_read(a.replica, log_, LOG, height);
+  EXPECT(apollo_read(r, NULL, 0, height).number == APOLLO_BAD_REPLICA);
+  apollo_part p = apollo_read(r, log_, LOG, height);
   EXPECT(p.number == APOLLO_TAKEN && p.start == 44 && p.length == 0);
-  EXPECT(apollo_fetch(a.replica, NULL, 0, none, out, sizeof out).number == APOLLO_BAD_REPLICA);
-  EXPECT(apollo_fetch(a.replica, log_, LOG, none, NULL, 0).number == APOLLO_OUT_TOO_SHORT);
+  EXPECT(apollo_fetch(r, NULL, 0, none, out, sizeof out).number == APOLLO_BAD_REPLICA);
+  EXPECT(apollo_fetch(r, log_, LOG, none, NULL, 0).number == APOLLO_OUT_TOO_SHORT);
 
   static const uint8_t empty[4] = {0xe3, 0xb0, 0xc4, 0x42}; /* the digest of no bytes begins so */
   apollo_digest(NULL, 0, digest);

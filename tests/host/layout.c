@@ -34,17 +34,23 @@ static void sizes(void) {
   AT(apollo_fetched, count, 8);
 }
 
-/* A record that no call made comes back as it went in, with refusal 2. */
-static void echoed(void) {
-  apollo_replica r = {201, 202, {1000003}, {1000004}, {1000005}, {1000006}, {1000007}, {1000008}, {1000009}, {1000010}};
-  uint8_t log[512] = {0}, out[1024] = {0}, entry[1] = {0};
-  uint16_t masks[1] = {0};
-  apollo_answer a = apollo_tick(r, log, sizeof log, masks, 1, entry, 0, out, sizeof out);
+static void comes_back(apollo_answer a) {
   EXPECT(a.number == APOLLO_BAD_REPLICA && a.frames == 0 && a.leader == APOLLO_NO_LEADER && a.place == 0);
   EXPECT(a.replica.id == 201 && a.replica.f == 202 && a.replica.timeout.value == 1000003 && a.replica.last_round.value == 1000004);
   EXPECT(a.replica.round.value == 1000005 && a.replica.timer.value == 1000006 && a.replica.tip_round.value == 1000007);
   EXPECT(a.replica.tip_height.value == 1000008 && a.replica.committed_round.value == 1000009);
   EXPECT(a.replica.committed_height.value == 1000010);
+}
+
+/* A record that no call made comes back as it went in, with refusal 2. */
+static void echoed(void) {
+  apollo_replica r = {201, 202, {1000003}, {1000004}, {1000005}, {1000006}, {1000007}, {1000008}, {1000009}, {1000010}};
+  uint8_t log[512] = {0}, out[1024] = {0}, entry[1] = {0}, frames[1024] = {0};
+  uint16_t masks[1] = {0};
+  comes_back(apollo_branch(r, log, sizeof log, masks, 1, frames, sizeof frames, entry, 0, out, sizeof out));
+  comes_back(apollo_blame(r, log, sizeof log, masks, 1, frames, 512, entry, 0, out, sizeof out));
+  comes_back(apollo_blames(r, log, sizeof log, masks, 1, frames, sizeof frames, entry, 0, out, sizeof out));
+  comes_back(apollo_tick(r, log, sizeof log, masks, 1, entry, 0, out, sizeof out));
   apollo_part p = apollo_read(r, log, sizeof log, (apollo_height){1});
   EXPECT(p.number == APOLLO_BAD_REPLICA && p.start == 0 && p.length == 0);
   apollo_fetched f = apollo_fetch(r, log, sizeof log, (apollo_height){0}, out, sizeof out);
@@ -74,7 +80,7 @@ static void filled(void) {
 }
 
 int main(void) {
-  EXPECT(apollo_version() == APOLLO_VERSION && APOLLO_VERSION == 1u);
+  EXPECT(apollo_version() == APOLLO_VERSION && APOLLO_VERSION == 2u);
   sizes();
   echoed();
   filled();
