@@ -127,7 +127,7 @@ impl<'l> Runner<'l> {
         Runner::beside(library, &Model, head)
     }
 
-    /// Another reference than the model for open, branch, blame and tick.
+    /// Another reference than the model for open, branch, blame, blames and tick.
     pub fn beside(library: &'l dyn Library, reference: &'l dyn Library, head: &Head) -> Self {
         let sides = || (0..head.cards).map(|_| Side::new(head.term)).collect();
         let out = || Buffer::new(SIZE * head.term as usize + 4 * SLACK, 0, 0x5a);
@@ -206,7 +206,7 @@ impl<'l> Runner<'l> {
         self.handed.extend_from_slice(call.handed());
     }
 
-    /// Open, branch, blame or tick.
+    /// Open, branch, blame, blames or tick.
     fn machine(&mut self, call: &Call) -> Result<Outcome, String> {
         let tried = &mut self.tried[call.card];
         let record = call.record.unwrap_or(tried.record);
@@ -307,6 +307,7 @@ fn ask(library: &dyn Library, call: &Call, record: Record, handed: &[u8], lent: 
         What::Open(setup) => library.open(*setup, lent),
         What::Branch(_) => library.branch(record, handed, lent),
         What::Blame(_) => library.blame(record, handed, lent),
+        What::Blames(_) => library.blames(record, handed, lent),
         _ => library.tick(record, lent),
     }
 }

@@ -15,6 +15,7 @@ enum Ask<'a> {
     Open(Setup),
     Branch(Record, &'a [u8]),
     Blame(Record, &'a [u8]),
+    Blames(Record, &'a [u8]),
     Tick(Record),
 }
 
@@ -22,7 +23,8 @@ impl Ask<'_> {
     fn record(&self) -> Record {
         match *self {
             Ask::Open(_) => Record::default(),
-            Ask::Branch(record, _) | Ask::Blame(record, _) | Ask::Tick(record) => record,
+            Ask::Branch(record, _) | Ask::Blame(record, _) => record,
+            Ask::Blames(record, _) | Ask::Tick(record) => record,
         }
     }
 }
@@ -75,6 +77,10 @@ impl Library for Broken {
         (self.machine)(&Ask::Blame(record, frame), lent)
     }
 
+    fn blames(&self, record: Record, frames: &[u8], lent: Lent) -> Answer {
+        (self.machine)(&Ask::Blames(record, frames), lent)
+    }
+
     fn tick(&self, record: Record, lent: Lent) -> Answer {
         (self.machine)(&Ask::Tick(record), lent)
     }
@@ -97,6 +103,7 @@ fn honest(ask: &Ask, lent: Lent) -> Answer {
         Ask::Open(setup) => model::open(setup, lent),
         Ask::Branch(record, frames) => model::branch(record, frames, lent),
         Ask::Blame(record, frame) => model::blame(record, frame, lent),
+        Ask::Blames(record, frames) => model::blames(record, frames, lent),
         Ask::Tick(record) => model::tick(record, lent),
     }
 }

@@ -96,7 +96,7 @@ impl Program {
                 self.cards[card].masks[round - 1] = words.number() as u16;
             }
             "g" => self.given = Some(words.record()),
-            "o" | "b" | "v" | "t" => self.machine(letter, &mut words),
+            "o" | "b" | "v" | "a" | "t" => self.machine(letter, &mut words),
             "q" => self.read(&mut words),
             "f" => self.fetch(&mut words),
             "h" => self.printed += &(hex(&sha256::digest(&words.bytes())) + "\n"),
@@ -134,6 +134,7 @@ impl Program {
             (Some(setup), _) => model::open(setup, lent),
             (_, "b") => model::branch(record, &words.bytes(), lent),
             (_, "v") => model::blame(record, &words.bytes(), lent),
+            (_, "a") => model::blames(record, &words.bytes(), lent),
             _ => model::tick(record, lent),
         };
         if answer.number == 0 {
