@@ -99,6 +99,16 @@ impl Call {
         }
     }
 
+    /// Whether the card's own record, its whole log and all its masks are lent.
+    pub fn lends_all(&self, term: u32) -> bool {
+        let term = term as usize;
+        self.record.is_none() && (self.log_len, self.masks_len) == (SIZE * term, term)
+    }
+
+    pub fn is_set_of_one(&self) -> bool {
+        matches!(&self.what, What::Blames(bytes) if bytes.len() == SIZE)
+    }
+
     /// The frames handed in, whatever the call answers; a buffer that is cut hands in none.
     pub fn frames(&self, term: u32) -> &[Frame] {
         let most = match self.what {

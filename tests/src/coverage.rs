@@ -318,7 +318,7 @@ impl Coverage {
         if due == Due::TwoBlocks {
             self.add(TWO_BLOCKS.0, TWO_BLOCKS.1);
         }
-        if matches!(&call.what, What::Blames(bytes) if bytes.len() == SIZE) {
+        if call.is_set_of_one() {
             self.add(SET_OF_ONE.0, SET_OF_ONE.1);
         }
         for &(group, change) in &call.changes {
