@@ -287,9 +287,9 @@ impl Cabinet {
             set.push(index);
         }
         match self.rng.below(16) {
-            0 => set.push(set[0]),
-            1 => set.extend(self.pool.blames[round + 1].first()),
-            2 => set.extend(self.pool.blames[round - 1].last()),
+            0 | 1 => set.push(set[0]),
+            2 => set.extend(self.pool.blames[round + 1].first()),
+            3 => set.extend(self.pool.blames[round - 1].last()),
             _ => {}
         }
         self.rng.shuffle(&mut set);

@@ -292,7 +292,7 @@ impl Wild {
         self.rng.shuffle(&mut signers);
         let (enough, any) = (usize::from(self.head.f) + 1, 1 + self.rng.below(n));
         signers.truncate(self.rng.pick(&[1, 2, enough, any, n]));
-        if self.rng.chance(8) {
+        if self.rng.chance(12) {
             let signer = self.rng.pick(&signers);
             let last = signers.len() - 1;
             signers[last] = signer;
@@ -300,7 +300,7 @@ impl Wild {
         let round = self.blamed(side);
         let blame = |&signer: &u8| frame::blame(signer, round);
         let mut frames: Vec<Frame> = signers.iter().map(blame).collect();
-        if self.rng.chance(8) {
+        if self.rng.chance(12) {
             let index = self.rng.below(frames.len());
             frames[index] = frame::blame(signers[index], self.blamed(side));
         }
