@@ -560,7 +560,7 @@ fn from_table(
     applies
 }
 
-/// Changes a call in one to three ways; its frames stay below T + 2 or 17.
+/// Changes a call in one to three ways; no buffer grows past T + 1 or 16 frames, whichever is more.
 pub fn change(hand: &mut Hand, call: &mut Call) {
     let times = match hand.rng.below(100) {
         0..=69 => 1,

@@ -145,7 +145,14 @@ const CLAIMED: &[(&str, &str, &[&str])] = &[
     (
         "blame",
         "claims, blame",
-        &["taken, R shown", "taken, R shown, block put out"],
+        &[
+            "refused  7 check",
+            "refused  8 form",
+            "refused 10 stale",
+            "refused 14 early",
+            "taken, R shown",
+            "taken, R shown, block put out",
+        ],
     ),
     (
         "blames",
