@@ -216,3 +216,15 @@ fn an_emitted_list_reads_back() {
     assert_eq!(program.printed.lines().count(), 6_000);
     assert_eq!(emitted.output.lines().count(), 6_000);
 }
+
+#[test]
+fn an_emitted_list_makes_every_call_often() {
+    let emitted = emit(1, 2_000, &mut Coverage::new());
+    for letter in "obvatqf".chars() {
+        let made = emitted
+            .input
+            .lines()
+            .filter(|line| line.starts_with(letter));
+        assert!(made.count() >= 50, "{letter}");
+    }
+}

@@ -55,7 +55,7 @@ fn fetched((seconds, f): (f64, ApolloFetched)) -> (f64, Outcome) {
 /// A call with each frame by itself; what the last gave.
 fn each_frame<T>(frames: &[u8], call: impl FnMut(&[u8]) -> T) -> T {
     let answers = frames.chunks_exact(SIZE).map(call);
-    answers.last().expect("a frame")
+    answers.reduce(|_, last| last).expect("a frame")
 }
 
 /// Calls of the library.
