@@ -350,29 +350,12 @@ impl Coverage {
         let What::Blames(bytes) = &call.what else {
             return;
         };
-        let (frames, record) = (slots(bytes), &before.record);
+        let frames = slots(bytes);
         match answer.number {
             6 => self.cut_set(bytes.len()),
             7 | 8 => self.bad_frame(frames, answer),
-            10 => self.add_all(
-                "blames",
-                &[
-                    (frames.len() == 1, "stale, one frame"),
-                    (frames.len() > 1, "stale, several frames"),
-                    (frame::round(&frames[0]) == record.round, "stale, R"),
-                    (
-                        frame::round(&frames[0]) < record.round,
-                        "stale, older round",
-                    ),
-                ],
-            ),
-            14 => self.add_all(
-                "blames",
-                &[
-                    (frames.len() > 1, "early, several frames"),
-                    (before.all_set(frames), "early, all bits set before"),
-                ],
-            ),
+            10 => self.stale_set(frames, before),
+            14 => self.early_set(frames, before),
             16 => self.no_set(frames, before),
             _ => {}
         }
@@ -417,6 +400,29 @@ impl Coverage {
                 (place > 0 && ends, last),
                 (two_rounds || twice, after),
                 (answer.number == 8 && block, "form, a block among blames"),
+            ],
+        );
+    }
+
+    fn stale_set(&mut self, frames: &[Frame], before: &Before) {
+        let waited_for = frame::round(&frames[0]) == before.record.round;
+        self.add_all(
+            "blames",
+            &[
+                (frames.len() == 1, "stale, one frame"),
+                (frames.len() > 1, "stale, several frames"),
+                (waited_for, "stale, R"),
+                (!waited_for, "stale, older round"),
+            ],
+        );
+    }
+
+    fn early_set(&mut self, frames: &[Frame], before: &Before) {
+        self.add_all(
+            "blames",
+            &[
+                (frames.len() > 1, "early, several frames"),
+                (before.all_set(frames), "early, all bits set before"),
             ],
         );
     }

@@ -587,15 +587,23 @@ fn stale_before_no_set(ask: &Ask, mut lent: Lent) -> Answer {
     answer
 }
 
-/// Tells frames of two rounds, or a signer twice, before the later frames are judged.
-fn no_set_before_a_later_frame(ask: &Ask, lent: Lent) -> Answer {
+/// Tells frames of two rounds, or a signer twice, before it judges the later frames.
+fn no_set_before(number: u8, ask: &Ask, lent: Lent) -> Answer {
     let answer = honest(ask, lent);
-    match (ask, answer.number) {
-        (Ask::Blames(record, bytes), 7 | 8) if !is_set(&slots(bytes)[..answer.place as usize]) => {
-            refusal(16, *record)
+    if let (Ask::Blames(record, bytes), true) = (ask, answer.number == number) {
+        if !is_set(&slots(bytes)[..answer.place as usize]) {
+            return refusal(16, *record);
         }
-        _ => answer,
     }
+    answer
+}
+
+fn no_set_before_a_later_check(ask: &Ask, lent: Lent) -> Answer {
+    no_set_before(7, ask, lent)
+}
+
+fn no_set_before_a_later_form(ask: &Ask, lent: Lent) -> Answer {
+    no_set_before(8, ask, lent)
 }
 
 fn first_place_of_a_set(ask: &Ask, lent: Lent) -> Answer {
@@ -758,7 +766,7 @@ fn other_slips() -> Vec<(&'static str, Broken)> {
 
 /// Slips of sets of blames.
 fn set_slips() -> Vec<(&'static str, Broken)> {
-    let slips: [(&str, Machine); 15] = [
+    let slips: [(&str, Machine); 16] = [
         ("R grows for each blame past f", grows_for_each_blame),
         ("R grows by an older round", grows_by_an_older_round),
         ("signer twice, taken", takes_a_signer_twice),
@@ -773,7 +781,8 @@ fn set_slips() -> Vec<(&'static str, Broken)> {
         ("bits of no set left", leaves_bits_of_no_set),
         ("14 before 16", early_before_no_set),
         ("10 before 16 and 14", stale_before_no_set),
-        ("16 before a later frame's 8", no_set_before_a_later_frame),
+        ("16 before a later frame's 7", no_set_before_a_later_check),
+        ("16 before a later frame's 8", no_set_before_a_later_form),
         ("place always the first", first_place_of_a_set),
         ("6 above n frames", cuts_sets_at_n),
         ("16 frames taken", takes_16_frames),
