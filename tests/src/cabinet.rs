@@ -67,6 +67,8 @@ struct Habits {
     loss: usize,
     repeat: usize,
     overtake: usize,
+    /// How often a blame comes in a set.
+    bundle: usize,
     withhold: usize,
     equivocate: usize,
     /// How often a faulty card does something.
@@ -83,6 +85,7 @@ impl Habits {
             loss: rng.pick(&[0, 5, 20, 60]),
             repeat: rng.pick(&[0, 5, 30]),
             overtake: rng.pick(&[0, 10, 50]),
+            bundle: rng.pick(&[0, 40, 90]),
             withhold: rng.pick(&[0, 20, 80]),
             equivocate: rng.pick(&[0, 40, 90]),
             busy: rng.pick(&[0, 8, 16]),
@@ -253,12 +256,16 @@ impl Cabinet {
         }
     }
 
-    /// Hands in a frame of the pool: a blame, or a block with some of its forebears.
+    /// Hands in a frame of the pool: a blame or a set with it, or a block with some forebears.
     fn hand(&mut self, card: usize, index: usize) -> Call {
         let frame = &self.pool.frames[index];
         if frame::kind(frame) == frame::BLAME {
-            let bytes = frame.to_vec();
-            return self.call(card, What::Blame(bytes));
+            let what = if self.rng.chance(self.habits.bundle) {
+                What::Blames(self.bundle(index))
+            } else {
+                What::Blame(frame.to_vec())
+            };
+            return self.call(card, what);
         }
         let most = match self.rng.below(10) {
             0..=5 => 1,
@@ -268,6 +275,26 @@ impl Cabinet {
         };
         let bytes = self.pool.path(index, most);
         self.call(card, What::Branch(bytes))
+    }
+
+    /// A blame with others of its round, at times with one twice or one of another round.
+    fn bundle(&mut self, index: usize) -> Vec<u8> {
+        let round = frame::round(&self.pool.frames[index]) as usize;
+        let mut set = self.pool.blames[round].clone();
+        self.rng.shuffle(&mut set);
+        set.truncate(1 + self.rng.below(set.len()));
+        if !set.contains(&index) {
+            set.push(index);
+        }
+        match self.rng.below(16) {
+            0 | 1 => set.push(set[0]),
+            2 => set.extend(self.pool.blames[round + 1].first()),
+            3 => set.extend(self.pool.blames[round - 1].last()),
+            _ => {}
+        }
+        self.rng.shuffle(&mut set);
+        let frames = set.iter().map(|&index| self.pool.frames[index]);
+        frames.collect::<Vec<_>>().into_flattened()
     }
 
     /// Something that is likely to bring the card on, or else another card.

@@ -1,7 +1,7 @@
 //! Lists of calls, each call with all its bytes, so that any part of a list can be run again.
 
-use crate::frame::SIZE;
-use crate::model::{Record, Setup, LEAST_OUT};
+use crate::frame::{Frame, SIZE};
+use crate::model::{whole_frames, Record, Setup, LEAST_OUT, MOST_BLAMES};
 
 /// What a list is about.
 #[derive(Clone, Debug)]
@@ -19,6 +19,7 @@ pub enum What {
     Open(Setup),
     Branch(Vec<u8>),
     Blame(Vec<u8>),
+    Blames(Vec<u8>),
     Tick,
     Read(u32),
     Fetch(u32),
@@ -82,6 +83,7 @@ impl Call {
             What::Open(_) => "open",
             What::Branch(_) => "branch",
             What::Blame(_) => "blame",
+            What::Blames(_) => "blames",
             What::Tick => "tick",
             What::Read(_) => "read",
             What::Fetch(_) => "fetch",
@@ -89,11 +91,31 @@ impl Call {
         }
     }
 
-    /// The bytes of the frames handed in.
+    /// The bytes lent for frames.
     pub fn handed(&self) -> &[u8] {
         match &self.what {
-            What::Branch(bytes) | What::Blame(bytes) => bytes,
+            What::Branch(bytes) | What::Blame(bytes) | What::Blames(bytes) => bytes,
             _ => &[],
         }
+    }
+
+    /// Whether the card's own record, its whole log and all its masks are lent.
+    pub fn lends_all(&self, term: u32) -> bool {
+        let term = term as usize;
+        self.record.is_none() && (self.log_len, self.masks_len) == (SIZE * term, term)
+    }
+
+    pub fn is_set_of_one(&self) -> bool {
+        matches!(&self.what, What::Blames(bytes) if bytes.len() == SIZE)
+    }
+
+    /// The frames handed in, whatever the call answers; a buffer that is cut hands in none.
+    pub fn frames(&self, term: u32) -> &[Frame] {
+        let most = match self.what {
+            What::Branch(_) => term as usize,
+            What::Blames(_) => MOST_BLAMES,
+            _ => 1,
+        };
+        whole_frames(self.handed(), most).unwrap_or(&[])
     }
 }

@@ -4,7 +4,7 @@
 use crate::call::{Call, Head, What};
 use crate::coverage::Row;
 use crate::frame::{self, Frame, SIZE};
-use crate::model::{cards, leader, Record, Setup, MOST_TERM};
+use crate::model::{cards, leader, Record, Setup, MOST_BLAMES, MOST_TERM};
 use crate::rng::Rng;
 
 /// What a change needs to know.
@@ -123,22 +123,28 @@ const FRAMES: &[(&str, Change)] = &[
         }
         _ => false,
     }),
-    ("block handed in as blame", |_, call| match &mut call.what {
-        What::Branch(bytes) => {
-            bytes.truncate(SIZE);
-            call.what = What::Blame(std::mem::take(bytes));
-            true
-        }
-        _ => false,
+    ("15 frames for a set", |_, call| fill_set(call, 15 * SIZE)),
+    ("15 frames and a byte", |_, call| {
+        fill_set(call, 15 * SIZE + 1)
+    }),
+    ("16 frames for a set", |_, call| fill_set(call, 16 * SIZE)),
+    ("block handed in as blame", |_, call| {
+        is_branch(call) && hand_in_as(call, What::Blame, 1)
+    }),
+    ("branch handed in as set", |_, call| {
+        is_branch(call) && hand_in_as(call, What::Blames, 16)
     }),
     ("blame handed in as branch", |_, call| {
-        match &mut call.what {
-            What::Blame(bytes) => {
-                call.what = What::Branch(std::mem::take(bytes));
-                true
-            }
-            _ => false,
-        }
+        is_blame(call) && hand_in_as(call, What::Branch, 2)
+    }),
+    ("blame handed in as set", |_, call| {
+        is_blame(call) && hand_in_as(call, What::Blames, 2)
+    }),
+    ("set handed in as branch", |_, call| {
+        is_set(call) && hand_in_as(call, What::Branch, 16)
+    }),
+    ("set handed in as blame", |_, call| {
+        is_set(call) && hand_in_as(call, What::Blame, 2)
     }),
     ("two frames swapped", |hand, call| {
         let Some(frames) = several(call) else {
@@ -166,10 +172,53 @@ const FRAMES: &[(&str, Change)] = &[
     }),
 ];
 
+fn is_branch(call: &Call) -> bool {
+    matches!(call.what, What::Branch(_))
+}
+
+fn is_blame(call: &Call) -> bool {
+    matches!(call.what, What::Blame(_))
+}
+
+fn is_set(call: &Call) -> bool {
+    matches!(call.what, What::Blames(_))
+}
+
+/// Hands at most so many of a call's frames to another call.
+fn hand_in_as(call: &mut Call, what: fn(Vec<u8>) -> What, most: usize) -> bool {
+    let Some(bytes) = handed(call) else {
+        return false;
+    };
+    bytes.truncate(SIZE * most);
+    call.what = what(std::mem::take(bytes));
+    true
+}
+
+/// Makes a set so long, with its first frame again and again.
+fn fill_set(call: &mut Call, length: usize) -> bool {
+    match &mut call.what {
+        What::Blames(bytes) if bytes.len() >= SIZE => {
+            fill(bytes, length);
+            true
+        }
+        _ => false,
+    }
+}
+
+fn fill(bytes: &mut Vec<u8>, length: usize) {
+    while bytes.len() < length {
+        bytes.extend_from_within(..SIZE);
+    }
+    bytes.truncate(length);
+}
+
 /// Gives a frame the round of the one before, or a lower one, with the leader that goes with it.
 fn same_round(hand: &mut Hand, call: &mut Call) -> bool {
     let f = hand.head.f;
-    let Some(frames) = several(call).filter(|_| !hand.strict) else {
+    if hand.strict || !is_branch(call) {
+        return false;
+    }
+    let Some(frames) = several(call) else {
         return false;
     };
     let index = 1 + hand.rng.below(frames.len() - 1);
@@ -184,15 +233,17 @@ fn same_round(hand: &mut Hand, call: &mut Call) -> bool {
 
 fn handed(call: &mut Call) -> Option<&mut Vec<u8>> {
     match &mut call.what {
-        What::Branch(bytes) | What::Blame(bytes) => Some(bytes),
+        What::Branch(bytes) | What::Blame(bytes) | What::Blames(bytes) => Some(bytes),
         _ => None,
     }
 }
 
-/// The frames of a branch of at least two.
+/// The frames of a branch or a set of at least two.
 fn several(call: &mut Call) -> Option<&mut [Frame]> {
     match &mut call.what {
-        What::Branch(bytes) if bytes.len() >= 2 * SIZE => Some(bytes.as_chunks_mut().0),
+        What::Branch(bytes) | What::Blames(bytes) if bytes.len() >= 2 * SIZE => {
+            Some(bytes.as_chunks_mut().0)
+        }
         _ => None,
     }
 }
@@ -201,10 +252,7 @@ fn over_the_term(hand: &mut Hand, call: &mut Call) -> bool {
     let wanted = SIZE * (hand.head.term as usize + 1);
     match &mut call.what {
         What::Branch(bytes) if bytes.len() >= SIZE && hand.head.term <= 64 => {
-            while bytes.len() < wanted {
-                bytes.extend_from_within(..SIZE);
-            }
-            bytes.truncate(wanted);
+            fill(bytes, wanted);
             true
         }
         _ => false,
@@ -301,14 +349,18 @@ const BLOCK_LEFT: &str = "block, check left";
 const BLOCK_SEALED: &str = "block, check made right";
 const BLAME_LEFT: &str = "blame, check left";
 const BLAME_SEALED: &str = "blame, check made right";
+const SET_LEFT: &str = "set, check left";
+const SET_SEALED: &str = "set, check made right";
 
 /// Damages one field of one handed frame, with its check left as it was or made right.
 fn harm(hand: &mut Hand, call: &mut Call) -> bool {
     let (fields, groups) = match &call.what {
         What::Branch(_) => (BLOCK_FIELDS, [BLOCK_LEFT, BLOCK_SEALED]),
         What::Blame(_) => (BLAME_FIELDS, [BLAME_LEFT, BLAME_SEALED]),
+        What::Blames(_) => (BLAME_FIELDS, [SET_LEFT, SET_SEALED]),
         _ => return false,
     };
+    let may_link = !hand.strict && is_branch(call);
     let frames: &mut [Frame] = handed(call).map_or(&mut [], |bytes| bytes.as_chunks_mut().0);
     if frames.is_empty() {
         return false;
@@ -325,7 +377,7 @@ fn harm(hand: &mut Hand, call: &mut Call) -> bool {
     let seal = field != "check" && !forging && hand.rng.chance(60);
     if seal {
         frame::seal(frame);
-        if !hand.strict && hand.rng.chance(50) {
+        if may_link && hand.rng.chance(50) {
             link(&mut frames[index..]);
         }
     }
@@ -508,7 +560,7 @@ fn from_table(
     applies
 }
 
-/// Changes a call in one to three ways.
+/// Changes a call in one to three ways; no buffer grows past T + 1 or 16 frames, whichever is more.
 pub fn change(hand: &mut Hand, call: &mut Call) {
     let times = match hand.rng.below(100) {
         0..=69 => 1,
@@ -523,6 +575,10 @@ pub fn change(hand: &mut Hand, call: &mut Call) {
             _ => record(hand, call) || setup(hand, call),
         });
     }
+    let most = (hand.head.term as usize + 1).max(MOST_BLAMES + 1);
+    if let Some(bytes) = handed(call) {
+        bytes.truncate(SIZE * most);
+    }
 }
 
 /// Puts a field of a record that no call made at an edge.
@@ -534,26 +590,27 @@ pub fn edge(hand: &mut Hand, record: &mut Record) {
 /// Every change there is.
 pub fn rows() -> impl Iterator<Item = Row> {
     let of = |group, labels: Vec<&'static str>| labels.into_iter().map(move |label| (group, label));
-    let not_check = |label: &&str| *label != "check";
-    let block: Vec<_> = BLOCK_FIELDS.iter().map(|row| row.0).collect();
-    let blame: Vec<_> = BLAME_FIELDS.iter().map(|row| row.0).collect();
-    of("length", LENGTHS.iter().map(|row| row.0).collect())
-        .chain(of("frames", FRAMES.iter().map(|row| row.0).collect()))
-        .chain(of(BLOCK_LEFT, block.clone()))
-        .chain(of(
-            BLOCK_SEALED,
-            block.into_iter().filter(not_check).collect(),
-        ))
-        .chain(of(BLAME_LEFT, blame.clone()))
-        .chain(of(
-            BLAME_SEALED,
-            blame.into_iter().filter(not_check).collect(),
-        ))
-        .chain(of(
-            "record",
-            RECORD_FIELDS.iter().map(|row| row.0).collect(),
-        ))
+    of("length", labels(LENGTHS))
+        .chain(of("frames", labels(FRAMES)))
+        .chain(of(BLOCK_LEFT, labels(BLOCK_FIELDS)))
+        .chain(of(BLOCK_SEALED, sealed(BLOCK_FIELDS)))
+        .chain(of(BLAME_LEFT, labels(BLAME_FIELDS)))
+        .chain(of(BLAME_SEALED, sealed(BLAME_FIELDS)))
+        .chain(of(SET_LEFT, labels(BLAME_FIELDS)))
+        .chain(of(SET_SEALED, sealed(BLAME_FIELDS)))
+        .chain(of("record", labels(RECORD_FIELDS)))
         .chain(of("record", SIZED.to_vec()))
         .chain(of("set-up", SIZED.to_vec()))
-        .chain(of("set-up", SETUP_FIELDS.iter().map(|row| row.0).collect()))
+        .chain(of("set-up", labels(SETUP_FIELDS)))
+}
+
+fn labels<T>(table: &[(&'static str, T)]) -> Vec<&'static str> {
+    table.iter().map(|row| row.0).collect()
+}
+
+/// A harmed check is never made right.
+fn sealed(fields: &[(&'static str, Harm)]) -> Vec<&'static str> {
+    let mut labels = labels(fields);
+    labels.retain(|label| *label != "check");
+    labels
 }

@@ -9,11 +9,13 @@ use std::collections::HashSet;
 use crate::call::{Call, Head, What};
 use crate::frame::{self, Frame, Name};
 use crate::model::{cards, leader, slots, Answer};
-use crate::runner::Side;
+use crate::rules::Rules;
+use crate::runner::{Outcome, Side};
 
 pub struct Claims {
     f: u8,
     term: u32,
+    rules: Rules,
     /// Cards that have been sound so far, and those of them that are open.
     sound: u16,
     open: u16,
@@ -45,6 +47,7 @@ impl Claims {
         Claims {
             f: head.f,
             term: head.term,
+            rules: Rules::new(head),
             sound: head.sound,
             open: 0,
             broken: None,
@@ -72,6 +75,12 @@ impl Claims {
 
     /// The host wrote a card's state by itself.
     pub fn written(&mut self, card: usize) {
+        self.rules.written(card);
+        self.lent_other(card);
+    }
+
+    /// A card is lent what no call left.
+    fn lent_other(&mut self, card: usize) {
         if self.is_open(card) {
             self.broken = Some("a sound card's state was written");
         } else if self.is_sound(card) {
@@ -85,14 +94,14 @@ impl Claims {
             return;
         }
         if call.record.is_some() {
-            self.written(call.card);
+            self.lent_other(call.card);
             return;
         }
         if !self.is_open(call.card) && !matches!(call.what, What::Open(_) | What::Digest(_)) {
             self.sound &= !(1 << call.card);
             return;
         }
-        for frame in slots(call.handed()) {
+        for frame in call.frames(self.term) {
             if self.is_forged(frame) {
                 self.broken = Some("a frame was forged");
             }
@@ -109,13 +118,15 @@ impl Claims {
     pub fn after(
         &mut self,
         call: &Call,
-        answer: Option<&Answer>,
+        outcome: &Outcome,
         sides: &[Side],
         out: &[u8],
     ) -> Result<Due, String> {
+        self.rules.after(call, outcome, &sides[call.card])?;
         if self.broken.is_some() || !self.is_sound(call.card) {
             return Ok(Due::Nothing);
         }
+        let answer = outcome.answer();
         let block = answer.and_then(|answer| self.note(call, answer, out));
         let others = cards(self.f) - self.open.count_ones();
         if self.broken.is_some() || others > u32::from(self.f) {

@@ -5,8 +5,8 @@ use std::collections::BTreeMap;
 use crate::call::{Call, Head, What};
 use crate::changes;
 use crate::claims::Due;
-use crate::frame::{self, Frame};
-use crate::model::{attaching, shown, slots, Answer, Fetched, Part, Record};
+use crate::frame::{self, Frame, SIZE};
+use crate::model::{attaching, cards, shown, slots, Answer, Fetched, Part, Record, MOST_BLAMES};
 use crate::runner::{Outcome, Side};
 
 /// Refusals that each call can give.
@@ -14,12 +14,13 @@ const REFUSALS: &[(&str, &[u8])] = &[
     ("open", &[1, 4, 5]),
     ("branch", &[2, 3, 4, 5, 6, 7, 8, 9, 10, 11, 12, 13]),
     ("blame", &[2, 3, 4, 5, 6, 7, 8, 10, 14]),
+    ("blames", &[2, 3, 4, 5, 6, 7, 8, 10, 14, 16]),
     ("tick", &[2, 3, 4, 5]),
     ("read", &[2, 15]),
     ("fetch", &[2, 4, 15]),
 ];
 
-const REFUSED: [&str; 16] = [
+const REFUSED: [&str; 17] = [
     "",
     "refused  1 set-up",
     "refused  2 record",
@@ -36,10 +37,11 @@ const REFUSED: [&str; 16] = [
     "refused 13 unshown",
     "refused 14 early",
     "refused 15 absent",
+    "refused 16 no set",
 ];
 
-/// Ways of taking.
-const TAKEN: &[(&str, &str)] = &[
+/// Ways of taking, and of refusing a set of blames.
+const WAYS: &[Row] = &[
     ("open", "taken, leads round 1"),
     ("open", "taken, does not lead"),
     ("branch", "taken onto the genesis"),
@@ -62,6 +64,46 @@ const TAKEN: &[(&str, &str)] = &[
     ("blame", "taken, R shown"),
     ("blame", "taken, R shown, block put out"),
     ("blame", "taken, R shown, term over"),
+    ("blames", "cut, no bytes"),
+    ("blames", "cut, under one frame"),
+    ("blames", "cut, bytes after whole frames"),
+    ("blames", "cut, bytes after 15 frames"),
+    ("blames", "cut, 16 frames"),
+    ("blames", "check, first frame"),
+    ("blames", "check, middle frame"),
+    ("blames", "check, last of several"),
+    ("blames", "check, no set before it"),
+    ("blames", "form, first frame"),
+    ("blames", "form, middle frame"),
+    ("blames", "form, last of several"),
+    ("blames", "form, no set before it"),
+    ("blames", "form, a block among blames"),
+    ("blames", "no set, two rounds alone"),
+    ("blames", "no set, a signer twice alone"),
+    ("blames", "no set, both"),
+    ("blames", "no set, and early"),
+    ("blames", "no set, and stale"),
+    ("blames", "no set, more frames than cards"),
+    ("blames", "early, several frames"),
+    ("blames", "early, all bits set before"),
+    ("blames", "stale, one frame"),
+    ("blames", "stale, several frames"),
+    ("blames", "stale, R"),
+    ("blames", "stale, older round"),
+    ("blames", "taken, one frame"),
+    ("blames", "taken, several frames"),
+    ("blames", "taken, 15 frames"),
+    ("blames", "taken, signers not in order"),
+    ("blames", "taken, first bit set before"),
+    ("blames", "taken, last bit set before"),
+    ("blames", "taken, older round"),
+    ("blames", "taken, older round shown by it"),
+    ("blames", "taken, R not shown yet"),
+    ("blames", "taken, R shown"),
+    ("blames", "taken, R shown, block put out"),
+    ("blames", "taken, R shown, term over"),
+    ("blames", "taken, R shown, bits set before"),
+    ("blames", "taken, R shown, over f + 1 frames"),
     ("tick", "none left"),
     ("tick", "counted down"),
     ("tick", "blamed, R not shown yet"),
@@ -77,29 +119,64 @@ const TAKEN: &[(&str, &str)] = &[
     ("digest", "made"),
 ];
 
-/// Rows that have to be reached while the claims are due, too.
-const CLAIMED: &[&str] = &[
-    "refused  7 check",
-    "refused  8 form",
-    "refused  9 parted",
-    "refused 10 stale",
-    "refused 11 loose",
-    "refused 13 unshown",
-    "taken onto the genesis",
-    "taken onto a slot",
-    "taken, several frames",
-    "taken, rounds skipped before it",
-    "taken, rounds skipped inside it",
-    "taken, filled slots replaced",
-    "taken, committed frames again",
-    "taken, ends in T",
-    "taken, block put out after",
-    "taken, R shown",
-    "taken, R shown, block put out",
-    "blamed, R shown",
+/// Rows of a call that have to be reached while the claims are due, too, and their group.
+const CLAIMED: &[(&str, &str, &[&str])] = &[
+    (
+        "branch",
+        "claims, branch",
+        &[
+            "refused  7 check",
+            "refused  8 form",
+            "refused  9 parted",
+            "refused 10 stale",
+            "refused 11 loose",
+            "refused 13 unshown",
+            "taken onto the genesis",
+            "taken onto a slot",
+            "taken, several frames",
+            "taken, rounds skipped before it",
+            "taken, rounds skipped inside it",
+            "taken, filled slots replaced",
+            "taken, committed frames again",
+            "taken, ends in T",
+            "taken, block put out after",
+        ],
+    ),
+    (
+        "blame",
+        "claims, blame",
+        &[
+            "refused  7 check",
+            "refused  8 form",
+            "refused 10 stale",
+            "refused 14 early",
+            "taken, R shown",
+            "taken, R shown, block put out",
+        ],
+    ),
+    (
+        "blames",
+        "claims, blames",
+        &[
+            "refused  6 cut",
+            "check, last of several",
+            "form, last of several",
+            "refused 10 stale",
+            "refused 14 early",
+            "no set, two rounds alone",
+            "no set, a signer twice alone",
+            "taken, several frames",
+            "taken, older round shown by it",
+            "taken, R shown",
+            "taken, R shown, block put out",
+            "taken, R shown, over f + 1 frames",
+        ],
+    ),
+    ("tick", "claims, tick", &["blamed, R shown"]),
 ];
 
 const TWO_BLOCKS: Row = ("claims", "cards hold two blocks of a round");
+const SET_OF_ONE: Row = ("claims", "a set of one beside a blame");
 
 /// A size of lists and how it is told.
 type Size = (&'static str, fn(&Head) -> bool);
@@ -123,7 +200,7 @@ const SIZES: &[Size] = &[
 /// What has to be known of a card before a call to tell how the call was taken.
 pub struct Before {
     record: Record,
-    /// The mask of the round blamed: the frame's for a blame, R for a tick.
+    /// The mask of the round blamed: the first frame's for blames, R for a tick.
     mask: u16,
     /// The round that a branch attaches to, and whether filled slots lie above it.
     attach: Option<(u32, bool)>,
@@ -146,6 +223,24 @@ impl Before {
             },
         }
     }
+
+    /// Whether the signers' bits stand in the mask.
+    fn all_set(&self, frames: &[Frame]) -> bool {
+        signers(frames) & !self.mask == 0
+    }
+}
+
+/// A bit for each signer of blames in form.
+fn signers(frames: &[Frame]) -> u16 {
+    let bit = |frame| 1 << frame::signer(frame);
+    frames.iter().map(bit).fold(0, |bits, bit: u16| bits | bit)
+}
+
+/// Whether blames in form are of two rounds, and whether a signer is there twice.
+fn faults(frames: &[Frame]) -> (bool, bool) {
+    let rounds = |pair: &[Frame]| frame::round(&pair[0]) != frame::round(&pair[1]);
+    let different = signers(frames).count_ones() as usize;
+    (frames.windows(2).any(rounds), different < frames.len())
 }
 
 fn attach(frames: &[u8], log: &[u8]) -> Option<(u32, bool)> {
@@ -183,12 +278,14 @@ impl Coverage {
         let mut rows = Vec::new();
         for &(call, numbers) in REFUSALS {
             rows.extend(numbers.iter().map(|&n| (call, REFUSED[usize::from(n)])));
-            rows.extend(TAKEN.iter().filter(|row| row.0 == call));
+            rows.extend(WAYS.iter().filter(|row| row.0 == call));
         }
-        rows.extend(TAKEN.iter().filter(|row| row.0 == "digest"));
+        rows.extend(WAYS.iter().filter(|row| row.0 == "digest"));
         rows.extend(changes::rows());
-        rows.extend(CLAIMED.iter().map(|row| ("claims", *row)));
-        rows.push(TWO_BLOCKS);
+        for &(_, group, claimed) in CLAIMED {
+            rows.extend(claimed.iter().map(|row| (group, *row)));
+        }
+        rows.extend([TWO_BLOCKS, SET_OF_ONE]);
         rows.extend(SIZES.iter().map(|size| ("list", size.0)));
         Coverage {
             rows,
@@ -199,18 +296,27 @@ impl Coverage {
 
     fn add(&mut self, call: &'static str, row: &'static str) {
         *self.counts.entry((call, row)).or_default() += 1;
-        if self.due && CLAIMED.contains(&row) {
-            *self.counts.entry(("claims", row)).or_default() += 1;
+        let of_call = CLAIMED.iter().find(|claimed| claimed.0 == call);
+        if let (true, Some((_, group, rows))) = (self.due, of_call) {
+            if rows.contains(&row) {
+                *self.counts.entry((group, row)).or_default() += 1;
+            }
+        }
+    }
+
+    /// Counts the rows that were reached.
+    fn add_all(&mut self, call: &'static str, rows: &[(bool, &'static str)]) {
+        for &(reached, row) in rows {
+            if reached {
+                self.add(call, row);
+            }
         }
     }
 
     /// Counts a list.
     pub fn list(&mut self, head: &Head) {
-        for (row, fits) in SIZES {
-            if fits(head) {
-                self.add("list", row);
-            }
-        }
+        let rows: Vec<_> = SIZES.iter().map(|(row, fits)| (fits(head), *row)).collect();
+        self.add_all("list", &rows);
     }
 
     /// Counts a call and whether the claims were due after it.
@@ -219,11 +325,14 @@ impl Coverage {
         if due == Due::TwoBlocks {
             self.add(TWO_BLOCKS.0, TWO_BLOCKS.1);
         }
+        if call.is_set_of_one() {
+            self.add(SET_OF_ONE.0, SET_OF_ONE.1);
+        }
         for &(group, change) in &call.changes {
             self.add(group, change);
         }
         match outcome {
-            Outcome::Answer(answer) if answer.number != 0 => self.refusal(call, answer.number),
+            Outcome::Answer(answer) if answer.number != 0 => self.refused(call, before, answer),
             Outcome::Answer(answer) => self.taken(call, before, answer),
             Outcome::Part(part) => self.part(call, part),
             Outcome::Fetched(fetched, all) => self.fetched(call, fetched, *all),
@@ -236,12 +345,112 @@ impl Coverage {
         self.add(call.word(), REFUSED[usize::from(number)]);
     }
 
+    fn refused(&mut self, call: &Call, before: &Before, answer: &Answer) {
+        self.refusal(call, answer.number);
+        let What::Blames(bytes) = &call.what else {
+            return;
+        };
+        let frames = slots(bytes);
+        match answer.number {
+            6 => self.cut_set(bytes.len()),
+            7 | 8 => self.bad_frame(frames, answer),
+            10 => self.stale_set(frames, before),
+            14 => self.early_set(frames, before),
+            16 => self.no_set(frames, before),
+            _ => {}
+        }
+    }
+
+    fn cut_set(&mut self, length: usize) {
+        let row = match length {
+            0 => "cut, no bytes",
+            1..SIZE => "cut, under one frame",
+            _ if length.is_multiple_of(SIZE) => "cut, 16 frames",
+            _ if length > MOST_BLAMES * SIZE => "cut, bytes after 15 frames",
+            _ => "cut, bytes after whole frames",
+        };
+        self.add("blames", row);
+    }
+
+    /// A frame of a set with a wrong check or form.
+    fn bad_frame(&mut self, frames: &[Frame], answer: &Answer) {
+        let place = answer.place as usize;
+        let [first, middle, last, after] = match answer.number {
+            7 => [
+                "check, first frame",
+                "check, middle frame",
+                "check, last of several",
+                "check, no set before it",
+            ],
+            _ => [
+                "form, first frame",
+                "form, middle frame",
+                "form, last of several",
+                "form, no set before it",
+            ],
+        };
+        let ends = place + 1 == frames.len();
+        let block = frame::kind(&frames[place]) == frame::BLOCK;
+        let (two_rounds, twice) = faults(&frames[..place]);
+        self.add_all(
+            "blames",
+            &[
+                (place == 0, first),
+                (place > 0 && !ends, middle),
+                (place > 0 && ends, last),
+                (two_rounds || twice, after),
+                (answer.number == 8 && block, "form, a block among blames"),
+            ],
+        );
+    }
+
+    fn stale_set(&mut self, frames: &[Frame], before: &Before) {
+        let waited_for = frame::round(&frames[0]) == before.record.round;
+        self.add_all(
+            "blames",
+            &[
+                (frames.len() == 1, "stale, one frame"),
+                (frames.len() > 1, "stale, several frames"),
+                (waited_for, "stale, R"),
+                (!waited_for, "stale, older round"),
+            ],
+        );
+    }
+
+    fn early_set(&mut self, frames: &[Frame], before: &Before) {
+        self.add_all(
+            "blames",
+            &[
+                (frames.len() > 1, "early, several frames"),
+                (before.all_set(frames), "early, all bits set before"),
+            ],
+        );
+    }
+
+    fn no_set(&mut self, frames: &[Frame], before: &Before) {
+        let (two_rounds, twice) = faults(frames);
+        let early = frame::round(&frames[0]) > before.record.round;
+        let many = frames.len() > cards(before.record.f) as usize;
+        self.add_all(
+            "blames",
+            &[
+                (!twice, "no set, two rounds alone"),
+                (!two_rounds, "no set, a signer twice alone"),
+                (two_rounds && twice, "no set, both"),
+                (early, "no set, and early"),
+                (!early && before.all_set(frames), "no set, and stale"),
+                (many, "no set, more frames than cards"),
+            ],
+        );
+    }
+
     fn taken(&mut self, call: &Call, before: &Before, answer: &Answer) {
         match &call.what {
             What::Open(_) if answer.frames == 1 => self.add("open", "taken, leads round 1"),
             What::Open(_) => self.add("open", "taken, does not lead"),
             What::Branch(frames) => self.branch(slots(frames), before, answer),
-            What::Blame(frame) => self.blame(&slots(frame)[0], before, answer),
+            What::Blame(frame) => self.blames("blame", slots(frame), before, answer),
+            What::Blames(frames) => self.set(slots(frames), before, answer),
             _ => self.tick(before, answer),
         }
     }
@@ -254,45 +463,74 @@ impl Coverage {
             frame::round(&frames[frames.len() - 1]),
         );
         let gap = |pair: &[Frame]| frame::round(&pair[1]) > frame::round(&pair[0]) + 1;
-        let rows = [
-            (attach == 0, "taken onto the genesis"),
-            (attach > 0, "taken onto a slot"),
-            (frames.len() == 1, "taken, one frame"),
-            (frames.len() > 1, "taken, several frames"),
-            (frames.len() == record.term as usize, "taken, T frames"),
-            (frames.len() > 1_000, "taken, over 1,000 frames"),
-            (first > attach + 1, "taken, rounds skipped before it"),
-            (
-                frames.windows(2).any(gap),
-                "taken, rounds skipped inside it",
-            ),
-            (replaced, "taken, filled slots replaced"),
-            (
-                first <= record.committed_round,
-                "taken, committed frames again",
-            ),
-            (last > record.round, "taken, ends above R"),
-            (last == record.term, "taken, ends in T"),
-            (answer.frames == 1, "taken, block put out after"),
-            (
-                answer.record.committed_round > record.committed_round,
-                "taken, committed grew",
-            ),
-        ];
-        for (reached, row) in rows {
-            if reached {
-                self.add("branch", row);
-            }
-        }
+        self.add_all(
+            "branch",
+            &[
+                (attach == 0, "taken onto the genesis"),
+                (attach > 0, "taken onto a slot"),
+                (frames.len() == 1, "taken, one frame"),
+                (frames.len() > 1, "taken, several frames"),
+                (frames.len() == record.term as usize, "taken, T frames"),
+                (frames.len() > 1_000, "taken, over 1,000 frames"),
+                (first > attach + 1, "taken, rounds skipped before it"),
+                (
+                    frames.windows(2).any(gap),
+                    "taken, rounds skipped inside it",
+                ),
+                (replaced, "taken, filled slots replaced"),
+                (
+                    first <= record.committed_round,
+                    "taken, committed frames again",
+                ),
+                (last > record.round, "taken, ends above R"),
+                (last == record.term, "taken, ends in T"),
+                (answer.frames == 1, "taken, block put out after"),
+                (
+                    answer.record.committed_round > record.committed_round,
+                    "taken, committed grew",
+                ),
+            ],
+        );
     }
 
-    fn blame(&mut self, frame: &Frame, before: &Before, answer: &Answer) {
+    fn set(&mut self, frames: &[Frame], before: &Before, answer: &Answer) {
         let record = &before.record;
-        let mask = before.mask | 1 << frame::signer(frame);
+        let bit_set = |frame: &Frame| before.mask & signers(&[*frame]) != 0;
+        let grew = answer.record.round > record.round;
+        let falls = |pair: &[Frame]| frame::signer(&pair[0]) > frame::signer(&pair[1]);
+        self.blames("blames", frames, before, answer);
+        self.add_all(
+            "blames",
+            &[
+                (frames.len() == 1, "taken, one frame"),
+                (frames.len() > 1, "taken, several frames"),
+                (frames.len() == 15, "taken, 15 frames"),
+                (frames.windows(2).any(falls), "taken, signers not in order"),
+                (bit_set(&frames[0]), "taken, first bit set before"),
+                (
+                    bit_set(&frames[frames.len() - 1]),
+                    "taken, last bit set before",
+                ),
+                (
+                    grew && frames.iter().any(bit_set),
+                    "taken, R shown, bits set before",
+                ),
+                (
+                    grew && frames.len() > usize::from(record.f) + 1,
+                    "taken, R shown, over f + 1 frames",
+                ),
+            ],
+        );
+    }
+
+    /// What a blame, or a set of them, came to.
+    fn blames(&mut self, call: &'static str, frames: &[Frame], before: &Before, answer: &Answer) {
+        let (record, round) = (&before.record, frame::round(&frames[0]));
+        let mask = before.mask | signers(frames);
         let shown_by_it = shown(mask, record.f) && !shown(before.mask, record.f);
-        let row = if frame::round(frame) < record.round && shown_by_it {
+        let row = if round < record.round && shown_by_it {
             "taken, older round shown by it"
-        } else if frame::round(frame) < record.round {
+        } else if round < record.round {
             "taken, older round"
         } else if answer.record.round == record.round {
             "taken, R not shown yet"
@@ -303,7 +541,7 @@ impl Coverage {
         } else {
             "taken, R shown"
         };
-        self.add("blame", row);
+        self.add(call, row);
     }
 
     fn tick(&mut self, before: &Before, answer: &Answer) {

@@ -19,6 +19,7 @@
 //!     o CARD OWN F WAIT T LOG MASKS OUT ENTRY    open
 //!     b CARD LOG MASKS OUT ENTRY FRAMES          branch
 //!     v CARD LOG MASKS OUT ENTRY FRAME           blame
+//!     a CARD LOG MASKS OUT ENTRY FRAMES          blames
 //!     t CARD LOG MASKS OUT ENTRY                 tick
 //!     q CARD LOG HEIGHT                          read
 //!     f CARD LOG OUT HEIGHT                      fetch, as many frames as fit
@@ -26,13 +27,14 @@
 //! ```
 //!
 //! Before each call the lent part of the out buffer is filled with bytes of 165. If open, branch,
-//! blame or tick is taken, the record of its answer becomes the card's; else the card keeps its own.
+//! blame, blames or tick is taken, the record of its answer becomes the card's; else the card keeps
+//! its own.
 //!
 //! The output has a line for each call, from `o` to `h`. DIGEST is in lower-case hex; it is that of
 //! the lent log, then the lent masks with two bytes each, the higher first, then the lent out buffer.
 //!
 //! ```text
-//!     o b v t    NUMBER PLACE FRAMES LEADER RECORD DIGEST
+//!     o b v a t  NUMBER PLACE FRAMES LEADER RECORD DIGEST
 //!     q          NUMBER START LENGTH DIGEST
 //!     f          NUMBER COUNT DIGEST
 //!     h          DIGEST, of the bytes
@@ -67,16 +69,17 @@ pub struct Emitted {
 }
 
 /// Lists of small cards from a seed on, until there are so many calls: first those that reach much
-/// that is new, in the end any.
+/// that is new for their length, in the end any.
 pub fn emit(first_seed: u64, calls: u64, coverage: &mut Coverage) -> Emitted {
     let mut emitted = Emitted::default();
-    for wanted in [16, 8, 4, 2, 1] {
+    for wanted in [32, 16, 8, 4, 2, 1] {
         for seed in first_seed..first_seed + 300 {
             let mut trial = coverage.clone();
-            let passed = run(&Model, seed, Sizes::Small, &mut trial);
-            assert!(passed.is_ok(), "the model is itself");
-            let new = coverage.gaps().len() - trial.gaps().len();
-            if new >= wanted && emitted.calls < calls {
+            let Ok(passed) = run(&Model, seed, Sizes::Small, &mut trial) else {
+                panic!("the model is itself");
+            };
+            let new = (coverage.gaps().len() - trial.gaps().len()) as u64;
+            if 100 * new >= wanted * passed.calls && emitted.calls < calls {
                 emitted.list(seed, calls, coverage);
             }
         }
@@ -154,6 +157,7 @@ impl Emitted {
             }
             What::Branch(frames) => self.line('b', &[card, lent, bytes(frames)]),
             What::Blame(frame) => self.line('v', &[card, lent, bytes(frame)]),
+            What::Blames(frames) => self.line('a', &[card, lent, bytes(frames)]),
             What::Tick => self.line('t', &[card, lent]),
             What::Read(height) => self.line('q', &[card, log, height.to_string()]),
             What::Fetch(height) => self.line('f', &[card, log, out, height.to_string()]),

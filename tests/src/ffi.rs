@@ -109,6 +109,20 @@ extern "C" {
         out_len: usize,
     ) -> ApolloAnswer;
 
+    pub fn apollo_blames(
+        replica: ApolloReplica,
+        log: *mut u8,
+        log_len: usize,
+        masks: *mut u16,
+        masks_len: usize,
+        frames: *const u8,
+        frames_len: usize,
+        entry: *const u8,
+        entry_len: usize,
+        out: *mut u8,
+        out_len: usize,
+    ) -> ApolloAnswer;
+
     pub fn apollo_tick(
         replica: ApolloReplica,
         log: *mut u8,
@@ -194,8 +208,44 @@ impl From<ApolloAnswer> for Answer {
     }
 }
 
+/// A call that hands in frames.
+#[cfg(apollo_lib)]
+type HandIn = unsafe extern "C" fn(
+    ApolloReplica,
+    *mut u8,
+    usize,
+    *mut u16,
+    usize,
+    *const u8,
+    usize,
+    *const u8,
+    usize,
+    *mut u8,
+    usize,
+) -> ApolloAnswer;
+
 // Safety, for each call below: every pointer comes from a slice with its length, the written ones
 // from slices lent for writing, and no two overlap.
+#[cfg(apollo_lib)]
+fn hand_in(call: HandIn, record: Record, frames: &[u8], lent: Lent) -> Answer {
+    let answer = unsafe {
+        call(
+            record.into(),
+            lent.log.as_mut_ptr(),
+            lent.log.len(),
+            lent.masks.as_mut_ptr(),
+            lent.masks.len(),
+            frames.as_ptr(),
+            frames.len(),
+            lent.entry.as_ptr(),
+            lent.entry.len(),
+            lent.out.as_mut_ptr(),
+            lent.out.len(),
+        )
+    };
+    answer.into()
+}
+
 #[cfg(apollo_lib)]
 impl Library for Archive {
     fn open(&self, setup: Setup, lent: Lent) -> Answer {
@@ -219,41 +269,15 @@ impl Library for Archive {
     }
 
     fn branch(&self, record: Record, frames: &[u8], lent: Lent) -> Answer {
-        let answer = unsafe {
-            apollo_branch(
-                record.into(),
-                lent.log.as_mut_ptr(),
-                lent.log.len(),
-                lent.masks.as_mut_ptr(),
-                lent.masks.len(),
-                frames.as_ptr(),
-                frames.len(),
-                lent.entry.as_ptr(),
-                lent.entry.len(),
-                lent.out.as_mut_ptr(),
-                lent.out.len(),
-            )
-        };
-        answer.into()
+        hand_in(apollo_branch, record, frames, lent)
     }
 
     fn blame(&self, record: Record, frame: &[u8], lent: Lent) -> Answer {
-        let answer = unsafe {
-            apollo_blame(
-                record.into(),
-                lent.log.as_mut_ptr(),
-                lent.log.len(),
-                lent.masks.as_mut_ptr(),
-                lent.masks.len(),
-                frame.as_ptr(),
-                frame.len(),
-                lent.entry.as_ptr(),
-                lent.entry.len(),
-                lent.out.as_mut_ptr(),
-                lent.out.len(),
-            )
-        };
-        answer.into()
+        hand_in(apollo_blame, record, frame, lent)
+    }
+
+    fn blames(&self, record: Record, frames: &[u8], lent: Lent) -> Answer {
+        hand_in(apollo_blames, record, frames, lent)
     }
 
     fn tick(&self, record: Record, lent: Lent) -> Answer {

@@ -14,6 +14,7 @@ pub mod library;
 pub mod lists;
 pub mod model;
 pub mod rng;
+pub mod rules;
 pub mod runner;
 #[cfg(not(feature = "unrolled"))]
 pub mod sha256;

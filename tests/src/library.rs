@@ -1,4 +1,4 @@
-//! What is compared: anything that offers the seven functions.
+//! What is compared: anything that offers the eight functions.
 
 use crate::model::{self, Answer, Fetched, Lent, Part, Record, Setup};
 use crate::sha256;
@@ -7,6 +7,7 @@ pub trait Library {
     fn open(&self, setup: Setup, lent: Lent) -> Answer;
     fn branch(&self, record: Record, frames: &[u8], lent: Lent) -> Answer;
     fn blame(&self, record: Record, frame: &[u8], lent: Lent) -> Answer;
+    fn blames(&self, record: Record, frames: &[u8], lent: Lent) -> Answer;
     fn tick(&self, record: Record, lent: Lent) -> Answer;
     fn read(&self, record: Record, log: &[u8], height: u32) -> Part;
     fn fetch(&self, record: Record, log: &[u8], height: u32, out: &mut [u8]) -> Fetched;
@@ -27,6 +28,10 @@ impl Library for Model {
 
     fn blame(&self, record: Record, frame: &[u8], lent: Lent) -> Answer {
         model::blame(record, frame, lent)
+    }
+
+    fn blames(&self, record: Record, frames: &[u8], lent: Lent) -> Answer {
+        model::blames(record, frames, lent)
     }
 
     fn tick(&self, record: Record, lent: Lent) -> Answer {

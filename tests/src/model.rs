@@ -1,4 +1,4 @@
-//! One card's step machine: open, branch, blame, tick, read and fetch.
+//! One card's step machine: open, branch, blame, blames, tick, read and fetch.
 //!
 //! Each call first judges everything it was handed and writes nothing until all of it has passed.
 
@@ -11,6 +11,8 @@ pub const LEAST_OUT: usize = 2 * SIZE;
 pub const MOST_F: u8 = 7;
 pub const MOST_WAIT: u32 = 60_000;
 pub const MOST_TERM: u32 = 4_096;
+/// The largest set of blames, for any number of cards.
+pub const MOST_BLAMES: usize = 15;
 
 /// What the host keeps for a card between calls, beside its book and masks.
 #[derive(Clone, Copy, Debug, Default, PartialEq, Eq)]
@@ -40,7 +42,7 @@ pub struct Setup {
     pub term: u32,
 }
 
-/// The buffers lent to open, branch, blame and tick.
+/// The buffers lent to open, branch, blame, blames and tick.
 pub struct Lent<'a> {
     /// The book: slot r is the r-th 512 bytes.
     pub log: &'a mut [u8],
@@ -49,7 +51,7 @@ pub struct Lent<'a> {
     pub out: &'a mut [u8],
 }
 
-/// The result of open, branch, blame and tick.
+/// The result of open, branch, blame, blames and tick.
 #[derive(Clone, Copy, Debug, PartialEq, Eq)]
 pub struct Answer {
     pub number: u8,
@@ -164,14 +166,24 @@ pub fn branch(record: Record, frames: &[u8], lent: Lent) -> Answer {
     }
 }
 
-/// Hands in a blame.
+/// Hands in a blame: a set of one.
 pub fn blame(record: Record, frame: &[u8], lent: Lent) -> Answer {
-    match judge_blame(&record, frame, &lent) {
+    hear(record, frame, 1, lent)
+}
+
+/// Hands in a set of blames of one round: whole frames, one after the other.
+pub fn blames(record: Record, frames: &[u8], lent: Lent) -> Answer {
+    hear(record, frames, MOST_BLAMES, lent)
+}
+
+/// Hands in from 1 to so many blames.
+fn hear(record: Record, frames: &[u8], most: usize, lent: Lent) -> Answer {
+    match judge_blames(&record, frames, most, &lent) {
         Err(refusal) => refused(record, refusal),
-        Ok(frame) => {
+        Ok(Blames { round, signers }) => {
             let mut card = Card::new(record, lent);
-            card.set_bit(frame::round(frame), frame::signer(frame));
-            if frame::round(frame) == record.round {
+            card.set_bits(round, signers);
+            if round == record.round {
                 card.pass_if_shown();
             }
             card.taken()
@@ -317,7 +329,7 @@ fn judge_open(setup: &Setup, lent: &Lent) -> Result<(), Refusal> {
     judge_tray(lent)
 }
 
-/// 2 to 5, which branch, blame and tick share.
+/// 2 to 5, which branch, blame, blames and tick share.
 fn judge_start(record: &Record, lent: &Lent) -> Result<(), Refusal> {
     if !record_holds(record, lent.log.len(), Some(lent.masks.len())) {
         return refuse(2);
@@ -331,18 +343,14 @@ fn judge_start(record: &Record, lent: &Lent) -> Result<(), Refusal> {
 /// 2 to 13. The round that the branch attaches to, 0 for the genesis.
 fn judge_branch(record: &Record, frames: &[u8], lent: &Lent) -> Result<u32, Refusal> {
     judge_start(record, lent)?;
-    let (frames, rest) = frames.as_chunks();
-    let (Some(first), Some(last)) = (frames.first(), frames.last()) else {
+    let Some(frames) = whole_frames(frames, record.term as usize) else {
         return refuse(6);
     };
-    if !rest.is_empty() || frames.len() > record.term as usize {
-        return refuse(6);
-    }
     judge_frames(record, frames)?;
-    if frame::round(last) < record.round {
+    if frame::round(&frames[frames.len() - 1]) < record.round {
         return refuse(10);
     }
-    let Some(attach) = attaching(lent.log, first) else {
+    let Some(attach) = attaching(lent.log, &frames[0]) else {
         return refuse(11);
     };
     if let Some(round) = unshown(lent.masks, record.f, attach, frames) {
@@ -354,16 +362,32 @@ fn judge_branch(record: &Record, frames: &[u8], lent: &Lent) -> Result<u32, Refu
     Ok(attach)
 }
 
+/// From 1 to so many frames; none if the bytes are anything else.
+pub fn whole_frames(bytes: &[u8], most: usize) -> Option<&[Frame]> {
+    match bytes.as_chunks() {
+        (frames, []) if (1..=most).contains(&frames.len()) => Some(frames),
+        _ => None,
+    }
+}
+
+type Form = fn(&Record, &Frame) -> bool;
+
+/// 7 and 8 of one frame.
+fn judge_frame(record: &Record, frame: &Frame, form: Form, place: u32) -> Result<(), Refusal> {
+    if !frame::check_is_right(frame) {
+        return refuse_at(7, place);
+    }
+    if !form(record, frame) {
+        return refuse_at(8, place);
+    }
+    Ok(())
+}
+
 /// 7, 8 and 9, frame by frame.
 fn judge_frames(record: &Record, frames: &[Frame]) -> Result<(), Refusal> {
     let mut before: Option<&Frame> = None;
     for (frame, place) in frames.iter().zip(0..) {
-        if !frame::check_is_right(frame) {
-            return refuse_at(7, place);
-        }
-        if !block_in_form(record, frame) {
-            return refuse_at(8, place);
-        }
+        judge_frame(record, frame, block_in_form, place)?;
         if before.is_some_and(|parent| !is_child(frame, parent)) {
             return refuse_at(9, place);
         }
@@ -430,26 +454,51 @@ fn undone(log: &[u8], committed: u32, attach: u32, frames: &[Frame]) -> bool {
     })
 }
 
-/// 2 to 8, 14 and 10. The blame as a frame.
-fn judge_blame<'a>(record: &Record, frame: &'a [u8], lent: &Lent) -> Result<&'a Frame, Refusal> {
+/// Blames that passed: their round and a bit for each signer.
+struct Blames {
+    round: u32,
+    signers: u16,
+}
+
+/// 2 to 8, 16, 14 and 10; one blame by itself is never 16.
+fn judge_blames(
+    record: &Record,
+    frames: &[u8],
+    most: usize,
+    lent: &Lent,
+) -> Result<Blames, Refusal> {
     judge_start(record, lent)?;
-    let Ok(frame) = <&Frame>::try_from(frame) else {
+    let Some(frames) = whole_frames(frames, most) else {
         return refuse(6);
     };
-    if !frame::check_is_right(frame) {
-        return refuse(7);
+    for (frame, place) in frames.iter().zip(0..) {
+        judge_frame(record, frame, blame_in_form, place)?;
     }
-    if !blame_in_form(record, frame) {
-        return refuse(8);
-    }
-    if frame::round(frame) > record.round {
+    let Some(blames) = as_set(frames) else {
+        return refuse(16);
+    };
+    if blames.round > record.round {
         return refuse(14);
     }
-    let mask = lent.masks[frame::round(frame) as usize - 1];
-    if mask & 1 << frame::signer(frame) != 0 {
+    let mask = lent.masks[blames.round as usize - 1];
+    if blames.signers & !mask == 0 {
         return refuse(10);
     }
-    Ok(frame)
+    Ok(blames)
+}
+
+/// Blames in form as a set; none if they are of two rounds or have a signer twice.
+fn as_set(frames: &[Frame]) -> Option<Blames> {
+    let round = frame::round(&frames[0]);
+    let mut signers = 0;
+    for frame in frames {
+        let bit = 1 << frame::signer(frame);
+        if frame::round(frame) != round || signers & bit != 0 {
+            return None;
+        }
+        signers |= bit;
+    }
+    Some(Blames { round, signers })
 }
 
 fn blame_in_form(record: &Record, blame: &Frame) -> bool {
@@ -512,8 +561,8 @@ impl<'a> Card<'a> {
         }
     }
 
-    fn set_bit(&mut self, round: u32, signer: u8) {
-        self.lent.masks[round as usize - 1] |= 1 << signer;
+    fn set_bits(&mut self, round: u32, signers: u16) {
+        self.lent.masks[round as usize - 1] |= signers;
     }
 
     fn take_branch(&mut self, attach: u32, frames: &[Frame]) {
@@ -552,7 +601,7 @@ impl<'a> Card<'a> {
     fn put_out_blame(&mut self) {
         let Record { own, round, .. } = self.record;
         frame::write_blame(self.next_out(), own, round);
-        self.set_bit(round, own);
+        self.set_bits(round, 1 << own);
     }
 
     fn put_out_block(&mut self) {

@@ -39,6 +39,13 @@ impl Rng {
         items[self.below(items.len())]
     }
 
+    /// Puts items in any order.
+    pub fn shuffle<T>(&mut self, items: &mut [T]) {
+        for last in (1..items.len()).rev() {
+            items.swap(last, self.below(last + 1));
+        }
+    }
+
     /// One of the bits that are set, as its number; the mask is not 0.
     pub fn bit(&mut self, mask: u16) -> u8 {
         let wanted = self.below(mask.count_ones() as usize);

@@ -13,6 +13,7 @@ const GUARD: usize = 65;
 const SLACK: usize = 1024;
 
 /// A lent buffer between two guards.
+#[derive(Clone)]
 pub struct Buffer<T> {
     cells: Vec<T>,
 }
@@ -52,6 +53,7 @@ impl<T: Copy + PartialEq> Buffer<T> {
 }
 
 /// What one card's host keeps.
+#[derive(Clone)]
 pub struct Side {
     pub record: Record,
     pub log: Buffer<u8>,
@@ -70,6 +72,16 @@ impl Side {
     /// A slot of the book.
     pub fn slot(&self, round: u32) -> &Frame {
         &model::slots(self.log.part(SIZE * round as usize))[round as usize - 1]
+    }
+
+    /// Where log or masks differ from another's.
+    fn difference(&self, other: &Side) -> Option<String> {
+        if let Some(at) = self.log.difference(&other.log, other.log.room()) {
+            let round = at.div_euclid(SIZE as isize) + 1;
+            return Some(format!("log differs at byte {at}, slot {round}"));
+        }
+        let at = self.masks.difference(&other.masks, other.masks.room())?;
+        Some(format!("masks differ at round {}", at + 1))
     }
 
     /// Another state; what lies beyond its sizes becomes zero.
@@ -102,6 +114,35 @@ impl Outcome {
             _ => None,
         }
     }
+
+    pub fn number(&self) -> Option<u8> {
+        match self {
+            Outcome::Answer(answer) => Some(answer.number),
+            Outcome::Part(part) => Some(part.number),
+            Outcome::Fetched(fetched, _) => Some(fetched.number),
+            Outcome::Written | Outcome::Digest => None,
+        }
+    }
+}
+
+/// What a blame by itself came to.
+struct Alone {
+    answer: Answer,
+    side: Side,
+    out: Buffer<u8>,
+}
+
+impl Alone {
+    /// Claim: blames of one frame answers and leaves what blame of it does.
+    fn same_as(&self, answer: &Answer, side: &Side, out: &Buffer<u8>) -> Result<(), String> {
+        let same = *answer == self.answer
+            && side.difference(&self.side).is_none()
+            && out.difference(&self.out, out.room()).is_none();
+        if same {
+            return Ok(());
+        }
+        Err("claim: blames of one frame is not blame of it".into())
+    }
 }
 
 /// Library and model side by side.
@@ -127,7 +168,7 @@ impl<'l> Runner<'l> {
         Runner::beside(library, &Model, head)
     }
 
-    /// Another reference than the model for open, branch, blame and tick.
+    /// Another reference than the model for open, branch, blame, blames and tick.
     pub fn beside(library: &'l dyn Library, reference: &'l dyn Library, head: &Head) -> Self {
         let sides = || (0..head.cards).map(|_| Side::new(head.term)).collect();
         let out = || Buffer::new(SIZE * head.term as usize + 4 * SLACK, 0, 0x5a);
@@ -189,9 +230,7 @@ impl<'l> Runner<'l> {
         };
         self.compare(call)?;
         let out = self.tried_out.part(call.out_len);
-        let due = self
-            .claims
-            .after(call, outcome.answer(), &self.tried, out)?;
+        let due = self.claims.after(call, &outcome, &self.tried, out)?;
         coverage.call(call, &before, &outcome, due);
         Ok(outcome)
     }
@@ -206,12 +245,16 @@ impl<'l> Runner<'l> {
         self.handed.extend_from_slice(call.handed());
     }
 
-    /// Open, branch, blame or tick.
+    /// Open, branch, blame, blames or tick.
     fn machine(&mut self, call: &Call) -> Result<Outcome, String> {
+        let alone = self.alone(call);
         let tried = &mut self.tried[call.card];
         let record = call.record.unwrap_or(tried.record);
         let lent = lend(tried, call, &self.entry, &mut self.tried_out);
         let answer = ask(self.library, call, record, &self.handed, lent);
+        if let Some(alone) = alone {
+            alone.same_as(&answer, tried, &self.tried_out)?;
+        }
         let model = &mut self.model[call.card];
         let record = call.record.unwrap_or(model.record);
         let lent = lend(model, call, &call.entry, &mut self.model_out);
@@ -222,6 +265,18 @@ impl<'l> Runner<'l> {
             model.record = expected.record;
         }
         Ok(Outcome::Answer(answer))
+    }
+
+    /// For a set of one frame: what the library's blame of it does to copies of the buffers.
+    fn alone(&self, call: &Call) -> Option<Alone> {
+        if !call.is_set_of_one() {
+            return None;
+        }
+        let (mut side, mut out) = (self.tried[call.card].clone(), self.tried_out.clone());
+        let record = call.record.unwrap_or(side.record);
+        let lent = lend(&mut side, call, &self.entry, &mut out);
+        let answer = self.library.blame(record, &self.handed, lent);
+        Some(Alone { answer, side, out })
     }
 
     fn read(&mut self, call: &Call, height: u32) -> Result<Outcome, String> {
@@ -264,12 +319,8 @@ impl<'l> Runner<'l> {
     /// Every byte of every buffer after a call.
     fn compare(&self, call: &Call) -> Result<(), String> {
         let (tried, model) = (&self.tried[call.card], &self.model[call.card]);
-        if let Some(at) = tried.log.difference(&model.log, model.log.room()) {
-            let round = at.div_euclid(SIZE as isize) + 1;
-            return Err(format!("log differs at byte {at}, slot {round}"));
-        }
-        if let Some(at) = tried.masks.difference(&model.masks, model.masks.room()) {
-            return Err(format!("masks differ at round {}", at + 1));
+        if let Some(difference) = tried.difference(model) {
+            return Err(difference);
         }
         if let Some(at) = self.tried_out.difference(&self.model_out, call.out_len) {
             return Err(format!("out differs at byte {at}"));
@@ -307,6 +358,7 @@ fn ask(library: &dyn Library, call: &Call, record: Record, handed: &[u8], lent: 
         What::Open(setup) => library.open(*setup, lent),
         What::Branch(_) => library.branch(record, handed, lent),
         What::Blame(_) => library.blame(record, handed, lent),
+        What::Blames(_) => library.blames(record, handed, lent),
         _ => library.tick(record, lent),
     }
 }

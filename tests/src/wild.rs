@@ -231,8 +231,9 @@ impl Wild {
     fn choose(&mut self, side: &Side) -> Call {
         let at_edge = self.head.term == 1 || self.head.term == MOST_TERM;
         let what = match self.rng.below(if at_edge { 110 } else { 100 }) {
-            0..=49 => What::Branch(self.branch(side)),
-            50..=64 => What::Blame(self.blame(side)),
+            0..=42 => What::Branch(self.branch(side)),
+            43..=52 => What::Blame(self.blame(side)),
+            53..=64 => What::Blames(self.set(side)),
             65..=77 => What::Tick,
             78..=87 => What::Read(self.height(side)),
             88..=96 => What::Fetch(self.height(side)),
@@ -268,15 +269,42 @@ impl Wild {
         }
     }
 
-    fn blame(&mut self, side: &Side) -> Vec<u8> {
+    /// A round to blame, mostly R or the next.
+    fn blamed(&mut self, side: &Side) -> u32 {
         let term = self.head.term;
-        let round = match self.rng.below(4) {
+        match self.rng.below(4) {
             0 => self.rng.within(1, term),
             1 => side.record.round.saturating_add(1).clamp(1, term),
             _ => side.record.round.clamp(1, term),
-        };
+        }
+    }
+
+    fn blame(&mut self, side: &Side) -> Vec<u8> {
+        let round = self.blamed(side);
         let signer = self.rng.within(0, cards(self.head.f) - 1) as u8;
         frame::blame(signer, round).to_vec()
+    }
+
+    /// Blames of different cards for one round, at times with a signer twice or a second round.
+    fn set(&mut self, side: &Side) -> Vec<u8> {
+        let n = cards(self.head.f) as usize;
+        let mut signers: Vec<u8> = (0..n as u8).collect();
+        self.rng.shuffle(&mut signers);
+        let (enough, any) = (usize::from(self.head.f) + 1, 1 + self.rng.below(n));
+        signers.truncate(self.rng.pick(&[1, 2, enough, any, n]));
+        if self.rng.chance(12) {
+            let signer = self.rng.pick(&signers);
+            let last = signers.len() - 1;
+            signers[last] = signer;
+        }
+        let round = self.blamed(side);
+        let blame = |&signer: &u8| frame::blame(signer, round);
+        let mut frames: Vec<Frame> = signers.iter().map(blame).collect();
+        if self.rng.chance(12) {
+            let index = self.rng.below(frames.len());
+            frames[index] = frame::blame(signers[index], self.blamed(side));
+        }
+        frames.into_flattened()
     }
 
     /// A chain that starts on a slot or the genesis, with or without held frames before it.

@@ -15,6 +15,7 @@ enum Ask<'a> {
     Open(Setup),
     Branch(Record, &'a [u8]),
     Blame(Record, &'a [u8]),
+    Blames(Record, &'a [u8]),
     Tick(Record),
 }
 
@@ -22,7 +23,8 @@ impl Ask<'_> {
     fn record(&self) -> Record {
         match *self {
             Ask::Open(_) => Record::default(),
-            Ask::Branch(record, _) | Ask::Blame(record, _) | Ask::Tick(record) => record,
+            Ask::Branch(record, _) | Ask::Blame(record, _) => record,
+            Ask::Blames(record, _) | Ask::Tick(record) => record,
         }
     }
 }
@@ -75,6 +77,10 @@ impl Library for Broken {
         (self.machine)(&Ask::Blame(record, frame), lent)
     }
 
+    fn blames(&self, record: Record, frames: &[u8], lent: Lent) -> Answer {
+        (self.machine)(&Ask::Blames(record, frames), lent)
+    }
+
     fn tick(&self, record: Record, lent: Lent) -> Answer {
         (self.machine)(&Ask::Tick(record), lent)
     }
@@ -97,8 +103,21 @@ fn honest(ask: &Ask, lent: Lent) -> Answer {
         Ask::Open(setup) => model::open(setup, lent),
         Ask::Branch(record, frames) => model::branch(record, frames, lent),
         Ask::Blame(record, frame) => model::blame(record, frame, lent),
+        Ask::Blames(record, frames) => model::blames(record, frames, lent),
         Ask::Tick(record) => model::tick(record, lent),
     }
+}
+
+/// What the model would answer, with other masks perhaps.
+fn trial(ask: &Ask, lent: &Lent, masks: &[u16]) -> Answer {
+    let (mut log, mut out) = (lent.log.to_vec(), lent.out.to_vec());
+    let lent = Lent {
+        log: &mut log,
+        masks: &mut masks.to_vec(),
+        entry: lent.entry,
+        out: &mut out,
+    };
+    honest(ask, lent)
 }
 
 /// The same buffers for one call more.
@@ -196,26 +215,19 @@ fn with_masks(ask: &Ask, mut lent: Lent, mask: impl Fn(u32, u16) -> u16) -> Answ
 
 /// One more card seems to blame every round that somebody blames.
 fn shows_with_f(ask: &Ask, lent: Lent) -> Answer {
-    let signer = match ask {
-        Ask::Blame(_, bytes) => slots(bytes).first().map_or(0, frame::signer),
-        ask => ask.record().own,
-    };
-    let round = match ask {
-        Ask::Blame(_, bytes) => slots(bytes).first().map_or(0, frame::round),
-        ask => ask.record().round,
+    let (signers, round) = match ask {
+        Ask::Blame(_, bytes) | Ask::Blames(_, bytes) => {
+            let first = slots(bytes).first().map_or(0, frame::round);
+            (signers(slots(bytes)), first)
+        }
+        ask => (1 << ask.record().own.min(15), ask.record().round),
     };
     let n = 2 * u32::from(ask.record().f) + 1;
     with_masks(ask, lent, |at, mask| {
-        let taken = mask
-            | if at == round && signer < 16 {
-                1 << signer
-            } else {
-                0
-            };
+        let taken = mask | if at == round { signers } else { 0 };
         let free = (0..n.min(16)).find(|card| taken >> card & 1 == 0);
-        let blamed = mask != 0 || at == round;
         match free {
-            Some(card) if blamed && taken != 0 => mask | 1 << card,
+            Some(card) if taken != 0 => mask | 1 << card,
             _ => mask,
         }
     })
@@ -390,22 +402,14 @@ fn touches_later_bytes(ask: &Ask, mut lent: Lent) -> Answer {
     answer
 }
 
-fn undone_before_unshown(ask: &Ask, mut lent: Lent) -> Answer {
+fn undone_before_unshown(ask: &Ask, lent: Lent) -> Answer {
     let Ask::Branch(record, _) = ask else {
         return honest(ask, lent);
     };
-    let mut log = lent.log.to_vec();
-    let mut masks = vec![u16::MAX; lent.masks.len()];
-    let mut out = lent.out.to_vec();
-    let trial = Lent {
-        log: &mut log,
-        masks: &mut masks,
-        entry: lent.entry,
-        out: &mut out,
-    };
-    match honest(ask, trial).number {
+    let masks = vec![u16::MAX; lent.masks.len()];
+    match trial(ask, &lent, &masks).number {
         12 => refusal(12, *record),
-        _ => honest(ask, again(&mut lent)),
+        _ => honest(ask, lent),
     }
 }
 
@@ -425,6 +429,233 @@ fn sets_a_bit_though_refused(ask: &Ask, mut lent: Lent) -> Answer {
     let answer = honest(ask, again(&mut lent));
     if let (Ask::Blame(record, _), 7) = (ask, answer.number) {
         lent.masks[record.round as usize - 1] |= 1;
+    }
+    answer
+}
+
+/// A bit for each signer below 16.
+fn signers(frames: &[Frame]) -> u16 {
+    let low = frames.iter().map(frame::signer).filter(|&card| card < 16);
+    low.fold(0, |bits, card| bits | 1 << card)
+}
+
+fn is_set(frames: &[Frame]) -> bool {
+    let rounds = |pair: &[Frame]| frame::round(&pair[0]) == frame::round(&pair[1]);
+    frames.windows(2).all(rounds) && signers(frames).count_ones() as usize == frames.len()
+}
+
+/// Calls the model again with another set where it said 16.
+fn mend(ask: &Ask, mut lent: Lent, other: fn(&[Frame]) -> Vec<Frame>) -> Answer {
+    let answer = honest(ask, again(&mut lent));
+    match (ask, answer.number) {
+        (Ask::Blames(record, bytes), 16) => {
+            let set = other(slots(bytes));
+            model::blames(*record, set.as_flattened(), lent)
+        }
+        _ => answer,
+    }
+}
+
+/// Passes over a signer's second frame.
+fn takes_a_signer_twice(ask: &Ask, lent: Lent) -> Answer {
+    mend(ask, lent, |frames| {
+        let mut set: Vec<Frame> = Vec::new();
+        for frame in frames {
+            if signers(&set) & signers(&[*frame]) == 0 {
+                set.push(*frame);
+            }
+        }
+        set
+    })
+}
+
+/// Lets a signer's second frame stand for another card's.
+fn counts_a_signer_twice(ask: &Ask, lent: Lent) -> Answer {
+    mend(ask, lent, |frames| {
+        let mut set: Vec<Frame> = Vec::new();
+        for frame in frames {
+            let free = signers(frames) | signers(&set);
+            let twice = signers(&set) & signers(&[*frame]) != 0;
+            set.push(match twice {
+                true => frame::blame(free.trailing_ones() as u8, frame::round(frame)),
+                false => *frame,
+            });
+        }
+        set
+    })
+}
+
+/// Takes all frames of a set for blames of the first one's round.
+fn takes_two_rounds(ask: &Ask, lent: Lent) -> Answer {
+    mend(ask, lent, |frames| {
+        let round = frame::round(&frames[0]);
+        let blame = |frame| frame::blame(frame::signer(frame), round);
+        frames.iter().map(blame).collect()
+    })
+}
+
+fn grows_for_each_blame(ask: &Ask, mut lent: Lent) -> Answer {
+    let mut answer = honest(ask, again(&mut lent));
+    if let (Ask::Blames(record, bytes), 0) = (ask, answer.number) {
+        if answer.record.round > record.round {
+            let spare = slots(bytes).len() as u32 - 1;
+            let spare = spare.saturating_sub(record.f.into());
+            answer.record.round = (answer.record.round + spare).min(record.term + 1);
+        }
+    }
+    answer
+}
+
+fn grows_by_an_older_round(ask: &Ask, mut lent: Lent) -> Answer {
+    let mut answer = honest(ask, again(&mut lent));
+    if let (Ask::Blames(record, bytes), 0) = (ask, answer.number) {
+        let round = frame::round(&slots(bytes)[0]);
+        if round < record.round && shown(lent.masks[round as usize - 1], record.f) {
+            answer.record.round += 1;
+        }
+    }
+    answer
+}
+
+fn refuses_where_a_bit_stands(ask: &Ask, lent: Lent) -> Answer {
+    let taken = trial(ask, &lent, lent.masks).number == 0;
+    if let (Ask::Blames(record, bytes), true) = (ask, taken) {
+        let round = frame::round(&slots(bytes)[0]);
+        if lent.masks[round as usize - 1] & signers(slots(bytes)) != 0 {
+            return refusal(10, *record);
+        }
+    }
+    honest(ask, lent)
+}
+
+fn takes_stale_sets(ask: &Ask, lent: Lent) -> Answer {
+    let answer = honest(ask, lent);
+    match (ask, answer.number) {
+        (Ask::Blames(record, _), 10) => Answer {
+            number: 0,
+            leader: leader(record.round, record.f),
+            ..answer
+        },
+        _ => answer,
+    }
+}
+
+/// Sets the bits of a refused set's first frames.
+fn leave_bits(ask: &Ask, mut lent: Lent, count: fn(&Answer, usize) -> usize) -> Answer {
+    let answer = honest(ask, again(&mut lent));
+    if let Ask::Blames(_, bytes) = ask {
+        let frames = slots(bytes);
+        for frame in &frames[..count(&answer, frames.len())] {
+            lent.masks[frame::round(frame) as usize - 1] |= signers(&[*frame]);
+        }
+    }
+    answer
+}
+
+fn sets_bits_before_the_last_is_judged(ask: &Ask, lent: Lent) -> Answer {
+    leave_bits(ask, lent, |answer, _| match answer.number {
+        7 | 8 => answer.place as usize,
+        _ => 0,
+    })
+}
+
+fn leaves_bits_of_no_set(ask: &Ask, lent: Lent) -> Answer {
+    leave_bits(ask, lent, |answer, all| match answer.number {
+        16 => all,
+        _ => 0,
+    })
+}
+
+fn early_before_no_set(ask: &Ask, lent: Lent) -> Answer {
+    let answer = honest(ask, lent);
+    match (ask, answer.number) {
+        (Ask::Blames(record, bytes), 16) if frame::round(&slots(bytes)[0]) > record.round => {
+            refusal(14, *record)
+        }
+        _ => answer,
+    }
+}
+
+fn stale_before_no_set(ask: &Ask, mut lent: Lent) -> Answer {
+    let answer = honest(ask, again(&mut lent));
+    if let (Ask::Blames(record, bytes), 14 | 16) = (ask, answer.number) {
+        let mask = lent.masks[frame::round(&slots(bytes)[0]) as usize - 1];
+        if signers(slots(bytes)) & !mask == 0 {
+            return refusal(10, *record);
+        }
+    }
+    answer
+}
+
+/// Tells frames of two rounds, or a signer twice, before it judges the later frames.
+fn no_set_before(number: u8, ask: &Ask, lent: Lent) -> Answer {
+    let answer = honest(ask, lent);
+    if let (Ask::Blames(record, bytes), true) = (ask, answer.number == number) {
+        if !is_set(&slots(bytes)[..answer.place as usize]) {
+            return refusal(16, *record);
+        }
+    }
+    answer
+}
+
+fn no_set_before_a_later_check(ask: &Ask, lent: Lent) -> Answer {
+    no_set_before(7, ask, lent)
+}
+
+fn no_set_before_a_later_form(ask: &Ask, lent: Lent) -> Answer {
+    no_set_before(8, ask, lent)
+}
+
+fn first_place_of_a_set(ask: &Ask, lent: Lent) -> Answer {
+    let answer = honest(ask, lent);
+    match ask {
+        Ask::Blames(..) => Answer { place: 0, ..answer },
+        _ => answer,
+    }
+}
+
+fn cuts_sets_at_n(ask: &Ask, lent: Lent) -> Answer {
+    let number = trial(ask, &lent, lent.masks).number;
+    match ask {
+        Ask::Blames(record, bytes)
+            if number > 6 && slots(bytes).len() as u32 > model::cards(record.f) =>
+        {
+            refusal(6, *record)
+        }
+        _ => honest(ask, lent),
+    }
+}
+
+fn takes_16_frames(ask: &Ask, mut lent: Lent) -> Answer {
+    let answer = honest(ask, again(&mut lent));
+    match ask {
+        Ask::Blames(record, bytes) if answer.number == 6 && bytes.len() == 16 * SIZE => {
+            model::blames(*record, &bytes[..15 * SIZE], lent)
+        }
+        _ => answer,
+    }
+}
+
+/// Takes branches that undo committed slots.
+fn undoes(ask: &Ask, mut lent: Lent) -> Answer {
+    let answer = honest(ask, again(&mut lent));
+    let (Ask::Branch(record, bytes), 12) = (ask, answer.number) else {
+        return answer;
+    };
+    let forgetful = Record {
+        committed_round: 0,
+        committed_height: 0,
+        ..*record
+    };
+    model::branch(forgetful, bytes, lent)
+}
+
+/// After a set, waits for the round of the block that it put out.
+fn waits_for_its_own_round(ask: &Ask, lent: Lent) -> Answer {
+    let mut answer = honest(ask, lent);
+    if let (Ask::Blames(..), 1) = (ask, answer.frames) {
+        answer.record.round -= 1;
+        answer.record.tip_round -= 1;
     }
     answer
 }
@@ -533,9 +764,37 @@ fn other_slips() -> Vec<(&'static str, Broken)> {
     ]
 }
 
+/// Slips of sets of blames.
+fn set_slips() -> Vec<(&'static str, Broken)> {
+    let slips: [(&str, Machine); 16] = [
+        ("R grows for each blame past f", grows_for_each_blame),
+        ("R grows by an older round", grows_by_an_older_round),
+        ("signer twice, taken", takes_a_signer_twice),
+        ("signer twice, counted", counts_a_signer_twice),
+        ("two rounds, taken", takes_two_rounds),
+        ("refused where a bit stands", refuses_where_a_bit_stands),
+        ("taken with no fresh bit", takes_stale_sets),
+        (
+            "bits set before the last is judged",
+            sets_bits_before_the_last_is_judged,
+        ),
+        ("bits of no set left", leaves_bits_of_no_set),
+        ("14 before 16", early_before_no_set),
+        ("10 before 16 and 14", stale_before_no_set),
+        ("16 before a later frame's 7", no_set_before_a_later_check),
+        ("16 before a later frame's 8", no_set_before_a_later_form),
+        ("place always the first", first_place_of_a_set),
+        ("6 above n frames", cuts_sets_at_n),
+        ("16 frames taken", takes_16_frames),
+    ];
+    let broken = |(name, machine)| (name, Broken::machine(machine));
+    slips.into_iter().map(broken).collect()
+}
+
 #[test]
 fn every_slip_is_found_and_shrunk() {
-    for (name, library) in named_slips().into_iter().chain(other_slips()) {
+    let slips = named_slips().into_iter().chain(other_slips());
+    for (name, library) in slips.chain(set_slips()) {
         let mut coverage = Coverage::new();
         let found = (1..=300).find_map(|seed| run(&library, seed, Sizes::All, &mut coverage).err());
         let failure = found.unwrap_or_else(|| panic!("not found: {name}"));
@@ -564,12 +823,19 @@ fn a_fetch_of_fewer_frames_passes() {
 /// With the same slip on both sides only the claims can find it.
 #[test]
 fn claims_find_slips_on_both_sides() {
-    let slips: [(&str, Machine); 3] = [
-        ("commits one round early", commits_one_round_early),
-        ("shows a round with f", shows_with_f),
-        ("takes unshown rounds", takes_unshown_rounds),
+    let slips: [(&str, Machine, &str); 6] = [
+        ("commits one round early", commits_one_round_early, ""),
+        ("shows a round with f", shows_with_f, ""),
+        ("takes unshown rounds", takes_unshown_rounds, ""),
+        ("takes stale sets", takes_stale_sets, "blames of one frame"),
+        ("undoes committed slots", undoes, "shrank"),
+        (
+            "waits for its own round",
+            waits_for_its_own_round,
+            "answered 2",
+        ),
     ];
-    for (name, machine) in slips {
+    for (name, machine, part) in slips {
         let library = Broken::machine(machine);
         let found = (1..=600).find_map(|seed| {
             let maker = Maker::new(seed, Sizes::All);
@@ -579,5 +845,6 @@ fn claims_find_slips_on_both_sides() {
         let failure = found.unwrap_or_else(|| panic!("not found: {name}"));
         println!("{name}: {}", failure.message);
         assert!(failure.message.starts_with("claim:"), "{}", failure.message);
+        assert!(failure.message.contains(part), "{}", failure.message);
     }
 }

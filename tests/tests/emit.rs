@@ -96,7 +96,7 @@ impl Program {
                 self.cards[card].masks[round - 1] = words.number() as u16;
             }
             "g" => self.given = Some(words.record()),
-            "o" | "b" | "v" | "t" => self.machine(letter, &mut words),
+            "o" | "b" | "v" | "a" | "t" => self.machine(letter, &mut words),
             "q" => self.read(&mut words),
             "f" => self.fetch(&mut words),
             "h" => self.printed += &(hex(&sha256::digest(&words.bytes())) + "\n"),
@@ -134,6 +134,7 @@ impl Program {
             (Some(setup), _) => model::open(setup, lent),
             (_, "b") => model::branch(record, &words.bytes(), lent),
             (_, "v") => model::blame(record, &words.bytes(), lent),
+            (_, "a") => model::blames(record, &words.bytes(), lent),
             _ => model::tick(record, lent),
         };
         if answer.number == 0 {
@@ -214,4 +215,16 @@ fn an_emitted_list_reads_back() {
     }
     assert_eq!(program.printed.lines().count(), 6_000);
     assert_eq!(emitted.output.lines().count(), 6_000);
+}
+
+#[test]
+fn an_emitted_list_makes_every_call_often() {
+    let emitted = emit(1, 2_000, &mut Coverage::new());
+    for letter in "obvatqf".chars() {
+        let made = emitted
+            .input
+            .lines()
+            .filter(|line| line.starts_with(letter));
+        assert!(made.count() >= 50, "{letter}");
+    }
 }

@@ -1,11 +1,13 @@
 //! What is timed: calls that are taken. Each leaves a state on which the same call, with the record as it was, does the same
-//! work again, but for the mask of a blame, which is set back before each call.
+//! work again, but for the mask of the round blamed, which is set back before each call.
 
 use beside::frame::{self, GENESIS, SIZE};
 use beside::model::{leader, Record};
 
-/// f of every case: five cards.
+/// f of every case but the sets of blames: five cards.
 const F: u8 = 2;
+/// f of the sets of blames: fifteen cards.
+const MOST_F: u8 = 7;
 const TIMEOUT: u32 = 100;
 /// The bytes of an entry.
 const ENTRY: u32 = 100;
@@ -18,6 +20,10 @@ pub enum Call {
     Blame {
         mask: u16,
     },
+    /// The frames in one call; no bit of their round is set before.
+    Blames,
+    /// The same frames by as many calls of blame, each with the record as it was.
+    BlameEach,
     Tick,
     Read {
         height: u32,
@@ -52,6 +58,13 @@ pub struct Case {
     pub frames_out: usize,
 }
 
+impl Case {
+    /// Whether the time beyond the digests is worth a figure of its own.
+    pub fn has_rest(&self) -> bool {
+        self.zeroed.is_some() || matches!(self.call, Call::Blames | Call::BlameEach)
+    }
+}
+
 fn entry(seed: u32) -> Vec<u8> {
     (0..ENTRY)
         .map(|i| (i * 167 + seed * 31 + 13) as u8)
@@ -59,10 +72,10 @@ fn entry(seed: u32) -> Vec<u8> {
 }
 
 /// A chain with a block in each round up to `last`.
-fn chain(last: u32) -> Vec<u8> {
+fn chain(f: u8, last: u32) -> Vec<u8> {
     let mut parent = GENESIS;
     let block = |round| {
-        let block = frame::block(leader(round, F), round, round, &parent, &entry(round));
+        let block = frame::block(leader(round, f), round, round, &parent, &entry(round));
         parent = *frame::name(&block);
         block
     };
@@ -70,12 +83,12 @@ fn chain(last: u32) -> Vec<u8> {
 }
 
 /// The record of a card that holds a block in each round up to `tip` and leads neither of the next two rounds.
-fn record(term: u32, tip: u32) -> Record {
-    let leads = |card| (tip + 1..=tip + 2).any(|round| leader(round, F) == card);
-    let committed = tip.saturating_sub(u32::from(F));
+fn record(f: u8, term: u32, tip: u32) -> Record {
+    let leads = |card| (tip + 1..=tip + 2).any(|round| leader(round, f) == card);
+    let committed = tip.saturating_sub(u32::from(f));
     Record {
-        own: (0..).find(|&card| !leads(card)).expect("five cards"),
-        f: F,
+        own: (0..).find(|&card| !leads(card)).expect("three cards"),
+        f,
         wait: TIMEOUT,
         term,
         round: tip + 1,
@@ -88,18 +101,22 @@ fn record(term: u32, tip: u32) -> Record {
 }
 
 fn case(name: &'static str, call: Call, term: u32, tip: u32) -> Case {
-    let mut log = chain(tip);
+    case_of(F, name, call, term, tip)
+}
+
+fn case_of(f: u8, name: &'static str, call: Call, term: u32, tip: u32) -> Case {
+    let mut log = chain(f, tip);
     log.resize(term as usize * SIZE, 0);
     Case {
         name,
         call,
-        record: record(term, tip),
+        record: record(f, term, tip),
         lent: Lent {
             log,
             masks: vec![0; term as usize],
             out: vec![0; 2 * SIZE],
         },
-        frames: chain(1),
+        frames: chain(f, 1),
         entry: entry(0),
         digests: 0,
         zeroed: None,
@@ -149,10 +166,22 @@ fn blame_that_certifies(term: u32) -> Case {
     case
 }
 
+/// f + 1 blames that certify the round waited for; the card does not lead the next.
+fn set(name: &'static str, call: Call, term: u32) -> Case {
+    let mut case = case_of(MOST_F, name, call, term, term / 2);
+    let Record { own, f, round, .. } = case.record;
+    let signers = (0..=f).map(|i| (own + 1 + i) % (2 * f + 1));
+    case.frames = signers
+        .flat_map(|signer| frame::blame(signer, round))
+        .collect();
+    case.digests = usize::from(f) + 1;
+    case
+}
+
 /// The frames of rounds tip + 1 up to last, on the tip.
 fn branch(name: &'static str, term: u32, tip: u32, last: u32) -> Case {
     let mut case = case(name, Call::Branch, term, tip);
-    case.frames = chain(last)[tip as usize * SIZE..].to_vec();
+    case.frames = chain(F, last)[tip as usize * SIZE..].to_vec();
     case.digests = (last - tip) as usize;
     case.zeroed = Some(tip as usize);
     case
@@ -174,6 +203,8 @@ pub fn cases(term: u32) -> Vec<Case> {
         tick_that_blames(term),
         blame_that_sets_a_bit(term),
         blame_that_certifies(term),
+        set("blames of f + 1, f = 7", Call::Blames, term),
+        set("the same by blame, one by one", Call::BlameEach, term),
         branch("branch of 1 on round 0", term, 0, 1),
         branch("branch of 1 on round T / 2", term, term / 2, term / 2 + 1),
         branch("branch of T on round 0", term, 0, term),

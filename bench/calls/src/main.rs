@@ -6,7 +6,7 @@ mod case;
 mod fault_free;
 mod side;
 
-use case::{cases, Case};
+use case::{cases, Call, Case};
 use side::Outcome;
 use std::io::{stderr, IsTerminal};
 
@@ -49,6 +49,9 @@ struct Times {
     rust_rest: Vec<f64>,
     memset: Vec<f64>,
     memcpy: Vec<f64>,
+    /// For a set of blames: the same frames one by one.
+    our_each: Vec<f64>,
+    rust_each: Vec<f64>,
 }
 
 fn pass(case: &mut Case, batch: usize, expected: Outcome, times: &mut Times) {
@@ -59,11 +62,17 @@ fn pass(case: &mut Case, batch: usize, expected: Outcome, times: &mut Times) {
     };
     times.ours.push(call(side::ours, case, batch));
     times.rust.push(call(side::rust, case, batch));
+    if matches!(case.call, Call::Blames) {
+        case.call = Call::BlameEach;
+        times.our_each.push(call(side::ours, case, batch));
+        times.rust_each.push(call(side::rust, case, batch));
+        case.call = Call::Blames;
+    }
     if case.digests > 0 {
         times.our_digests.push(side::our_digests(case, batch));
         times.rust_digests.push(side::rust_digests(case, batch));
     }
-    if case.zeroed.is_none() {
+    if !case.has_rest() {
         return;
     }
     for _ in 0..batch {
@@ -72,8 +81,10 @@ fn pass(case: &mut Case, batch: usize, expected: Outcome, times: &mut Times) {
         times.our_rest.push(ours);
         times.rust_rest.push(rust);
     }
-    times.memcpy.push(side::memcpy(case, batch));
-    times.memset.push(side::memset(case, batch));
+    if case.zeroed.is_some() {
+        times.memcpy.push(side::memcpy(case, batch));
+        times.memset.push(side::memset(case, batch));
+    }
 }
 
 fn measure(case: &mut Case) -> Times {
@@ -156,21 +167,38 @@ fn head(cells: &str) -> Vec<String> {
     cells.split(", ").map(String::from).collect()
 }
 
-fn calls() -> Vec<Vec<String>> {
-    let mut rows = vec![head(
-        "call, T, ours, beside Rust, its digests, beside Rust, the rest, beside Rust, memset, rest / memset, rest / memset and memcpy",
-    )];
+fn calls() {
+    let mut measured = Vec::new();
     for mut case in TERMS.into_iter().flat_map(cases) {
         if stderr().is_terminal() {
             eprint!("\r{:50}\r{}, T = {} ", "", case.name, case.record.term);
         }
         let times = measure(&mut case);
-        rows.push(row(&case, &times));
+        measured.push((case, times));
     }
     if stderr().is_terminal() {
         eprint!("\r{:50}\r", "");
     }
-    rows
+    let mut rows = vec![head(
+        "call, T, ours, beside Rust, its digests, beside Rust, the rest, beside Rust, memset, rest / memset, rest / memset and memcpy",
+    )];
+    rows.extend(measured.iter().map(|(case, times)| row(case, times)));
+    print(&rows);
+    one_by_one(&measured);
+}
+
+/// How long f + 1 calls of blame take, over one of blames in the same passes, on either side.
+fn one_by_one(measured: &[(Case, Times)]) {
+    println!();
+    let sets = measured
+        .iter()
+        .filter(|(case, _)| matches!(case.call, Call::Blames));
+    for (case, times) in sets {
+        let ours = ratio(median(&times.our_each), median(&times.ours));
+        let rust = ratio(median(&times.rust_each), median(&times.rust));
+        let term = case.record.term;
+        println!("f + 1 blames one by one over the set, T = {term}: ours {ours}, Rust {rust}");
+    }
 }
 
 fn fault_free() -> Vec<Vec<String>> {
@@ -197,7 +225,7 @@ fn fault_free() -> Vec<Vec<String>> {
 fn main() {
     eprintln!("calls, {PASSES} passes");
     println!("Beside Rust: its time over ours, above 1 ours is faster. The rest: a call less its digests.");
-    print(&calls());
+    calls();
     println!("\nA term without faults. For each committed block: rounds, frames emitted, copies of them sent, and copies relayed.");
     print(&fault_free());
 }

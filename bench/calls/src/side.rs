@@ -52,6 +52,12 @@ fn fetched((seconds, f): (f64, ApolloFetched)) -> (f64, Outcome) {
     (seconds, Outcome::Fetched(Fetched { number, count }))
 }
 
+/// A call with each frame by itself; what the last gave.
+fn each_frame<T>(frames: &[u8], call: impl FnMut(&[u8]) -> T) -> T {
+    let answers = frames.chunks_exact(SIZE).map(call);
+    answers.reduce(|_, last| last).expect("a frame")
+}
+
 /// Calls of the library.
 // Safety of each: a pointer comes from a vector with its length, no two overlap, and the round waited for has a mask.
 #[rustfmt::skip]
@@ -82,6 +88,23 @@ pub fn ours(case: &mut Case, times: usize) -> (f64, Outcome) {
                 *masks.add(waited_for) = mask;
                 ffi::apollo_blame(r, log, log_len, masks, masks_len, frames, frames_len, entry, entry_len, out, out_len)
             }
+        })),
+        Call::Blames => answer(timed(times, || {
+            let r = *black_box(&replica);
+            unsafe {
+                *masks.add(waited_for) = 0;
+                ffi::apollo_blames(r, log, log_len, masks, masks_len, frames, frames_len, entry, entry_len, out, out_len)
+            }
+        })),
+        Call::BlameEach => answer(timed(times, || {
+            let each = |frame: &[u8]| {
+                let r = *black_box(&replica);
+                unsafe {
+                    ffi::apollo_blame(r, log, log_len, masks, masks_len, frame.as_ptr(), SIZE, entry, entry_len, out, out_len)
+                }
+            };
+            unsafe { *masks.add(waited_for) = 0 };
+            each_frame(&case.frames, each)
         })),
         Call::Tick => answer(timed(times, || {
             let r = *black_box(&replica);
@@ -121,6 +144,14 @@ pub fn rust(case: &mut Case, times: usize) -> (f64, Outcome) {
         Call::Blame { mask } => answer(timed(times, || {
             lent.masks[waited_for] = mask;
             model::blame(*black_box(&record), frames, lend(lent, entry))
+        })),
+        Call::Blames => answer(timed(times, || {
+            lent.masks[waited_for] = 0;
+            model::blames(*black_box(&record), frames, lend(lent, entry))
+        })),
+        Call::BlameEach => answer(timed(times, || {
+            lent.masks[waited_for] = 0;
+            each_frame(frames, |frame| model::blame(*black_box(&record), frame, lend(lent, entry)))
         })),
         Call::Tick => answer(timed(times, || model::tick(*black_box(&record), lend(lent, entry)))),
         Call::Read { height } => {

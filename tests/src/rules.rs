@@ -1,0 +1,59 @@
+//! What every card keeps to, whoever lies, while its host lends it what its last call left: no call
+//! answers 2, and its committed list only grows.
+
+use crate::call::{Call, Head, What};
+use crate::frame::{self, Frame, SIZE};
+use crate::model::slots;
+use crate::runner::{Outcome, Side};
+
+pub struct Rules {
+    term: u32,
+    /// The committed list of each card since it was opened; none where its host broke the rules.
+    lists: Vec<Option<Vec<Frame>>>,
+}
+
+impl Rules {
+    pub fn new(head: &Head) -> Rules {
+        Rules {
+            term: head.term,
+            lists: vec![None; head.cards],
+        }
+    }
+
+    /// The host wrote a card's state by itself.
+    pub fn written(&mut self, card: usize) {
+        self.lists[card] = None;
+    }
+
+    /// Checks both after a call at a card; the side is the library's.
+    pub fn after(&mut self, call: &Call, outcome: &Outcome, side: &Side) -> Result<(), String> {
+        let taken = outcome.answer().is_some_and(|answer| answer.number == 0);
+        match &call.what {
+            What::Open(setup) if taken => {
+                self.lists[call.card] = (setup.term == self.term).then(Vec::new);
+            }
+            _ if taken && call.record.is_some() => self.written(call.card),
+            _ => {}
+        }
+        let Some(list) = &mut self.lists[call.card] else {
+            return Ok(());
+        };
+        if outcome.number() == Some(2) && call.lends_all(self.term) {
+            return Err(format!("claim: card {} answered 2", call.card));
+        }
+        if taken && !grow(list, side) {
+            let card = call.card;
+            return Err(format!("claim: the committed list of card {card} shrank"));
+        }
+        Ok(())
+    }
+}
+
+/// Adds what is new to a committed list; false if the side's does not begin with it.
+fn grow(list: &mut Vec<Frame>, side: &Side) -> bool {
+    let book = slots(side.log.part(SIZE * side.record.committed_round as usize));
+    let mut committed = book.iter().filter(|slot| frame::filled(slot));
+    let kept = list.iter().all(|held| committed.next() == Some(held));
+    list.extend(committed);
+    kept
+}
