@@ -32,8 +32,7 @@ loop-again c =
     let f = c .before .before in
     let t = f .before .before .before in
     let l = t .before in
-    let b = l .before .before .before .args .frames .now in
-    (
+    let b = l .before .before .before .args .frames .now in (
       search needs,
       search needs,
       added-more b _ (l .loop .i) (l .loop .masks) _ (l .loop .inv .2) _ (t .loop-test .taken) (f .add-frame .ensures),

@@ -41,8 +41,7 @@ loop-again c =
     let j = i .before in
     let t = j .before .before in
     let l = t .before in
-    let b = l .before .before .args .frames .now in
-    (
+    let b = l .before .before .args .frames .now in (
       search needs,
       set-more b _ (l .loop .i) _ _ _ (l .loop .inv .1) (t .loop-test .taken) _ (j .joins .ensures) _ (not-false _ (i .if1 .left)) (c .joined .ensures),
       marked-rest b _ (l .loop .i) (t .loop-test .taken) (l .loop .inv .2) .1,
