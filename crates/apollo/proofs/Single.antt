@@ -5,20 +5,20 @@ use mathlib.Core.List.{List, [], _∷_}
 use mathlib.Core.Bool.{Bool, true, false, _&&_, _||_, not, cond}
 use native.Mathlib.Omega.{arith}
 use lib.ListN.{length}
-use lib.Dec.{eqb, ltb}
+use lib.Dec.{eqb}
 use borrow.Author.Tests.{eqb-true, eqb-false, eq-eqb}
 use Rattle.sha256.specs.Fips.{sha256}
 use Rattle.apollo.specs.declared.Verdict.{Verdict}
 use Rattle.apollo.specs.Setup.{setupOf}
 use Rattle.apollo.specs.Frame.{signer, round, framesOf, wholeFrames, blameForm, checked}
 use Rattle.apollo.specs.Masks.{bit, mask}
-use Rattle.apollo.specs.Enter.{State, hearing, settle}
+use Rattle.apollo.specs.Enter.{State, hearing}
 use Rattle.apollo.specs.Judging.{verdict, noRefusal, fault, judgedEach}
-use Rattle.apollo.specs.Outcome.{Outcome, refused, taken, guarded}
+use Rattle.apollo.specs.Outcome.{Outcome, refused, guarded}
 use Rattle.apollo.specs.Blame.{oneSet, anyFresh, addBlames, hearingAll, heard, handing}
 use Rattle.apollo.specs.Calls.{blameCall, blamesCall}
 use Rattle.apollo.specs.Single.{oneBlame, SetOfOne}
-use Rattle.apollo.proofs.Tests.{both, cond-true, cond-false}
+use Rattle.apollo.proofs.Tests.{both, cond-true}
 use Rattle.apollo.proofs.Frames.{WholeFrames, whole-true, whole-one, frames-one}
 
 -- no bit of 0 is set

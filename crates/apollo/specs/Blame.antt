@@ -3,7 +3,6 @@ use Prim.Native.Nat.{ℕ}
 use mathlib.Core.List.{List, [], _∷_}
 use mathlib.Core.Bool.{Bool, true, false, _&&_, _||_, not, cond}
 use lib.Dec.{eqb, ltb}
-use Rattle.apollo.specs.declared.Setup.{Setup}
 use Rattle.apollo.specs.declared.Verdict.{Verdict}
 use Rattle.apollo.specs.Setup.{setupOf}
 use Rattle.apollo.specs.Frame.{signer, round, framesOf, wholeFrames, blameForm}

@@ -1,5 +1,5 @@
 -- `handing` by way of `judgedSet`: refusals 6, 7, 8, 16, 14 and 10 and what taking the set does. Assumes nothing.
-use mathlib.Core.Path.{_≡_, refl, ap, _∙_}
+use mathlib.Core.Path.{_≡_, refl}
 use mathlib.Core.Bool.{Bool, true, false, cond}
 use mathlib.Core.List.{List, _∷_}
 use Prim.Native.Nat.{ℕ, _-_, _/_, _≤_}
@@ -16,7 +16,6 @@ use Rattle.apollo.specs.Blame.{oneSet, anyFresh, hearingAll, heard}
 use Rattle.apollo.specs.Enter.{State, settle}
 use Rattle.apollo.specs.Outcome.{Outcome, refused, taken}
 use Rattle.apollo.proofs.Frames.{whole-true, frames-split}
-use Rattle.frame.specs.Ends.{firstFrame}
 use Rattle.blame_set.specs.Set.{Marked, judgedTogether, judgedFrames, judgedSet, answered}
 use Rattle.blame_set.proofs.Marked.{each-marked, none-second}
 

@@ -1,5 +1,4 @@
 -- `blame_set::judge_frames` meets its contract: 7 and 8, and what follows them. Assumes nothing.
-use mathlib.Core.Path.{sym, ap, _∙_}
 use borrow.Author.Needs.{needs}
 use Rattle.blame_set.proofs.Judge.{frames-faulty, frames-sound}
 use Rattle.blame_set.proofs.Marked.{each-marked}
