@@ -331,13 +331,15 @@ static void hear_blames(card *c, const signed_blames *b) {
 }
 
 /* Asks a card that is ahead. Answers one that is behind with all above its committed round, and one in the same round with the blames
- * that it lacks; not more often than a card asks by itself, so that nobody can make it send without end. */
+ * that it lacks; not more often than a card asks by itself, so that nobody can make it send without end. What no card's record can say
+ * is dropped. */
 static void hear_status(card *c, int from, const card_status *s) {
+  if (s->round < 1 || s->round > c->setup.rounds + 1 || s->committed >= s->round) return;
   if (s->committed > 0 && s->committed <= committed(c) &&
       !(filled(c, s->committed) && same(digest_of(slot(c, s->committed)), s->digest)))
     host_alarm(c->setup.id, ALARM_PARTED, from, s->committed);
   if (s->round > waited(c)) c->ask |= bit(from);
-  if (s->round > waited(c) || s->committed >= waited(c) || c->now < c->closed[from]) return;
+  if (s->round > waited(c) || c->now < c->closed[from]) return;
   c->closed[from] = c->now + c->setup.retry;
   if (s->round < waited(c)) send_rounds(c, from, s->committed + 1);
   else if (!card_is_over(c)) send_blames(c, from, s->round, (uint16_t)~s->signers);

@@ -21,7 +21,7 @@
  * Terms
  *   - Each term has a number above all earlier ones', which every datagram names. A term is over for a card at R = T + 1; no 3 need be
  *     seen. The next is opened then, or when f + 1 cards have sent datagrams of it, with a record, log and masks of its own: two terms
- *     run side by side, and a card may be behind in the old one.
+ *     run side by side, and a card may be behind in the old one. A frame is handed in to the card of its own term and to no other.
  *   - Answer in the old term until every other card has told R = T + 1 there, or the next one is over too.
  *
  * Signatures
