@@ -1,4 +1,4 @@
--- Document 01, "A card": commit, entering a round, and what follows a blame.
+-- Document 01, "A card": commit, entering a round, and what follows blames.
 use Prim.Native.Nat.{ℕ, _+_, _-_}
 use mathlib.Core.List.{List, [], _∷_}
 use mathlib.Core.Bool.{_&&_, cond}
@@ -68,7 +68,7 @@ module _ (hash : List ℕ → List ℕ) (entry : List ℕ) where
       cond (leads (s .replica)) (record { state = proposing s; emitted = ownBlock s ∷ [] })
       (record { state = waiting s (s .replica .round .0) (s .replica .timeout .0); emitted = [] })
 
-  -- after a blame for round r: if that is R and now certified, R grows by 1 and is entered
+  -- after a blame for round r, or a set of them: if that is R and now certified, R grows by 1 and is entered
   unfoldable pub settle : State → (r : ℕ) → Effect
   settle s r =
       cond (eqb r (s .replica .round .0) && certified (setupOf (s .replica)) (s .masks) r)

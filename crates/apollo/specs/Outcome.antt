@@ -1,4 +1,4 @@
--- Document 01, "A card" and "Refusals by number": what open, branch, blame and tick answer and leave behind.
+-- Document 01, "A card" and "Refusals by number": what open, branch, blame, blames and tick answer and leave behind.
 use Prim.Native.Nat.{ℕ, _+_, _*_}
 use mathlib.Core.List.{List, _++_, flatten}
 use mathlib.Core.Bool.{_&&_, not, cond}
@@ -53,7 +53,7 @@ taken e out =
       out = flatten (e .emitted) ++ drop (512 * length (e .emitted)) out;
     }
 
--- refusals 2 to 5 of branch, blame and tick, before what the call answers otherwise
+-- refusals 2 to 5 of branch, blame, blames and tick, before what the call answers otherwise
 unfoldable pub guarded : State → (entry out : List ℕ) → Outcome → Outcome
 guarded s entry out o =
     cond (not (validReplica (s .replica) (s .log) && validMasks (s .replica) (s .masks))) (refused s out badReplica 0)
