@@ -17,7 +17,7 @@ use Rattle.apollo.specs.Frame.{round, height, linked}
 use Rattle.apollo.specs.Log.{genesis, slot, filled, store, clearAbove, attach}
 use Rattle.apollo.specs.Masks.{mask, certified, gap}
 use Rattle.apollo.specs.Replica.{leads}
-use Rattle.apollo.specs.Enter.{State, Effect, commit, tipped, waiting, holding, proposing, enterRound}
+use Rattle.apollo.specs.Enter.{State, Effect, commit, tipped, holding, entered, proposing, enterRound}
 use Rattle.apollo.specs.Outcome.{refused, taken}
 use Rattle.apollo.specs.Branch.{lastOf, childOf, firstUncertified, storeAll, grown, adopting, placed}
 use Rattle.apollo.specs.Calls.{branchCall}
@@ -116,12 +116,12 @@ leads-as r R T f id e g h k = λ i. leb (e i) (g i) && eqb ((e i - 1) % (2 * h i
 -- the R that entering leaves
 entered-leads : (entry : List ℕ) (s : State) → leads (s .replica) ≡ true
     → enterRound sha256 entry s .state .replica .round .0 ≡ s .replica .round .0 + 1
-unfolding enterRound proposing holding tipped commit
+unfolding enterRound entered proposing holding tipped commit
 entered-leads entry s e = ap (λ (m : Effect). m .state .replica .round .0) (cond-true _ _ e)
 
 entered-waits : (entry : List ℕ) (s : State) → leads (s .replica) ≡ false
     → enterRound sha256 entry s .state .replica .round .0 ≡ s .replica .round .0
-unfolding enterRound waiting
+unfolding enterRound entered commit
 entered-waits entry s e = ap (λ (m : Effect). m .state .replica .round .0) (cond-false _ _ e)
 
 module _ {s : State} {x out : List ℕ} (h : Item9 s x out) (entry : List ℕ) (l : length entry ≤ 400) where
@@ -164,20 +164,20 @@ module _ {s : State} {x out : List ℕ} (h : Item9 s x out) (entry : List ℕ) (
     replica-1 e =
         let w : State = holding s (grown (s .log) 1 (x ∷ [])) (round x) (height x) in
         let led : leads (w .replica) ≡ false =
-        unfold holding tipped commit in leads-as (w .replica) 4 6 1 1 (ap (λ k. k + 1) (h .round)) (h .last) (h .f) e in
-        ap newRound taken-9 ∙ entered-waits entry w led ∙ (unfold holding tipped commit in ap (λ k. k + 1) (h .round))
+        unfold holding tipped in leads-as (w .replica) 4 6 1 1 (ap (λ k. k + 1) (h .round)) (h .last) (h .f) e in
+        ap newRound taken-9 ∙ entered-waits entry w led ∙ (unfold holding tipped in ap (λ k. k + 1) (h .round))
 
     pub replica-0 : s .replica .id ≡ 0 → newRound (branchCall s x entry out) ≡ 5
     unfolding taken adopting lastOf
     replica-0 e =
         let w : State = holding s (grown (s .log) 1 (x ∷ [])) (round x) (height x) in
         let led : leads (w .replica) ≡ true =
-        unfold holding tipped commit in leads-as (w .replica) 4 6 1 0 (ap (λ k. k + 1) (h .round)) (h .last) (h .f) e in
-        ap newRound taken-9 ∙ entered-leads entry w led ∙ (unfold holding tipped commit in ap (λ k. k + 1 + 1) (h .round))
+        unfold holding tipped in leads-as (w .replica) 4 6 1 0 (ap (λ k. k + 1) (h .round)) (h .last) (h .f) e in
+        ap newRound taken-9 ∙ entered-leads entry w led ∙ (unfold holding tipped in ap (λ k. k + 1 + 1) (h .round))
 
 pub committed-10 : {s : State} {out : List ℕ} → Item10 s out → s .replica .«committed_round» .0 ≡ 2
 committed-10 {s} h =
-    ap (λ (r : Replica). r .«committed_round» .0) (h .renewed) ∙ committed-2 (s .replica) (s .log) (h .f) (h .tip) (h .chain)
+    ap (λ (r : Replica). r .«committed_round» .0) (h .renewed) ∙ committed-2 (s .replica) (s .log) (h .f) (h .awaited) (h .chain)
 
 empty-unfilled : filled genesis ≡ false
 unfolding genesis zeros

@@ -18,7 +18,7 @@ use Rattle.apollo.specs.Frame.{kind, signer, round, height, parent, dige
 use Rattle.apollo.specs.Log.{genesis, slot, filled, store, clearAbove, attach, highest}
 use Rattle.apollo.specs.Masks.{bit, mask, addBlame}
 use Rattle.apollo.specs.Replica.{fresh, leads, validSetup, withCommitted}
-use Rattle.apollo.specs.Enter.{State, Effect, commitLimit, commit, tipped, waiting, hearing, holding, ownBlock, proposing, enterRound, settle}
+use Rattle.apollo.specs.Enter.{State, Effect, commitLimit, commit, tipped, hearing, holding, entered, ownBlock, proposing, enterRound, settle}
 use Rattle.apollo.specs.Outcome.{taken}
 use Rattle.apollo.specs.Branch.{lastOf, firstUncertified, storeAll, grown, adopting, placed}
 use Rattle.apollo.specs.Single.{oneBlame}
@@ -114,9 +114,9 @@ pub record Holds (log : List ℕ) (n : ℕ) : Type 0 where
   pub size : length log ≡ 3072
   pub slots : (k : ℕ) → k ≤ n → slot log k ≡ blk k
 
--- a record with f = 1, T = 6 and a wait of 2, all rounds up to the tip n filled
-abbrev pub record-of : (id n : ℕ) → Replica
-record-of id n =
+-- a record with f = 1, T = 6 and a wait of 2, all rounds up to the tip n filled and those up to k committed; as commit leaves it
+abbrev up-to : (id n k : ℕ) → Replica
+up-to id n k =
     record {
       id = id;
       f = 1;
@@ -126,9 +126,12 @@ record-of id n =
       timer = record { 0 = 2 };
       «tip_round» = record { 0 = n };
       «tip_height» = record { 0 = n };
-      «committed_round» = record { 0 = n - 1 };
-      «committed_height» = record { 0 = n - 1 };
+      «committed_round» = record { 0 = k };
+      «committed_height» = record { 0 = k };
     }
+
+abbrev pub record-of : (id n : ℕ) → Replica
+record-of id n = up-to id n (n - 1)
 
 abbrev pub state : (id n : ℕ) (log masks : List ℕ) → State
 state id n log masks = record { replica = record-of id n; log = log; masks = masks }
@@ -147,15 +150,22 @@ module _ (log : List ℕ) (n : ℕ) (holds : Holds log n) (most : n ≤ 6) where
   highest-is zero l = refl
   highest-is (suc k) l = cond-true _ _ (slot-full (suc k) (omega arith) l)
 
-  -- committed as commit sets it
-  pub renewed : (id : ℕ) → commit (record-of id n) log ≡ record-of id n
+  -- committed as commit sets it, whatever was committed
+  pub renewed : (id k : ℕ) → commit (up-to id n k) log ≡ record-of id n
   unfolding commit commitLimit
-  renewed id =
-      let a : highest log (n - 1) ≡ n - 1 = highest-is (n - 1) (omega arith) in
-      let b : height (slot log (highest log (n - 1))) ≡ n - 1 =
-      ap (λ k. height (slot log k)) a ∙ ap (λ (x : List ℕ). height x) (holds .slots (n - 1) (omega arith))
+  renewed id k =
+      let e : n + 1 - 1 - 1 ≡ n - 1 = omega arith in
+      let a : highest log (n + 1 - 1 - 1) ≡ n - 1 = ap (highest log) e ∙ highest-is (n - 1) (omega arith) in
+      let b : height (slot log (highest log (n + 1 - 1 - 1))) ≡ n - 1 =
+      ap (λ q. height (slot log q)) a ∙ ap (λ (x : List ℕ). height x) (holds .slots (n - 1) (omega arith))
       ∙ sized (n - 1) (omega arith) .1 in
-      ap₂ (withCommitted (record-of id n)) a b
+      ap₂ (withCommitted (up-to id n k)) a b
+
+  -- so entering commits
+  pub enters : (id k : ℕ) (masks : List ℕ)
+      → entered (record { replica = up-to id n k; log = log; masks = masks }) ≡ state id n log masks
+  unfolding entered
+  enters id k masks = ap (λ r. record { replica = r; log = log; masks = masks }) (renewed id k)
 
   pub callable : (id : ℕ) (masks : List ℕ) → id < 3 → n < 6 → length masks ≡ 6 → leads (record-of id n) ≡ false
       → Callable (state id n log masks) out
@@ -190,18 +200,15 @@ module _ (log : List ℕ) (n : ℕ) (holds : Holds log n) (most : n ≤ 6) where
         room = omega (arith, length-zeros 1024);
       }
 
--- one more block is held
-held : (id n : ℕ) (log new masks : List ℕ) → n < 6 → Holds new (n + 1)
-    → holding (state id n log masks) new (n + 1) (n + 1) ≡ state id (n + 1) new masks
-unfolding holding tipped commit commitLimit
-held id n log new masks l h =
-    ap (λ r. record { replica = r; log = new; masks = masks }) (renewed new (n + 1) h (omega arith) id)
+-- the state that enters R, before it commits
+abbrev entering : (id n k : ℕ) (log masks : List ℕ) → State
+entering id n k log masks = record { replica = up-to id n k; log = log; masks = masks }
 
 -- what entering leaves, by whether the replica leads
-entered-waits : (id n : ℕ) (log masks : List ℕ) → leads (record-of id n) ≡ false
-    → enterRound sha256 [] (state id n log masks) ≡ record { state = state id n log masks; emitted = [] }
-unfolding enterRound waiting
-entered-waits id n log masks e = cond-false _ _ e
+entered-waits : (id n k : ℕ) (log masks : List ℕ) → n ≤ 6 → Holds log n → leads (record-of id n) ≡ false
+    → enterRound sha256 [] (entering id n k log masks) .state ≡ state id n log masks
+unfolding enterRound leads
+entered-waits id n k log masks l h e = ap (λ (m : Effect). m .state) (cond-false _ _ e) ∙ enters log n h l id k masks
 
 -- a state that calls made, with the blocks 1 to n in its log
 pub record Made (s : State) (id n : ℕ) (masks : List ℕ) : Type 0 where
@@ -225,10 +232,10 @@ store-holds log n l h =
         let ne : ¬ (k ≡ n + 1) = eqb-false k (n + 1) t in
         store-other log (n + 1) (blk (n + 1)) k (omega arith) (omega arith) (next n l .whole) ne ∙ h .slots k (omega arith)
 
-entered-leads : (id n : ℕ) (log masks : List ℕ) → n < 6 → Holds log n → id ≡ n % 3 → leads (record-of id n) ≡ true
-    → Made (enterRound sha256 [] (state id n log masks) .state) id (n + 1) masks
-unfolding enterRound proposing ownBlock
-entered-leads id n log masks l h i e =
+entered-leads : (id n k : ℕ) (log masks : List ℕ) → n < 6 → Holds log n → id ≡ n % 3 → leads (record-of id n) ≡ true
+    → Made (enterRound sha256 [] (entering id n k log masks) .state) id (n + 1) masks
+unfolding enterRound proposing ownBlock holding tipped leads
+entered-leads id n k log masks l h i e =
     let own : makeBlock sha256 id (n + 1) (n + 1) (digest (slot log n)) [] ≡ blk (n + 1) =
     ap₂ (λ j (p : List ℕ). makeBlock sha256 j (n + 1) (n + 1) (digest p) []) i (h .slots n (omega arith))
     ∙ (unfold blk child in ap blk (sym (add-one n))) in
@@ -236,8 +243,8 @@ entered-leads id n log masks l h i e =
       log = store log (n + 1) (blk (n + 1));
       is =
           ap (λ (m : Effect). m .state) (cond-true _ _ e)
-          ∙ ap (λ x. holding (state id n log masks) (store log (n + 1) x) (n + 1) (n + 1)) own
-          ∙ held id n log (store log (n + 1) (blk (n + 1))) masks l (store-holds log n l h);
+          ∙ ap (λ x. entered (entering id (n + 1) k (store log (n + 1) x) masks)) own
+          ∙ enters (store log (n + 1) (blk (n + 1))) (n + 1) (store-holds log n l h) (omega arith) id k masks;
       holds = store-holds log n l h;
     }
 
@@ -259,7 +266,7 @@ opened id valid =
 pub opening-0 : Made (opening 0) 0 1 (zeros 6)
 opening-0 =
     let m : Made (enterRound sha256 [] (state 0 0 (zeros 3072) (zeros 6)) .state) 0 1 (zeros 6) =
-    entered-leads 0 0 (zeros 3072) (zeros 6) (omega arith) no-blocks refl (unfold leads leader in refl) in
+    entered-leads 0 0 0 (zeros 3072) (zeros 6) (omega arith) no-blocks refl (unfold leads leader in refl) in
     record { log = m .log; is = opened 0 (unfold validSetup fresh zeros in refl) ∙ m .is; holds = m .holds }
 
 pub opening-1 : Made (opening 1) 1 0 (zeros 6)
@@ -268,7 +275,7 @@ opening-1 =
       log = zeros 3072;
       is =
           opened 1 (unfold validSetup fresh zeros in refl)
-          ∙ ap (λ (m : Effect). m .state) (entered-waits 1 0 (zeros 3072) (zeros 6) (unfold leads leader in refl));
+          ∙ entered-waits 1 0 0 (zeros 3072) (zeros 6) (omega arith) no-blocks (unfold leads leader in refl);
       holds = no-blocks;
     }
 
@@ -317,8 +324,8 @@ module _ (id n : ℕ) (log masks : List ℕ) (l : n < 5) (h : Holds log n) (c : 
       } in
       subst (λ r. Holds (store (clearAbove log n) r x) (n + 1)) (sym at-x) (store-holds (clearAbove log n) n (omega arith) below)
 
-  taken-x : branchCall (state id n log masks) x [] out ≡ taken (enterRound sha256 [] (state id (n + 1) new masks)) out
-  unfolding adopting lastOf flatten
+  taken-x : branchCall (state id n log masks) x [] out ≡ taken (enterRound sha256 [] (entering id (n + 1) (n - 1) new masks)) out
+  unfolding adopting lastOf flatten holding tipped
   taken-x =
       let e : round x ≡ n + 1 = at-x in
       ap (λ (b : List ℕ). branchCall (state id n log masks) b [] out) (sym (append-nil x))
@@ -327,8 +334,7 @@ module _ (id n : ℕ) (log masks : List ℕ) (l : n < 5) (h : Holds log n) (c : 
       ∙ adopts [] out (state id n log masks) x [] n
       (skips-none (setup 1 6) masks x n [] e ∙ (unfold firstUncertified in refl))
       (take-slots new log (n - 1) (λ q a b. grown-low log x n (omega arith) (omega (arith, h .size)) (child-x .whole) q (omega arith)))
-      ∙ ap (λ s. taken (enterRound sha256 [] s) out)
-      (ap₂ (holding (state id n log masks) new) e (child-x .high) ∙ held id n log new masks (omega arith) new-holds)
+      ∙ ap (λ s. taken (enterRound sha256 [] s) out) (ap₂ (holding (state id n log masks) new) e (child-x .high))
 
 -- the same of a state that calls made: a call on it leaves such a state
 module _ (s : State) (id n : ℕ) (masks : List ℕ) (made : Made s id n masks) (i : id < 3) (l : n < 5) (lent : length masks ≡ 6)
@@ -340,7 +346,7 @@ module _ (s : State) (id n : ℕ) (masks : List ℕ) (made : Made s id n masks) 
   here-callable = callable (made .log) n (made .holds) (omega arith) id masks i (omega arith) lent waits
 
   abbrev there : State
-  there = state id (n + 1) (new id n (made .log) masks l (made .holds) here-callable) masks
+  there = entering id (n + 1) (n - 1) (new id n (made .log) masks l (made .holds) here-callable) masks
 
   branch-left : after (branchCall s (blk (n + 1)) [] out) ≡ enterRound sha256 [] there .state
   unfolding taken
@@ -348,19 +354,22 @@ module _ (s : State) (id n : ℕ) (masks : List ℕ) (made : Made s id n masks) 
       ap (λ u. after (branchCall u (blk (n + 1)) [] out)) (made .is)
       ∙ ap after (taken-x id n (made .log) masks l (made .holds) here-callable)
 
+  taken-holds : Holds (there .log) (n + 1)
+  taken-holds = new-holds id n (made .log) masks l (made .holds) here-callable
+
   pub branch-waits : leads (record-of id (n + 1)) ≡ false → Made (after (branchCall s (blk (n + 1)) [] out)) id (n + 1) masks
   branch-waits e =
       record {
         log = there .log;
-        is = branch-left ∙ ap (λ (m : Effect). m .state) (entered-waits id (n + 1) (there .log) masks e);
-        holds = new-holds id n (made .log) masks l (made .holds) here-callable;
+        is = branch-left ∙ entered-waits id (n + 1) (n - 1) (there .log) masks (omega arith) taken-holds e;
+        holds = taken-holds;
       }
 
   pub branch-leads : id ≡ (n + 1) % 3 → leads (record-of id (n + 1)) ≡ true
       → Made (after (branchCall s (blk (n + 1)) [] out)) id (n + 1 + 1) masks
   branch-leads led e =
       let m : Made (enterRound sha256 [] there .state) id (n + 1 + 1) masks =
-      entered-leads id (n + 1) (there .log) masks (omega arith) (new-holds id n (made .log) masks l (made .holds) here-callable) led e in
+      entered-leads id (n + 1) (n - 1) (there .log) masks (omega arith) taken-holds led e in
       record { log = m .log; is = branch-left ∙ m .is; holds = m .holds }
 
   -- a blame of replica j for a round below R, its bit not yet set

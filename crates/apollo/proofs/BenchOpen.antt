@@ -16,7 +16,7 @@ use Rattle.apollo.specs.Setup.{leader, setup}
 use Rattle.apollo.specs.Frame.{round, height, digest, sealed, blockHead, makeBlock}
 use Rattle.apollo.specs.Log.{slot, genesis, store, highest}
 use Rattle.apollo.specs.Replica.{fresh, zeroReplica, leads, validSetup, validReplica, validMasks}
-use Rattle.apollo.specs.Enter.{State, Effect, commitLimit, commit, tipped, holding, ownBlock, proposing, enterRound}
+use Rattle.apollo.specs.Enter.{State, Effect, commitLimit, commit, tipped, holding, entered, ownBlock, proposing, enterRound}
 use Rattle.apollo.specs.Outcome.{Outcome, refused, taken, guarded}
 use Rattle.apollo.specs.Open.{openWith}
 use Rattle.apollo.specs.Tick.{tickWith}
@@ -71,9 +71,13 @@ module _ (f timeout : ℕ) (log masks entry out : List ℕ) (valid : validSetup 
   unfolding leader
   leader-1 = zero-mod (2 * f + 1)
 
-  proposes : openCall 0 f timeout 1 log masks entry out
-      ≡ taken (record { state = proposing sha256 entry new; emitted = first ∷ [] }) out
-  unfolding new first enterRound leads fresh
+  -- the state that the open leaves
+  left : State
+  unfolding new
+  left = entered (proposing sha256 entry new)
+
+  proposes : openCall 0 f timeout 1 log masks entry out ≡ taken (record { state = left; emitted = first ∷ [] }) out
+  unfolding new first left enterRound leads fresh
   proposes =
       open-fits 0 f timeout 1 log masks entry out valid lent room l
       ∙ ap (λ (e : Effect). taken e out) (cond-true _ _ (eq-eqb (leader (setup f 1) 1) 0 leader-1))
@@ -110,7 +114,7 @@ module _ (f timeout : ℕ) (log masks entry out : List ℕ) (valid : validSetup 
     ap (λ (o : Outcome). o .answer .frames) proposes,
     ap (λ (o : Outcome). block (setup f 1) (take 512 (o .out))) proposes ∙ ap (block (setup f 1)) first-out ∙ first-block,
     ap (λ (o : Outcome). round (o .out)) proposes ∙ first-round,
-    ap newRound proposes ∙ (unfold new proposing holding tipped commit fresh in refl),
+    ap newRound proposes ∙ (unfold new left entered proposing holding tipped commit fresh in refl),
   )
 
   stored : List ℕ
@@ -122,8 +126,8 @@ module _ (f timeout : ℕ) (log masks entry out : List ℕ) (valid : validSetup 
   none-committed k z = (ap (highest stored) z, ap (λ j. height (slot stored (highest stored j))) z)
 
   -- the record that the open leaves is valid, with R = T + 1
-  left-valid : validReplica (proposing sha256 entry new .replica) (proposing sha256 entry new .log) ≡ true
-  unfolding new first stored proposing holding tipped commit commitLimit fresh leads
+  left-valid : validReplica (left .replica) (left .log) ≡ true
+  unfolding new first left stored entered proposing holding tipped commit commitLimit fresh leads
   left-valid =
       let s : ValidSetup (fresh 0 f timeout 1) log = valid-setup (fresh 0 f timeout 1) log valid in
       let low : 1 ≤ f = s .f-least in
@@ -133,7 +137,7 @@ module _ (f timeout : ℕ) (log masks entry out : List ℕ) (valid : validSetup 
       let kept : length stored ≡ length (zeros 512) = length-store (zeros 512) 1 first (omega arith) (omega arith) first-length in
       let a : highest stored (1 - f) ≡ 0 = c .0 in
       let b : height (slot stored (highest stored (1 - f))) ≡ 0 = c .1 in
-      valid-of (proposing sha256 entry new .replica) stored (record {
+      valid-of (left .replica) stored (record {
         setup =
             record {
               id-below = s .id-below;
@@ -156,15 +160,15 @@ module _ (f timeout : ℕ) (log masks entry out : List ℕ) (valid : validSetup 
         waits = refl;
       })
 
-  left-over : (entry′ out′ : List ℕ) → tickCall (proposing sha256 entry new) entry′ out′ ≡ refused (proposing sha256 entry new) out′ 3 0
+  left-over : (entry′ out′ : List ℕ) → tickCall left entry′ out′ ≡ refused left out′ 3 0
   unfolding tickWith guarded
   left-over entry′ out′ =
-      let s : State = proposing sha256 entry new in
+      let s : State = left in
       let v : not (validReplica (s .replica) (s .log) && validMasks (s .replica) (s .masks)) ≡ false =
       ap not (both (validReplica (s .replica) (s .log)) (validMasks (s .replica) (s .masks)) left-valid
-      (unfold new proposing holding tipped commit fresh zeros in refl)) in
+      (unfold new left entered proposing holding tipped commit fresh zeros in refl)) in
       let over : eqb (s .replica .round .0) (s .replica .«last_round» .0 + 1) ≡ true =
-      unfold new proposing holding tipped commit fresh in refl in
+      unfold new left entered proposing holding tipped commit fresh in refl in
       cond-false _ _ v ∙ cond-true _ _ over
 
   pub then-over : (entry′ out′ : List ℕ) → number (tickCall (after (openCall 0 f timeout 1 log masks entry out)) entry′ out′) ≡ 3

@@ -2,9 +2,9 @@
 use mathlib.Core.Path.{refl}
 use Rattle.apollo.specs.Setup.{setup}
 use Rattle.apollo.specs.BenchSheet.{BenchSheet}
-use Rattle.apollo.proofs.BenchCommit.{leaders, chain-1-2, chain-1, chain-1-3, chain-1-2-3, mask-3, mask-1, mask-21}
+use Rattle.apollo.proofs.BenchCommit.{leaders, chain-1-2, chain-1, third-filled, chain-1-3, commits-3, chain-1-2-3, mask-3, mask-1, mask-21}
 use Rattle.apollo.proofs.BenchRefusals.{ends-in-2, ends-in-3, branch-400, blame-400, tick-400, branch-401, blame-401, tick-401}
-use Rattle.apollo.proofs.BenchTicks.{first-blames, second-blames}
+use Rattle.apollo.proofs.BenchTicks.{first-blames, second-blames, tick-commits}
 use Rattle.apollo.proofs.BenchOpen.{open-400, open-401, open-emits, then-over}
 use Rattle.apollo.proofs.BenchBranches.{uncertified-9, number-9, replica-1, replica-0, committed-10, undone-10, uncertified-10, held-10}
 
@@ -13,7 +13,10 @@ benchSheet =
     record {
       item-1 = leaders;
       item-2 = λ r log f. (chain-1-2 r log f, λ t e. chain-1 r log f t);
-      item-3 = chain-1-3;
+      item-3 = (
+        λ r log f. (chain-1-3 r log f, λ t e. commits-3 r log f t (third-filled log e .0)),
+        λ s entry out h l. tick-commits h entry l,
+      );
       item-4 = chain-1-2-3;
       item-5 =
           λ T masks r. (mask-3 (setup 1 T) masks r refl, mask-1 (setup 1 T) masks r refl, mask-21 (setup 2 T) masks r refl);

@@ -1,25 +1,31 @@
--- Item 8 of the bench sheet: the tick that blames. Assumes nothing.
-use Prim.Native.Nat.{ℕ, _-_, _*_, _≤_}
+-- Items 8 and 3 of the bench sheet: the tick that blames, and the one whose blame commits. Assumes nothing.
+use Prim.Native.Nat.{ℕ, _+_, _-_, _*_, _≤_}
 use mathlib.Core.Path.{_≡_, refl, sym, ap, _∙_, subst}
 use mathlib.Core.List.{List, [], _∷_, _++_, flatten, append-assoc}
 use native.Mathlib.Omega.{arith}
-use lib.ListN.{length, take, drop}
+use mathlib.Core.Bool.{true, false}
+use lib.Dec.{eqb}
+use lib.ListN.{length, take, drop, length-take, length-drop}
 use lib.Seq.{take-at}
-use borrow.Author.Tests.{eq-eqb, ne-eqb}
+use borrow.Author.Tests.{eq-eqb, ne-eqb, leb-true}
 use Rattle.sha256.specs.Fips.{sha256}
 use Rattle.apollo.specs.declared.Ticks.{Ticks}
 use Rattle.apollo.specs.Setup.{setupOf, setup}
-use Rattle.apollo.specs.Frame.{round, sealed, blameHead, makeBlame}
+use Rattle.apollo.specs.Frame.{round, digest, sealed, blameHead, makeBlame}
 use Rattle.apollo.specs.Replica.{leads, withRound, withTimer}
-use Rattle.apollo.specs.Enter.{State, Effect, waiting, hearing, settle}
+use Rattle.apollo.specs.Log.{slot, filled, store}
+use Rattle.apollo.specs.Masks.{addBlame, certified}
+use Rattle.apollo.specs.Enter.{State, Effect, tipped, waiting, hearing, holding, entered, ownBlock, proposing, enterRound, settle}
 use Rattle.apollo.specs.Outcome.{Outcome, taken}
 use Rattle.apollo.specs.Tick.{blaming, ticked, tickWith}
 use Rattle.apollo.specs.Calls.{tickCall}
-use Rattle.apollo.specs.BenchSheet.{Callable, Blames, after, number}
-use Rattle.apollo.proofs.Tests.{cond-true, cond-false}
+use Rattle.apollo.specs.BenchSheet.{Callable, Blames, Item3, after, number, newCommitted}
+use Rattle.apollo.proofs.Tests.{and-first, both, by-cond, cond-true, cond-false}
 use Rattle.apollo.proofs.Validity.{ValidSetup, Valid, valid, valid-of}
 use Rattle.apollo.proofs.Judging.{passes}
-use Rattle.apollo.proofs.Made.{blame-length, blame-round, blame-form, blame-checked}
+use Rattle.apollo.proofs.Slots.{slot-length, store-other}
+use Rattle.apollo.proofs.Made.{block-length, blame-length, blame-round, blame-form, blame-checked}
+use Rattle.apollo.proofs.BenchCommit.{third-filled, commits-3, commits-3-led}
 
 module _ {s : State} {out : List ℕ} (c : Callable s out) (entry : List ℕ) (l : length entry ≤ 400) where
   -- what a tick gives, by the ticks left
@@ -123,3 +129,47 @@ second-blames {s} {out} c entry l entry′ out′ l′ room full e =
       ap (λ (o : Outcome). o .answer .frames) first,
       subst (λ (o : Outcome). Blames (setupOf (s .replica)) (tickCall (after o) entry′ out′) (s .replica .id) (s .replica .round .0)) (sym first) blamed,
     )
+
+-- entering round 5 above chain 1, 3 commits round 3, with an own block in round 5 or without
+module _ (entry : List ℕ) (fits : length entry ≤ 400) (s : State) (f : s .replica .f ≡ 1) (five : s .replica .round .0 ≡ 5)
+    (size : length (s .log) ≡ 512 * s .replica .«last_round» .0) (low : s .replica .«tip_round» .0 ≤ s .replica .«last_round» .0)
+    (third : filled (slot (s .log) 3) ≡ true) (fourth : filled (slot (s .log) 4) ≡ false) where
+  own-length : length (ownBlock sha256 entry s) ≡ 512
+  unfolding ownBlock
+  own-length =
+      let whole : length (slot (s .log) (s .replica .«tip_round» .0)) ≡ 512 =
+      slot-length (s .log) (s .replica .«tip_round» .0) (omega arith) in
+      block-length _ _ _ (digest (slot (s .log) (s .replica .«tip_round» .0))) entry (simp (length-take, length-drop, whole) refl) fits
+
+  leads-3 : leads (s .replica) ≡ true → entered (proposing sha256 entry s) .replica .«committed_round» .0 ≡ 3
+  unfolding leads entered proposing holding tipped
+  leads-3 e =
+      let R : ℕ = s .replica .round .0 in
+      let last : R ≤ s .replica .«last_round» .0 = leb-true _ _ (and-first _ _ e) in
+      let new : List ℕ = store (s .log) R (ownBlock sha256 entry s) in
+      let keeps : (q : ℕ) → ¬ (q ≡ R) → slot new q ≡ slot (s .log) q =
+      λ q ne. store-other (s .log) R (ownBlock sha256 entry s) q (omega arith) (omega arith) own-length ne in
+      commits-3-led _ new f (ap (λ k. k + 1) five) (ap filled (keeps 3 (λ z. omega arith)) ∙ third)
+      (ap filled (keeps 4 (λ z. omega arith)) ∙ fourth)
+
+  enters-3 : enterRound sha256 entry s .state .replica .«committed_round» .0 ≡ 3
+  unfolding enterRound
+  enters-3 =
+      by-cond (λ (m : Effect). m .state .replica .«committed_round» .0 ≡ 3) (leads (s .replica)) leads-3
+      (λ _. unfold entered in commits-3 _ (s .log) f five third)
+
+pub tick-commits : {s : State} {out : List ℕ} → Item3 s out → (entry : List ℕ) → length entry ≤ 400
+    → newCommitted (tickCall s entry out) ≡ 3
+unfolding taken blaming settle hearing waiting
+tick-commits {s} {out} h entry l =
+    let R : ℕ = s .replica .round .0 in
+    let i : ℕ = s .replica .id in
+    let v : Valid (s .replica) (s .log) = valid (s .replica) (s .log) (h .callable .valid) in
+    let certifies : certified (setupOf (s .replica)) (addBlame (s .masks) R i) R ≡ true =
+    subst (λ k. certified (setupOf (s .replica)) (addBlame (s .masks) k i) k ≡ true) (sym (h .awaited)) (h .certifies) in
+    let third = third-filled (s .log) (h .chain) in
+    ap newCommitted (tick-1 (h .callable) entry l (h .due))
+    ∙ ap (λ (m : Effect). m .state .replica .«committed_round» .0)
+    (cond-true _ _ (both (eqb R R) _ (eq-eqb R R refl) certifies))
+    ∙ enters-3 entry l (waiting (hearing (waiting s R 0) R i) (R + 1) 0) (h .f) (ap (λ k. k + 1) (h .awaited)) (v .setup .size)
+    (omega (arith, v .tip-below, v .round-most)) (third .0) (third .1)

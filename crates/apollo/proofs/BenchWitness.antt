@@ -201,9 +201,8 @@ met-10 s m masks made lent two three =
             f = refl;
             id = refl;
             awaited = refl;
-            tip = refl;
             chain = chained (made .log) (made .holds);
-            renewed = sym (renewed (made .log) 3 (made .holds) (omega arith) 1);
+            renewed = sym (renewed (made .log) 3 (made .holds) (omega arith) 1 2);
           };
       good = c .good;
       four = c .at;

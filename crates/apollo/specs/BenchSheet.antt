@@ -1,5 +1,5 @@
--- Document 01, "Bench sheet": one statement over its eleven items, about the calls with SHA-256. Each item is claimed for every
--- state, frame, entry and out buffer that its words fit.
+-- Document 01, "Bench sheet": one statement over its eleven items, about the calls with SHA-256, with commit by document 02, F-2.
+-- Each item is claimed for every state, frame, entry and out buffer that its words fit.
 use Prim.Native.Nat.{ℕ, zero, suc, _≤_, _<_}
 use mathlib.Core.Path.{_≡_}
 use mathlib.Core.List.{List, [], _∷_, _++_, flatten}
@@ -12,7 +12,7 @@ use Rattle.apollo.specs.declared.Setup.{Setup}
 use Rattle.apollo.specs.Setup.{setup, setupOf, leader}
 use Rattle.apollo.specs.Frame.{signer, round, blockForm, blameForm, linked, checked}
 use Rattle.apollo.specs.Log.{genesis, slot, filled}
-use Rattle.apollo.specs.Masks.{mask, certified}
+use Rattle.apollo.specs.Masks.{mask, addBlame, certified}
 use Rattle.apollo.specs.Replica.{fresh, validSetup, validReplica, validMasks}
 use Rattle.apollo.specs.Enter.{State, commit}
 use Rattle.apollo.specs.Outcome.{Outcome}
@@ -31,7 +31,7 @@ committedRound r log = commit r log .«committed_round» .0
 abbrev pub committedHeight : Replica → (log : List ℕ) → ℕ
 committedHeight r log = commit r log .«committed_height» .0
 
--- the number and the place of an answer, and the R that it leaves
+-- the number and the place of an answer, and the R and the committed round that it leaves
 abbrev pub number : Outcome → ℕ
 number o = o .answer .number
 
@@ -40,6 +40,9 @@ place o = o .answer .place
 
 abbrev pub newRound : Outcome → ℕ
 newRound o = o .answer .replica .round .0
+
+abbrev pub newCommitted : Outcome → ℕ
+newCommitted o = o .answer .replica .«committed_round» .0
 
 -- the state that a call leaves
 abbrev pub after : Outcome → State
@@ -76,6 +79,15 @@ pub record Blames (s : Setup) (o : Outcome) (i r : ℕ) : Type 0 where
   pub by : signer (o .out) ≡ i
   pub for : round (o .out) ≡ r
 
+-- 3: f = 1, chain 1, 3, R = 4, and the next tick's blame certifies round 4
+pub record Item3 (s : State) (out : List ℕ) : Type 0 where
+  pub callable : Callable s out
+  pub f : s .replica .f ≡ 1
+  pub awaited : s .replica .round .0 ≡ 4
+  pub chain : chainRounds (s .log) 4 ≡ 1 ∷ 3 ∷ []
+  pub due : s .replica .timer .0 ≡ 1
+  pub certifies : certified (setupOf (s .replica)) (addBlame (s .masks) 4 (s .replica .id)) 4 ≡ true
+
 -- 9: f = 1, T = 6, R = 3, x a block for round 3 whose parent is in round 1
 pub record Item9 (s : State) (x out : List ℕ) : Type 0 where
   pub callable : Callable s out
@@ -92,7 +104,6 @@ pub record Item10 (s : State) (out : List ℕ) : Type 0 where
   pub f : s .replica .f ≡ 1
   pub id : s .replica .id ≡ 1
   pub awaited : s .replica .round .0 ≡ 4
-  pub tip : s .replica .«tip_round» .0 ≡ 3
   pub chain : chainRounds (s .log) 3 ≡ 1 ∷ 2 ∷ 3 ∷ []
   pub renewed : s .replica ≡ commit (s .replica) (s .log)
 
@@ -107,12 +118,16 @@ pub record Held (s : Setup) (log : List ℕ) : Type 0 where
 pub record BenchSheet : Type 0 where
   pub item-1 : (T : ℕ)
       → (leader (setup 1 T) 1 ≡ 0) × (leader (setup 1 T) 3 ≡ 2) × (leader (setup 1 T) 4 ≡ 0) × (leader (setup 7 T) 16 ≡ 0)
+  -- 2, 3, 4: the chain below R; the tip is its last round
   pub item-2 : (r : Replica) (log : List ℕ) → r .f ≡ 1
-      → (r .«tip_round» .0 ≡ 2 → chainRounds log 2 ≡ 1 ∷ 2 ∷ [] → committedRound r log ≡ 1)
-      × (r .«tip_round» .0 ≡ 1 → chainRounds log 1 ≡ 1 ∷ [] → (committedRound r log ≡ 0) × (committedHeight r log ≡ 0))
-  pub item-3 : (r : Replica) (log : List ℕ) → r .f ≡ 1 → r .«tip_round» .0 ≡ 3 → chainRounds log 3 ≡ 1 ∷ 3 ∷ []
-      → committedRound r log ≡ 1
-  pub item-4 : (r : Replica) (log : List ℕ) → r .f ≡ 2 → r .«tip_round» .0 ≡ 3 → chainRounds log 3 ≡ 1 ∷ 2 ∷ 3 ∷ []
+      → (r .round .0 ≡ 3 → chainRounds log 2 ≡ 1 ∷ 2 ∷ [] → committedRound r log ≡ 1)
+      × (r .round .0 ≡ 2 → chainRounds log 1 ≡ 1 ∷ [] → (committedRound r log ≡ 0) × (committedHeight r log ≡ 0))
+  -- R is one past the tip, or round 4 is skipped; and so after a call that certifies round 4 and stores no block but its own
+  pub item-3 : ((r : Replica) (log : List ℕ) → r .f ≡ 1
+      → (r .round .0 ≡ 4 → chainRounds log 3 ≡ 1 ∷ 3 ∷ [] → committedRound r log ≡ 1)
+      × (r .round .0 ≡ 5 → chainRounds log 4 ≡ 1 ∷ 3 ∷ [] → committedRound r log ≡ 3))
+      × ((s : State) (entry out : List ℕ) → Item3 s out → length entry ≤ 400 → newCommitted (tickCall s entry out) ≡ 3)
+  pub item-4 : (r : Replica) (log : List ℕ) → r .f ≡ 2 → r .round .0 ≡ 4 → chainRounds log 3 ≡ 1 ∷ 2 ∷ 3 ∷ []
       → committedRound r log ≡ 1
   pub item-5 : (T : ℕ) (masks : List ℕ) (r : ℕ)
       → (mask masks r ≡ 3 → certified (setup 1 T) masks r ≡ true)

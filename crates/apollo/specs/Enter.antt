@@ -1,4 +1,4 @@
--- Document 01, "A card": commit, entering a round, and what follows blames.
+-- Document 01, "A card": commit, entering a round, and what follows blames; commit by document 02, F-2.
 use Prim.Native.Nat.{ℕ, _+_, _-_}
 use mathlib.Core.List.{List, [], _∷_}
 use mathlib.Core.Bool.{_&&_, cond}
@@ -25,17 +25,17 @@ pub record Effect : Type 0 where
   pub state : State
   pub emitted : List (List ℕ)
 
--- the highest round that may be committed
+-- the highest round that may be committed: R − 1 − f, none (0) where that is below 1
 unfoldable pub commitLimit : Replica → ℕ
-commitLimit r = r .«tip_round» .0 - r .f
+commitLimit r = r .round .0 - 1 - r .f
 
 -- commit
 unfoldable pub commit : Replica → (log : List ℕ) → Replica
 commit r log = withCommitted r (highest log (commitLimit r)) (height (slot log (highest log (commitLimit r))))
 
--- the record with its tip in round t of the log, at height h: R = t + 1, the whole wait left, committed renewed
-unfoldable pub tipped : Replica → (log : List ℕ) (t h : ℕ) → Replica
-tipped r log t h = commit (withTimer (withRound (withTip r t h) (t + 1)) (r .timeout .0)) log
+-- the record with its tip in round t, at height h, and R = t + 1
+unfoldable pub tipped : Replica → (t h : ℕ) → Replica
+tipped r t h = withRound (withTip r t h) (t + 1)
 
 -- the state with another R and other ticks left
 unfoldable pub waiting : State → (round timer : ℕ) → State
@@ -48,7 +48,16 @@ hearing s r i = record { replica = s .replica; log = s .log; masks = addBlame (s
 
 -- the state with another log, its tip in round t at height h
 unfoldable pub holding : State → (log : List ℕ) (t h : ℕ) → State
-holding s log t h = record { replica = tipped (s .replica) log t h; log = log; masks = s .masks }
+holding s log t h = record { replica = tipped (s .replica) t h; log = log; masks = s .masks }
+
+-- the state that waits for R, which grew for the last time in its call: the whole wait left, committed renewed
+unfoldable pub entered : State → State
+entered s =
+    record {
+      replica = commit (withTimer (s .replica) (s .replica .timeout .0)) (s .log);
+      log = s .log;
+      masks = s .masks;
+    }
 
 module _ (hash : List ℕ → List ℕ) (entry : List ℕ) where
   -- the block for R on the tip, with the lent entry
@@ -62,11 +71,11 @@ module _ (hash : List ℕ → List ℕ) (entry : List ℕ) where
   proposing s =
       holding s (store (s .log) (s .replica .round .0) (ownBlock s)) (s .replica .round .0) (s .replica .«tip_height» .0 + 1)
 
-  -- entering R
+  -- entering R; every growth of R leads here, so committed is renewed once in a call, by its last R
   unfoldable pub enterRound : State → Effect
   enterRound s =
-      cond (leads (s .replica)) (record { state = proposing s; emitted = ownBlock s ∷ [] })
-      (record { state = waiting s (s .replica .round .0) (s .replica .timeout .0); emitted = [] })
+      cond (leads (s .replica)) (record { state = entered (proposing s); emitted = ownBlock s ∷ [] })
+      (record { state = entered s; emitted = [] })
 
   -- after a blame for round r, or a set of them: if that is R and now certified, R grows by 1 and is entered
   unfoldable pub settle : State → (r : ℕ) → Effect

@@ -10,7 +10,7 @@ use Rattle.apollo.specs.declared.Replica.{Replica}
 use Rattle.apollo.specs.declared.Answer.{Answer}
 use Rattle.apollo.specs.Setup.{setupOf}
 use Rattle.apollo.specs.Frame.{round, height, framesOf}
-use Rattle.apollo.specs.Enter.{State, commit, tipped, holding, enterRound, state}
+use Rattle.apollo.specs.Enter.{State, tipped, holding, enterRound, state}
 use Rattle.apollo.specs.Outcome.{Outcome, refused, taken, outcome}
 use Rattle.apollo.specs.Branch.{grown, branchWith}
 use Rattle.frame_forms.proofs.Facts.{BlockFields}
@@ -48,7 +48,7 @@ module _ (r : Replica) (log masks entry out : List ℕ) where
       module _ (log′ : List ℕ) (q : Replica)
           (p : (m : List ℕ) → state q log′ m ≡ holding (state r log m) (grown log (j .attach) (framesOf x)) (round (lastFrame x)) (height (lastFrame x))) where
         pub adopt-ready : length log′ ≡ length log → Ready q log′ entry out
-        unfolding holding tipped commit
+        unfolding holding tipped
         adopt-ready l =
             let w = branch-facts in
             let v = w .0 .valid .setup in

@@ -3,13 +3,13 @@ use apollo::Replica;
 ghost use mathlib.Core.Path.{_≡_};
 ghost use Rattle.apollo.specs.Enter.{commitLimit, commit};
 
-// The highest round that may be committed.
+// The highest round that may be committed: R - 1 - f, 0 where that is below 1.
 fn commit_limit(r: Replica) -> u32
     ensures { λ x. ⌜ x ≡ commitLimit r ⌝ }
 {
-    let tip = r.tip_round.0;
-    let f = r.f as u32;
-    if tip < f { 0 } else { tip - f }
+    let round = r.round.0;
+    let passed = r.f as u32 + 1;
+    if round < passed { 0 } else { round - passed }
 }
 
 // Committed renewed: the highest filled slot up to that round, the genesis if none.

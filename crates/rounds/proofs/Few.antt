@@ -9,7 +9,7 @@ use Rattle.sha256.specs.Fips.{sha256}
 use Rattle.apollo.specs.Setup.{setupOf}
 use Rattle.apollo.specs.Masks.{certified}
 use Rattle.apollo.specs.Replica.{leads}
-use Rattle.apollo.specs.Enter.{State, Effect, waiting, enterRound, settle, proposing, ownBlock}
+use Rattle.apollo.specs.Enter.{State, Effect, waiting, entered, enterRound, settle, proposing, ownBlock}
 
 either : (b : Bool) (x y : Effect) → length (x .emitted) ≤ 1 → length (y .emitted) ≤ 1 → length (cond b x y .emitted) ≤ 1
 either true x y h k = h
@@ -17,7 +17,7 @@ either false x y h k = k
 
 enter-few : (entry : List ℕ) (s : State) → length (enterRound sha256 entry s .emitted) ≤ 1
 unfolding enterRound
-enter-few entry s = either (leads (s .replica)) (record { state = proposing sha256 entry s; emitted = ownBlock sha256 entry s ∷ [] }) _ (omega arith) (omega arith)
+enter-few entry s = either (leads (s .replica)) (record { state = entered (proposing sha256 entry s); emitted = ownBlock sha256 entry s ∷ [] }) _ (omega arith) (omega arith)
 
 pub settle-few : (entry : List ℕ) (s : State) (r : ℕ) → length (settle sha256 entry s r .emitted) ≤ 1
 unfolding settle

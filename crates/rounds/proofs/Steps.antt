@@ -14,7 +14,7 @@ use Rattle.apollo.specs.declared.Setup.{Setup}
 use Rattle.apollo.specs.Setup.{setupOf, leader}
 use Rattle.apollo.specs.Masks.{addBlame, certified}
 use Rattle.apollo.specs.Replica.{withRound, withTimer, leads}
-use Rattle.apollo.specs.Enter.{State, commit, tipped, waiting, hearing, holding, ownBlock, proposing, enterRound, settle, state}
+use Rattle.apollo.specs.Enter.{State, commit, tipped, waiting, hearing, holding, entered, ownBlock, proposing, enterRound, settle, state}
 use Rattle.apollo.specs.Outcome.{Outcome, nextLeader, taken, outcome}
 use Rattle.apollo.proofs.Tests.{and-first}
 use Rattle.tip.specs.Ready.{Ready}
@@ -50,23 +50,32 @@ pub one-less : (r q : Replica) (a : Answer) → q ≡ withTimer r (r .timer .0 -
     → a ≡ told (withTimer r (r .timer .0 - 1)) 0
 one-less r q a eq e = e ∙ ap (λ (x : Replica). told x 0) eq
 
+-- the whole wait is set, then committed
+pub entered-steps : (r q p : Replica) (log : List ℕ) (frames : ℕ) (a : Answer) → q ≡ withTimer r (r .timeout .0) → p ≡ commit q log
+    → a ≡ told p frames → a ≡ told (commit (withTimer r (r .timeout .0)) log) frames
+entered-steps r q p log frames a eq ep ea = rw (ep, eq) at ea
+
+pub committed-f : (r q p : Replica) (log : List ℕ) → q ≡ withTimer r (r .timeout .0) → p ≡ commit q log → p .f ≡ r .f
+unfolding commit
+committed-f r q p log eq ep = ap (λ (x : Replica). x .f) ep ∙ ap (λ (x : Replica). x .f) eq
+
 module _ (r : Replica) (log entry out masks : List ℕ) where
   -- the own round, and another's
   module _ (out′ log′ : List ℕ) (q : Replica)
       (p : (out′ ≡ ownBlock sha256 entry (state r log masks) ++ drop 512 out) × (state q log′ masks ≡ proposing sha256 entry (state r log masks))) where
     pub proposed-f : q .f ≡ r .f
-    unfolding proposing holding tipped commit
+    unfolding proposing holding tipped
     proposed-f = ap (λ (s : State). s .replica .f) (p .1)
 
-    pub entered-own : (a : Answer) (b : Bool) → b ≡ leads r → b ≡ true → a ≡ told q 1
+    pub entered-own : (a : Answer) (b : Bool) → b ≡ leads r → b ≡ true → a ≡ told (commit (withTimer q (q .timeout .0)) log′) 1
         → outcome a log′ masks out′ ≡ taken (enterRound sha256 entry (state r log masks)) out
-    unfolding enterRound taken flatten
+    unfolding enterRound entered taken flatten
     entered-own a b eb t ea = rw (← eb, t, ea, append-nil, ← (p .1), p .0)
 
-  pub entered-other : (q : Replica) (a : Answer) (b : Bool) → b ≡ leads r → b ≡ false → q ≡ withTimer r (r .timeout .0)
-      → a ≡ told q 0 → outcome a log masks out ≡ taken (enterRound sha256 entry (state r log masks)) out
-  unfolding enterRound waiting taken flatten
-  entered-other q a b eb t eq ea = rw (← eb, t, ea, eq)
+  pub entered-other : (a : Answer) (b : Bool) → b ≡ leads r → b ≡ false → a ≡ told (commit (withTimer r (r .timeout .0)) log) 0
+      → outcome a log masks out ≡ taken (enterRound sha256 entry (state r log masks)) out
+  unfolding enterRound entered taken flatten
+  entered-other a b eb t ea = rw (← eb, t, ea)
 
 -- blames that certify R
 module _ (r : Replica) (masks : List ℕ) (round : ℕ) where

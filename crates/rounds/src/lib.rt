@@ -12,7 +12,7 @@ ghost use Rattle.apollo.specs.Setup.{setupOf};
 ghost use Rattle.apollo.specs.Masks as Masks;
 ghost use Rattle.apollo.specs.Replica.{withTimer};
 ghost use Rattle.apollo.specs.Enter as Enter;
-ghost use Rattle.apollo.specs.Enter.{state, hearing, enterRound};
+ghost use Rattle.apollo.specs.Enter.{state, commit, hearing, enterRound};
 ghost use Rattle.apollo.specs.Outcome as Outcome;
 ghost use Rattle.apollo.specs.Outcome.{outcome, nextLeader};
 ghost use Rattle.tip.specs.Ready.{Ready};
@@ -45,6 +45,15 @@ fn taken(r: Replica, frames: u8) -> Answer
     }
 }
 
+// R grew for the last time in its call: the whole wait is left, and committed is renewed.
+fn entered(r: Replica, log: &[u8], frames: u8) -> Answer
+    requires { ⌜ r .f ≤ 7 ⌝ }
+    ensures { λ a. ⌜ a ≡ told (commit (withTimer r (r .timeout .0)) (now (log .entry))) frames ⌝ }
+{
+    let q = record::with_timer(r, r.timeout.0);
+    taken(commit::commit(q, log), frames)
+}
+
 // R is entered: proposed where this replica leads it, else waited for.
 pub fn enter_round(r: Replica, log: &mut [u8], entry: &[u8], out: &mut [u8]) -> Answer
     requires { ⌜ Ready r (now log) (now entry) (now out) ⌝ }
@@ -53,9 +62,10 @@ pub fn enter_round(r: Replica, log: &mut [u8], entry: &[u8], out: &mut [u8]) -> 
         ≡ Outcome.taken (enterRound sha256 (now (entry .entry)) (state r (now (log .entry)) masks)) (now (out .entry))) ⌝ }
 {
     if record_ranges::leads(r) {
-        return taken(tip::propose(r, log, entry, out), 1);
+        let q = tip::propose(r, log, entry, out);
+        return entered(q, log, 1);
     }
-    taken(record::with_timer(r, r.timeout.0), 0)
+    entered(r, log, 0)
 }
 
 // The blames for a round certify R.

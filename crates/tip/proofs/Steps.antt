@@ -10,18 +10,17 @@ use Rattle.apollo.specs.declared.Replica.{Replica}
 use Rattle.apollo.specs.Bytes.{part, zeros}
 use Rattle.apollo.specs.Frame.{round, height, digest, makeBlock}
 use Rattle.apollo.specs.Log.{genesis, slot, store}
-use Rattle.apollo.specs.Replica.{withRound, withTimer, withTip}
-use Rattle.apollo.specs.Enter.{commit, tipped, holding, ownBlock, proposing, state}
+use Rattle.apollo.specs.Replica.{withRound, withTip}
+use Rattle.apollo.specs.Enter.{tipped, holding, ownBlock, proposing, state}
 use Rattle.frame_writing.proofs.Make.{length-block}
 use Rattle.log.specs.Slots.{slotPart}
 use Rattle.log.proofs.Search.{slot-part}
 use Rattle.tip.specs.Ready.{Ready}
 
--- the tip, R and the timer are set one after the other
-pub tipped-steps : (r : Replica) (log : List ℕ) (t h : ℕ) (a b c q : Replica) → a ≡ withTip r t h → b ≡ withRound a (t + 1)
-    → c ≡ withTimer b (r .timeout .0) → q ≡ commit c log → q ≡ tipped r log t h
+-- the tip and R are set one after the other
+pub tipped-steps : (r : Replica) (t h : ℕ) (a q : Replica) → a ≡ withTip r t h → q ≡ withRound a (t + 1) → q ≡ tipped r t h
 unfolding tipped
-tipped-steps r log t h a b c q ea eb ec eq = rw (ec, eb, ea) at eq
+tipped-steps r t h a q ea eq = rw ea at eq
 
 -- the digest of the tip: of the genesis, and of a slot
 pub genesis-digest : (log : List ℕ) (t : ℕ) → t ≡ 0 → replicate 32 0 ≡ digest (slot log t)
@@ -39,7 +38,7 @@ digest-size log (suc k) h = simp (length-take, length-drop) (omega arith)
 -- a proposal by its steps
 pub proposal : (r : Replica) (log entry out : List ℕ) → Ready r log entry out → (out′ x log′ : List ℕ) (q : Replica)
     → out′ ≡ makeBlock sha256 (r .id) (r .round .0) (r .«tip_height» .0 + 1) (digest (slot log (r .«tip_round» .0))) entry ++ drop 512 out
-    → x ≡ take 512 out′ → log′ ≡ store log (r .round .0) x → q ≡ tipped r log′ (r .round .0) (r .«tip_height» .0 + 1) → (masks : List ℕ)
+    → x ≡ take 512 out′ → log′ ≡ store log (r .round .0) x → q ≡ tipped r (r .round .0) (r .«tip_height» .0 + 1) → (masks : List ℕ)
     → (out′ ≡ ownBlock sha256 entry (state r log masks) ++ drop 512 out)
     × (state q log′ masks ≡ proposing sha256 entry (state r log masks))
 unfolding ownBlock proposing holding
@@ -53,6 +52,6 @@ proposal r log entry out g out′ x log′ q eo ex el eq masks =
 
 -- a branch by its steps
 pub adoption : (r : Replica) (log log′ g x y : List ℕ) (t h : ℕ) (q : Replica) → log′ ≡ g → x ≡ y → t ≡ round x → h ≡ height x
-    → q ≡ tipped r log′ t h → (masks : List ℕ) → state q log′ masks ≡ holding (state r log masks) g (round y) (height y)
+    → q ≡ tipped r t h → (masks : List ℕ) → state q log′ masks ≡ holding (state r log masks) g (round y) (height y)
 unfolding holding
 adoption r log log′ g x y t h q el ex et eh eq masks = rw (eq, et, eh, ex, el)

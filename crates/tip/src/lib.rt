@@ -14,15 +14,12 @@ ghost use Rattle.log.specs.Slots.{Slotted};
 ghost use Rattle.frame.specs.Ends.{lastFrame};
 ghost use Rattle.tip.specs.Ready.{Ready};
 
-// The record with its tip in round t of the log, at height h: R follows it, and committed is renewed.
-fn tipped(r: Replica, log: &[u8], t: u32, h: u32) -> Replica
+// The record with its tip in round t, at height h: R follows it.
+fn tipped(r: Replica, t: u32, h: u32) -> Replica
     requires { ⌜ t ≤ 4096 ⌝ }
-    ensures { λ q. ⌜ q ≡ tipped r (now (log .entry)) t h ⌝ }
+    ensures { λ q. ⌜ q ≡ tipped r t h ⌝ }
 {
-    let a = record::with_tip(r, t, h);
-    let b = record::with_round(a, t + 1);
-    let c = record::with_timer(b, r.timeout.0);
-    commit::commit(c, log)
+    record::with_round(record::with_tip(r, t, h), t + 1)
 }
 
 // The block for R on the tip is written to the front of out.
@@ -56,7 +53,7 @@ pub fn propose(r: Replica, log: &mut [u8], entry: &[u8], out: &mut [u8]) -> Repl
     let height = r.tip_height.0 + 1;
     put_own_block(r, log, height, entry, out);
     log::store(log, round, slices::part(out, 0, 512));
-    tipped(r, log, round, height)
+    tipped(r, round, height)
 }
 
 // A branch is taken on a round: stored, its last frame the tip.
@@ -70,5 +67,5 @@ pub fn adopt(r: Replica, log: &mut [u8], attach: u32, frames: &[u8]) -> Replica
 {
     log::take_branch(log, attach, frames);
     let last = frame::last_frame(frames);
-    tipped(r, log, frame::round(last), frame::height(last))
+    tipped(r, frame::round(last), frame::height(last))
 }
