@@ -14,4 +14,4 @@ unfolding commitLimit
 returns-2 c = omega arith
 
 pub commit-limit-spec : {M : Type 1} → statement M
-commit-limit-spec = tie.close (tie.spec (λ c. search needs) returns returns-2)
+commit-limit-spec = tie.close (tie.spec (λ c. search needs) (λ c. search needs) returns returns-2)

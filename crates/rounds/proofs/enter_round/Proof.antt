@@ -1,5 +1,6 @@
 -- `rounds::enter_round` meets its contract. Assumes nothing.
 use mathlib.Core.List.{[]}
+use borrow.Author.Needs.{needs}
 use Rattle.rounds.proofs.Steps.{leads-last, proposed-f, entered-own, entered-other}
 use Rattle.rounds.proofs.enter_round.Statement.{statement}
 use Rattle.rounds.proofs.enter_round.Tie as tie
@@ -11,45 +12,44 @@ propose-requires c κs =
     let s = l .before .before .before .before in
     (s .pre, leads-last (s .args .r) _ (l .leads .ensures) (i .if1 .taken))
 
-taken-requires : tie.Need-taken-requires
-taken-requires c κs =
-    let p = c .before .before .before .before in
+entered-requires : tie.Need-entered-requires
+entered-requires c κs =
+    let p = c .before .before .before .before .before in
     let s = p .before .before .before .before .before .before .before .before in
     let a = s .args in
     rw (proposed-f (a .r) (a .log .now) (a .entry .now) (a .out .now) [] _ _ _ (p .propose .ensures [])) (s .pre .f-most)
 
 same-length : tie.Need-same-length
 same-length c =
-    let p = c .before .before .before .before .before in
+    let p = c .before .before .before .before .before .before in
     p .propose .kept .1 .0
 
 same-length-2 : tie.Need-same-length-2
 same-length-2 c =
-    let p = c .before .before .before .before .before in
+    let p = c .before .before .before .before .before .before in
     p .propose .kept .1 .1 .1 .0
 
 returns : tie.Need-returns
 returns c =
-    let p = c .before .before .before .before .before in
+    let p = c .before .before .before .before .before .before in
     let i = p .before .before .before in
     let l = i .before in
     let s = l .before .before .before .before in
     let a = s .args in
-    λ masks. entered-own (a .r) (a .log .now) (a .entry .now) (a .out .now) masks _ _ _ (p .propose .ensures masks) _ _ (l .leads .ensures) (i .if1 .taken) (c .taken .ensures)
+    λ masks. entered-own (a .r) (a .log .now) (a .entry .now) (a .out .now) masks _ _ _ (p .propose .ensures masks) _ _ (l .leads .ensures) (i .if1 .taken) (c .entered .ensures)
 
-taken-requires-2 : tie.Need-taken-requires-2
-taken-requires-2 c κs =
+entered-requires-2 : tie.Need-entered-requires-2
+entered-requires-2 c κs =
     let s = c .before .before .before .before .before .before in
-    rw (c .with-timer .ensures) (s .pre .f-most)
+    s .pre .f-most
 
 returns-2 : tie.Need-returns-2
 returns-2 c =
-    let w = c .before in
-    let i = w .before in
+    let i = c .before .before in
     let l = i .before in
     let s = l .before .before .before .before in
     let a = s .args in
-    λ masks. entered-other (a .r) (a .log .now) (a .entry .now) (a .out .now) masks _ _ _ (l .leads .ensures) (i .if1 .left) (w .with-timer .ensures) (c .taken2 .ensures)
+    λ masks. entered-other (a .r) (a .log .now) (a .entry .now) (a .out .now) masks _ _ (l .leads .ensures) (i .if1 .left) (c .entered2 .ensures)
 
 pub enter-round-spec : {M : Type 1} → statement M
 enter-round-spec =
@@ -57,10 +57,10 @@ enter-round-spec =
     (tie.spec
     (λ c κs. tt)
     propose-requires
-    taken-requires
+    entered-requires
     same-length
     same-length-2
     returns
-    (λ c κs. tt)
-    taken-requires-2
+    entered-requires-2
+    (λ c. search needs)
     returns-2)

@@ -14,17 +14,17 @@ store-requires c κs =
 
 same-length : tie.Need-same-length
 same-length c =
-    let s = c .before .before .before .before in
+    let s = c .before .before .before in
     s .store .kept .0
 
 same-length-2 : tie.Need-same-length-2
 same-length-2 c =
-    let u = c .before .before .before .before .before .before .before .before .before .before in
+    let u = c .before .before .before .before .before .before .before .before .before in
     u .put-own-block .kept .1 .1 .1 .1 .0
 
 returns : tie.Need-returns
 returns c =
-    let s = c .before .before .before .before in
+    let s = c .before .before .before in
     let p = s .before in
     let u = p .before .before .before .before .before in
     let g = u .before .before .before .before .before .before .before in

@@ -6,19 +6,9 @@ use Rattle.tip.proofs.tipped.Tie as tie
 
 returns : tie.Need-returns
 returns c =
-    let i = c .before in
-    let w = i .before in
-    let t = w .before in
-    let a = t .before .before .args in
-    tipped-steps (a .r) (a .log .now) (a .t) (a .h) _ _ _ _ (t .with-tip .ensures) (w .with-round .ensures) (i .with-timer .ensures) (c .commit .ensures)
+    let t = c .before in
+    let a = t .before .args in
+    tipped-steps (a .r) (a .t) (a .h) _ _ (t .with-tip .ensures) (c .with-round .ensures)
 
 pub tipped-spec : {M : Type 1} → statement M
-tipped-spec =
-    tie.close
-    (tie.spec
-    (λ c κs. tt)
-    (λ c. search needs)
-    (λ c κs. tt)
-    (λ c κs. tt)
-    (λ c κs. tt)
-    returns)
+tipped-spec = tie.close (tie.spec (λ c κs. tt) (λ c. search needs) (λ c κs. tt) returns)
