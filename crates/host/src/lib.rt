@@ -16,9 +16,9 @@ ghost use Rattle.apollo.specs.Calls.{openCall, branchCall, blameCall, blamesCal
 // The version of the interface: APOLLO_VERSION of the header that belongs to this archive.
 #[no_mangle]
 pub extern "C" fn apollo_version() -> u32
-    ensures { λ v. ⌜ v ≡ 2 ⌝ }
+    ensures { λ v. ⌜ v ≡ 3 ⌝ }
 {
-    2
+    3
 }
 
 #[no_mangle]
