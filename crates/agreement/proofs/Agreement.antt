@@ -149,7 +149,9 @@ agreement s correct calls p =
       where
         begins-by : (i j : ℕ) (c d : State) → w .states i ≡ some c → w .states j ≡ some d
             → c .replica .«committed_round» .0 ≤ d .replica .«committed_round» .0 → Begins (committed c) (committed d)
-        begins-by i j c d ec ed l = begins c d l (same-committed s correct (w .past) h i j c d (v .good i c ec) (v .good j d ed) l)
+        begins-by i j c d ec ed l =
+            begins c d l
+            (same-committed s correct (w .past) h i j c d (v .good i c ec) (v .good j d ed) (v .rests i c ec .renewed) (v .rests j d ed .renewed) l)
 
         go : (b : Bool) → leb (c .replica .«committed_round» .0) (d .replica .«committed_round» .0) ≡ b
             → Begins (committed c) (committed d) ⊎ Begins (committed d) (committed c)

@@ -3,20 +3,19 @@ use Prim.Native.Nat.{ℕ, _≤_}
 use mathlib.Core.Path.{_≡_, refl, sym, ap, _∙_}
 use mathlib.Core.Logic.{inl, inr}
 use mathlib.Core.List.{List, [], _∷_}
-use mathlib.Core.Bool.{Bool, true, false}
+use mathlib.Core.Bool.{Bool, true}
 use lib.ListN.{length}
 use lib.Dec.{eqb, ltb}
 use borrow.Author.Tests.{eqb-true, leb-true}
 use Rattle.apollo.specs.declared.Setup.{Setup}
 use Rattle.apollo.specs.Setup.{setupOf}
 use Rattle.apollo.specs.Frame.{signer, round, framesOf, wholeFrames, blameForm}
-use Rattle.apollo.specs.Replica.{leads}
 use Rattle.apollo.specs.Enter.{State, hearing, settle}
 use Rattle.apollo.specs.Judging.{judgedEach}
 use Rattle.apollo.specs.Blame.{oneSet, anyFresh, addBlames, hearingAll, heard, handing}
 use Rattle.agreement.specs.Run.{Event, In, Seen}
 use Rattle.agreement.proofs.Tests.{and-true, by-cond}
-use Rattle.agreement.proofs.Good.{Blamed, setup-is, Extends, extends-refl, extends-trans, hear-extends}
+use Rattle.agreement.proofs.Good.{Blamed, Rested, Extends, extends-refl, extends-trans, hear-extends, setup-is}
 use Rattle.agreement.proofs.Effects.{Standing, Kept, kept-trans, hear-standing, settle-kept}
 use Rattle.apollo.proofs.Fault.{Passes}
 use Rattle.agreement.proofs.Judged.{Low, each-low, each-none}
@@ -54,7 +53,7 @@ module _ (s : Setup) (past : List Event) where
       (r .0, extends-trans c d _ (hear-extends c (round x) (signer x)) (r .1))
 
 module _ (s : Setup) (hash : List ℕ → List ℕ) (wide : (xs : List ℕ) → length (hash xs) ≡ 32) (past : List Event) (i : ℕ) (entry : List ℕ)
-    (c : State) (st : Standing s past i c) (rests : leads (c .replica) ≡ false) where
+    (c : State) (st : Standing s past i c) (rests : Rested (c .replica) (c .log)) where
   abbrev form : List ℕ → Bool
   form = blameForm (setupOf (c .replica))
 

@@ -3,7 +3,7 @@ use Prim.Native.Nat.{ℕ, _+_, _-_, _*_, _/_, _≤_}
 use mathlib.Core.Path.{_≡_, refl, sym, ap, _∙_}
 use mathlib.Core.Option.{Option, none, some}
 use mathlib.Core.List.{List, [], _∷_}
-use mathlib.Core.Bool.{true, false}
+use mathlib.Core.Bool.{true}
 use native.Mathlib.Omega.{arith}
 use lib.ListN.{length, take}
 use lib.Dec.{eqb, ltb}
@@ -14,8 +14,7 @@ use Rattle.apollo.specs.Setup.{setupOf}
 use Rattle.apollo.specs.Bytes.{same}
 use Rattle.apollo.specs.Frame.{round, height, framesOf, wholeFrames, blockForm}
 use Rattle.apollo.specs.Log.{attach}
-use Rattle.apollo.specs.Replica.{leads}
-use Rattle.apollo.specs.Enter.{State, tipped, holding, commit}
+use Rattle.apollo.specs.Enter.{State, tipped, holding}
 use Rattle.apollo.specs.Outcome.{taken}
 use Rattle.apollo.specs.Branch.{lastOf, childOf, firstUncertified, grown, faulty, judged, judgedAll, adopting, placed, branched, branchWith}
 use Rattle.agreement.specs.Run.{Event}
@@ -23,8 +22,8 @@ use Rattle.agreement.proofs.Tests.{clash, same-true, same-of, by-cond}
 use Rattle.agreement.proofs.Slots.{slots-take}
 use Rattle.agreement.proofs.Frames.{Whole, frames-whole}
 use Rattle.agreement.proofs.Stored.{Stored}
-use Rattle.agreement.proofs.Good.{setup-is, hold-good, hold-extends, committed-low, limit-tip}
-use Rattle.agreement.proofs.Effects.{Standing, standing-later, kept-trans, enter-kept}
+use Rattle.agreement.proofs.Good.{Rested, extends-refl, hold-extends, setup-is, hold-good, committed-tip}
+use Rattle.agreement.proofs.Effects.{Standing, standing-later, enter-kept}
 use Rattle.agreement.proofs.Judged.{Low, fault-low}
 use Rattle.agreement.proofs.Adopt.{Block, Row, branch-row, Known, grown-stored}
 use Rattle.agreement.proofs.Outcomes.{Fine, taken-fine, refused-fine, refused-plain, guarded-fine}
@@ -45,7 +44,7 @@ module _ (hash : List ℕ → List ℕ) (s : Setup) where
       by-cond (λ (v : Verdict). Low (v .number)) (eqb (faulty hash s x) 0) (λ _. judged-low 1 x ys) (λ _. fault-low hash (blockForm s) x)
 
 module _ (s : Setup) (hash : List ℕ → List ℕ) (wide : (xs : List ℕ) → length (hash xs) ≡ 32) (past : List Event) (i : ℕ) (entry : List ℕ)
-    (c : State) (st : Standing s past i c) (rests : leads (c .replica) ≡ false) where
+    (c : State) (st : Standing s past i c) (rests : Rested (c .replica) (c .log)) where
   -- a branch that passed 7 to 10
   module _ (fits : length entry ≤ 400) (x : List ℕ) (xs : List (List ℕ)) (block : Block s hash x) (row : Row s hash x xs)
       (known : Known s hash past (x ∷ xs)) (whole : Whole (x ∷ xs)) (late : c .replica .round .0 ≤ round (lastOf x xs)) where
@@ -64,13 +63,12 @@ module _ (s : Setup) (hash : List ℕ → List ℕ) (wide : (xs : List ℕ) → 
         let t : ℕ = round (lastOf x xs) in
         let h : ℕ = height (lastOf x xs) in
         let fit : 512 * done ≤ 512 * s .«last_round» .0 =
-        omega (arith, committed-low s past i c (st .good), limit-tip s past i c (st .good), st .good .stored .chain .low) in
+        omega (arith, committed-tip s past i c (st .good) (rests .renewed), st .good .stored .chain .low) in
         let slots = slots-take log (c .log) done (omega (arith, new .size)) (omega (arith, st .good .stored .size)) keep in
         taken-fine s past i c _ out
-        (kept-trans s past i c (holding c log t h) _ (hold-extends s past i c (st .good) log t h late slots)
-        (enter-kept s hash wide entry fits past i (holding c log t h)
+        (enter-kept s hash wide entry fits past i c (holding c log t h) (rests .renewed) (hold-extends c c (extends-refl c) log t h late slots)
         (standing-later s past i c (holding c log t h) st (hold-good s past i c (st .good) log t h new late)
-        (unfold holding tipped commit in omega arith))))
+        (unfold holding tipped in omega arith)))
 
     placed-fine : (out : List ℕ) (p : Option ℕ) → attach (c .log) x (round x - 1) ≡ p → Fine s past i c (placed hash entry out c x xs p)
     unfolding placed
@@ -86,6 +84,7 @@ module _ (s : Setup) (hash : List ℕ → List ℕ) (wide : (xs : List ℕ) → 
           level = height (lastOf x xs);
           stored = new (eqb-true _ _ u);
           beyond = late;
+          renewed = rests .renewed;
           differs = λ z. clash (same-of z) k;
         })))
         (λ u. refused-plain s past i c st rests out 13 _ refl refl)

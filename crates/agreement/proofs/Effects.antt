@@ -14,7 +14,7 @@ use Rattle.apollo.specs.Frame.{kind, signer, round, height, parent, digest}
 use Rattle.apollo.specs.Log.{slot, store}
 use Rattle.apollo.specs.Masks.{certified}
 use Rattle.apollo.specs.Replica.{leads}
-use Rattle.apollo.specs.Enter.{State, Effect, commit, tipped, waiting, hearing, holding, ownBlock, proposing, enterRound, settle}
+use Rattle.apollo.specs.Enter.{State, Effect, commit, tipped, waiting, hearing, holding, entered, ownBlock, proposing, enterRound, settle}
 use Rattle.agreement.specs.Run.{Event, emitted, In, emit}
 use Rattle.agreement.proofs.Tests.{either, and-true, by-cond}
 use Rattle.agreement.proofs.Leaders.{leaders-differ}
@@ -22,7 +22,7 @@ use Rattle.agreement.proofs.Slots.{store-other}
 use Rattle.agreement.proofs.Frames.{block-kind, block-signer, block-round, block-height, block-parent, block-length, slot-length, digest-width, Whole}
 use Rattle.agreement.proofs.Past.{emitted-is}
 use Rattle.agreement.proofs.Stored.{Stored, tip-level, store-stored}
-use Rattle.agreement.proofs.Good.{Blamed, setup-is, Good, good-grows, wait-good, hear-good, hold-good, committed-low, limit-tip, Extends, extends-refl, extends-trans, hold-extends, wait-extends}
+use Rattle.agreement.proofs.Good.{Blamed, Renewed, Rested, enter-rested, committed-low, Extends, extends-refl, extends-trans, wait-extends, hold-extends, enter-extends, setup-is, Good, good-grows, wait-good, hear-good, hold-good, enter-good, limit-low}
 
 module _ (s : Setup) where
   -- Of the frames emitted: each names its replica as the signer; a replica emits one block a round at most, for rounds that it leads.
@@ -56,28 +56,35 @@ module _ (s : Setup) where
   rest-standing past i c st timer short =
       wait-standing past i c st (c .replica .round .0) timer (omega arith) (st .good .reach) short (λ q a b. absurd (omega arith))
 
-  pub rest-leads : (c : State) (timer : ℕ) → leads (c .replica) ≡ false → leads (waiting c (c .replica .round .0) timer .replica) ≡ false
-  unfolding waiting leads
-  rest-leads c timer e = e
-
   -- a bit is set for a blame that was seen
   pub hear-standing : (past : List Event) (i : ℕ) (c : State) → Standing past i c → (r k : ℕ) → 1 ≤ r → Blamed past k r
       → Standing past i (hearing c r k)
   hear-standing past i c st r k o b =
       standing-later past i c (hearing c r k) st (hear-good s past i c (st .good) r k o b) (unfold hearing in omega arith)
 
-  -- What a call's effect does to state c: it stands, leads no round that it waits for, keeps what was committed, and emits whole frames.
+  -- What a call's effect does to state c: it stands and rests, keeps what was committed, and emits whole frames.
   pub record Kept (past : List Event) (i : ℕ) (c : State) (e : Effect) : Type 0 where
     pub standing : Standing (emit i (e .emitted) past) i (e .state)
-    pub rests : leads (e .state .replica) ≡ false
+    pub rests : Rested (e .state .replica) (e .state .log)
     pub extends : Extends c (e .state)
     pub whole : Whole (e .emitted)
 
   -- an effect that emits nothing
-  pub silent : (past : List Event) (i : ℕ) (c d : State) → Standing past i d → leads (d .replica) ≡ false → Extends c d
+  pub silent : (past : List Event) (i : ℕ) (c d : State) → Standing past i d → Rested (d .replica) (d .log) → Extends c d
       → Kept past i c (record { state = d; emitted = [] })
   unfolding emit
   silent past i c d st l x = record { standing = st; rests = l; extends = x; whole = tt }
+
+  -- how entering ends, for a call on c that led to state d
+  entered-kept : (past : List Event) (i : ℕ) (c d : State) (xs : List (List ℕ)) → Renewed (c .replica) (c .log) → Extends c d
+      → Standing (emit i xs past) i d → leads (d .replica) ≡ false → Whole xs → Kept past i c (record { state = entered d; emitted = xs })
+  entered-kept past i c d xs r x st e w =
+      record {
+        standing = standing-later _ i d (entered d) st (enter-good s _ i d (st .good)) (unfold entered commit in omega arith);
+        rests = enter-rested d e;
+        extends = enter-extends c d r x;
+        whole = w;
+      }
 
   pub kept-trans : (past : List Event) (i : ℕ) (c d : State) (e : Effect) → Extends c d → Kept past i d e → Kept past i c e
   kept-trans past i c d e x k =
@@ -215,7 +222,7 @@ module _ (s : Setup) (hash : List ℕ → List ℕ) (wide : (xs : List ℕ) → 
         (λ j y q m e. omega (arith, st .mine y (subst (λ k. In (emitted k y) past) e q) m)) i x p k refl
 
     z-rests : leads (proposing hash entry c .replica) ≡ false
-    unfolding proposing holding tipped commit
+    unfolding proposing holding tipped
     z-rests = go (either (leads (proposing hash entry c .replica)))
       where
         go : (leads (proposing hash entry c .replica) ≡ true) ⊎ (leads (proposing hash entry c .replica) ≡ false)
@@ -225,34 +232,33 @@ module _ (s : Setup) (hash : List ℕ → List ℕ) (wide : (xs : List ℕ) → 
             absurd (leaders-differ s R (R + 1) one (omega arith) (omega (arith, g .fixed .f-is, g .fixed .f-one))
             (R-led ∙ sym (leads-parts s now i (proposing hash entry c) z-good e .1)))
 
-    z-extends : Extends c (proposing hash entry c)
-    unfolding proposing
-    z-extends =
-        hold-extends s past i c g (store (c .log) R z) R _ (omega arith)
-        (λ q o l. store-other (c .log) R z q one (omega (arith, R-low, g .stored .size)) z-length
-        (λ e. omega (arith, committed-low s past i c g, limit-tip s past i c g, g .tip-below)))
+    z-standing : Standing s now i (proposing hash entry c)
+    unfolding proposing holding tipped
+    z-standing = record { good = z-good; mine = z-mine; tidy = z-tidy }
 
-    propose-kept : Kept s past i c (record { state = proposing hash entry c; emitted = z ∷ [] })
-    unfolding emit proposing holding tipped commit
-    propose-kept =
-        record {
-          standing = record { good = z-good; mine = z-mine; tidy = z-tidy };
-          rests = z-rests;
-          extends = z-extends;
-          whole = (z-length, tt);
-        }
+    -- b was the state before the call
+    module _ (b : State) (r : Renewed (b .replica) (b .log)) (x : Extends b c) where
+      z-extends : Extends b (proposing hash entry c)
+      unfolding proposing
+      z-extends =
+          hold-extends b c x (store (c .log) R z) R _ (omega arith)
+          (λ q o l. store-other (c .log) R z q one (omega (arith, R-low, g .stored .size)) z-length
+          (λ e. omega (arith, limit-low s past i c g q o (omega (arith, committed-low r, x .limit)))) ∙ x .same-slots q o l)
 
-  pub enter-kept : (past : List Event) (i : ℕ) (c : State) → Standing s past i c → Kept s past i c (enterRound hash entry c)
-  unfolding enterRound
-  enter-kept past i c st =
-      by-cond (Kept s past i c) (leads (c .replica)) (λ e. propose-kept past i c st e)
-      (λ e. silent s past i c (waiting c (c .replica .round .0) (c .replica .timeout .0))
-      (rest-standing s past i c st (c .replica .timeout .0) (omega arith)) (rest-leads s c (c .replica .timeout .0) e)
-      (wait-extends c (c .replica .round .0) (c .replica .timeout .0)))
+      propose-kept : Kept s past i b (record { state = entered (proposing hash entry c); emitted = z ∷ [] })
+      unfolding emit
+      propose-kept = entered-kept s past i b (proposing hash entry c) (z ∷ []) r z-extends z-standing z-rests (z-length, tt)
+
+  -- a call on state b led to state c, which enters R
+  pub enter-kept : (past : List Event) (i : ℕ) (b c : State) → Renewed (b .replica) (b .log) → Extends b c → Standing s past i c
+      → Kept s past i b (enterRound hash entry c)
+  unfolding enterRound emit
+  enter-kept past i b c r x st =
+      by-cond (Kept s past i b) (leads (c .replica)) (λ e. propose-kept past i c st e b r x) (λ e. entered-kept s past i b c [] r x st e tt)
 
   -- after a blame for round r
-  pub settle-kept : (past : List Event) (i : ℕ) (c : State) (r : ℕ) → r ≤ s .«last_round» .0 → leads (c .replica) ≡ false → Standing s past i c
-      → Kept s past i c (settle hash entry c r)
+  pub settle-kept : (past : List Event) (i : ℕ) (c : State) (r : ℕ) → r ≤ s .«last_round» .0 → Rested (c .replica) (c .log)
+      → Standing s past i c → Kept s past i c (settle hash entry c r)
   unfolding settle
   settle-kept past i c r low rests st =
       by-cond (Kept s past i c) (eqb r (c .replica .round .0) && certified (setupOf (c .replica)) (c .masks) r)
@@ -267,7 +273,6 @@ module _ (s : Setup) (hash : List ℕ → List ℕ) (wide : (xs : List ℕ) → 
           let here : r ≡ c .replica .round .0 = eqb-true _ _ (p .0) in
           let cert : certified s (c .masks) r ≡ true =
           ap (λ k. certified k (c .masks) r) (sym (setup-is s i (c .replica) (st .good .fixed))) ∙ p .1 in
-          kept-trans s past i c d _ (wait-extends c (r + 1) (c .replica .timer .0))
-          (enter-kept past i d
+          enter-kept past i c d (rests .renewed) (wait-extends c (r + 1) (c .replica .timer .0) (omega arith))
           (wait-standing s past i c st (r + 1) (c .replica .timer .0) (omega arith) (omega arith) (st .good .timer-low)
-          (λ q a b. let e : q ≡ r = omega arith in ap (certified s (c .masks)) e ∙ cert)))
+          (λ q a b. let e : q ≡ r = omega arith in ap (certified s (c .masks)) e ∙ cert))

@@ -1,6 +1,6 @@
 -- The state of a replica that keeps the rules, nobody presumed correct, and the effects that keep it good. Assumes nothing.
 use Prim.Native.Nat.{ℕ, suc, _+_, _*_, _≤_, _<_}
-use mathlib.Core.Path.{_≡_, refl, sym, _∙_}
+use mathlib.Core.Path.{_≡_, refl, sym, _∙_, subst}
 use mathlib.Core.Logic.{⊎-elim}
 use mathlib.Core.List.{List}
 use mathlib.Core.Bool.{Bool, true, false}
@@ -14,10 +14,12 @@ use Rattle.apollo.specs.Setup.{setupOf, replicas}
 use Rattle.apollo.specs.Frame.{kind, signer, round, height}
 use Rattle.apollo.specs.Log.{slot, filled, highest}
 use Rattle.apollo.specs.Masks.{bit, mask, certified}
-use Rattle.apollo.specs.Enter.{State, commitLimit, commit, tipped, waiting, hearing, holding}
+use Rattle.apollo.specs.Replica.{leads}
+use Rattle.apollo.specs.Enter.{State, commitLimit, commit, tipped, waiting, hearing, holding, entered}
 use Rattle.agreement.specs.Run.{Event, Seen}
 use Rattle.agreement.proofs.Masks.{mask-set, length-blame, certified-kept}
-use Rattle.agreement.proofs.Slots.{highest-le, highest-grows}
+use Rattle.agreement.proofs.Slots.{highest-le, highest-filled, highest-grows}
+use Rattle.agreement.proofs.Chain.{Held, within}
 use Rattle.agreement.proofs.Past.{Grows, seen-grows}
 use Rattle.agreement.proofs.Stored.{Stored, stored-map}
 
@@ -25,28 +27,84 @@ use Rattle.agreement.proofs.Stored.{Stored, stored-map}
 abbrev pub Blamed : List Event → ℕ → ℕ → Type 0
 Blamed past k q = (x : List ℕ) × Seen x past × (kind x ≡ 2) × (signer x ≡ k) × (round x ≡ q)
 
--- A later state keeps the slots up to the committed round, which does not fall.
+-- committed is what the log and R make it
+pub record Renewed (r : Replica) (log : List ℕ) : Type 0 where
+  pub committed-is : r .«committed_round» .0 ≡ highest log (commitLimit r)
+  pub committed-height : r .«committed_height» .0 ≡ height (slot log (r .«committed_round» .0))
+
+-- What holds after every call, and not always within one, where R has grown and is not entered yet: the replica leads no round that it
+-- waits for, and committed is renewed.
+pub record Rested (r : Replica) (log : List ℕ) : Type 0 where
+  pub idle : leads r ≡ false
+  pub renewed : Renewed r log
+
+-- only the ticks left change
+pub rest-rested : (c : State) (timer : ℕ) → Rested (c .replica) (c .log)
+    → Rested (waiting c (c .replica .round .0) timer .replica) (waiting c (c .replica .round .0) timer .log)
+unfolding waiting leads commitLimit
+rest-rested c timer r =
+    record {
+      idle = r .idle;
+      renewed = record { committed-is = r .renewed .committed-is; committed-height = r .renewed .committed-height };
+    }
+
+-- a replica that does not lead the R that it enters
+pub enter-rested : (c : State) → leads (c .replica) ≡ false → Rested (entered c .replica) (entered c .log)
+unfolding entered commit leads commitLimit
+enter-rested c e = record { idle = e; renewed = record { committed-is = refl; committed-height = refl } }
+
+pub committed-low : {r : Replica} {log : List ℕ} → Renewed r log → r .«committed_round» .0 ≤ commitLimit r
+committed-low {r} {log} h = omega (arith, h .committed-is, highest-le log (commitLimit r))
+
+pub committed-held : {r : Replica} {log : List ℕ} → Renewed r log → Held (slot log) (r .«committed_round» .0)
+committed-held {r} {log} h = subst (Held (slot log)) (sym (h .committed-is)) (highest-filled log (commitLimit r))
+
+-- A later state, also within a call, keeps the slots up to the committed round; neither that round nor the limit of commit falls.
 pub record Extends (c d : State) : Type 0 where
   pub further : c .replica .«committed_round» .0 ≤ d .replica .«committed_round» .0
+  pub limit : commitLimit (c .replica) ≤ commitLimit (d .replica)
   pub same-slots : (q : ℕ) → 1 ≤ q → q ≤ c .replica .«committed_round» .0 → slot (d .log) q ≡ slot (c .log) q
 
 pub extends-refl : (c : State) → Extends c c
-extends-refl c = record { further = omega arith; same-slots = λ q o l. refl }
+extends-refl c = record { further = omega arith; limit = omega arith; same-slots = λ q o l. refl }
 
 pub extends-trans : (c d e : State) → Extends c d → Extends d e → Extends c e
 extends-trans c d e g h =
     record {
       further = omega (arith, g .further, h .further);
+      limit = omega (arith, g .limit, h .limit);
       same-slots = λ q o l. h .same-slots q o (omega (arith, g .further)) ∙ g .same-slots q o l;
     }
 
-pub wait-extends : (c : State) (R timer : ℕ) → Extends c (waiting c R timer)
-unfolding waiting
-wait-extends c R timer = record { further = omega arith; same-slots = λ q o l. refl }
+pub wait-extends : (c : State) (R timer : ℕ) → c .replica .round .0 ≤ R → Extends c (waiting c R timer)
+unfolding waiting commitLimit
+wait-extends c R timer up = record { further = omega arith; limit = omega arith; same-slots = λ q o l. refl }
 
 pub hear-extends : (c : State) (r k : ℕ) → Extends c (hearing c r k)
 unfolding hearing
-hear-extends c r k = record { further = omega arith; same-slots = λ q o l. refl }
+hear-extends c r k = record { further = omega arith; limit = omega arith; same-slots = λ q o l. refl }
+
+-- a log that keeps the committed slots is held
+pub hold-extends : (c d : State) → Extends c d → (log : List ℕ) (t n : ℕ) → d .replica .round .0 ≤ t
+    → ((q : ℕ) → 1 ≤ q → q ≤ c .replica .«committed_round» .0 → slot log q ≡ slot (c .log) q) → Extends c (holding d log t n)
+unfolding holding tipped commitLimit
+hold-extends c d x log t n up keep = record { further = x .further; limit = omega (arith, x .limit); same-slots = keep }
+
+-- committed is renewed at the end of a call on c
+pub enter-extends : (c d : State) → Renewed (c .replica) (c .log) → Extends c d → Extends c (entered d)
+unfolding entered commit commitLimit
+enter-extends c d r x =
+    record {
+      further =
+          omega (
+            arith,
+            r .committed-is,
+            highest-grows (c .log) (d .log) (commitLimit (c .replica)) (commitLimit (d .replica)) (x .limit)
+                (λ q o l. x .same-slots q o (omega (arith, r .committed-is))),
+          );
+      limit = x .limit;
+      same-slots = x .same-slots;
+    }
 
 module _ (s : Setup) where
   -- what no call changes: own number, f, timeout and T, in their ranges
@@ -65,7 +123,7 @@ module _ (s : Setup) where
   pub setup-is : (i : ℕ) (r : Replica) → Fixed i (r .id) (r .f) (r .timeout .0) (r .«last_round» .0) → setupOf r ≡ s
   setup-is i r x = λ k. record { f = x .f-is k; «last_round» = record { 0 = x .last-is k } }
 
-  -- `waits` and `stored` together: every round below R is filled or certified
+  -- A state after a call, or within one. `waits` and `stored` together: every round below R is filled or certified.
   pub record Good (past : List Event) (i : ℕ) (c : State) : Type 0 where
     pub fixed : Fixed i (c .replica .id) (c .replica .f) (c .replica .timeout .0) (c .replica .«last_round» .0)
     pub masks-length : length (c .masks) ≡ s .«last_round» .0
@@ -73,8 +131,6 @@ module _ (s : Setup) where
     pub tip-below : c .replica .«tip_round» .0 < c .replica .round .0
     pub reach : c .replica .round .0 ≤ suc (s .«last_round» .0)
     pub timer-low : c .replica .timer .0 ≤ c .replica .timeout .0
-    pub committed-is : c .replica .«committed_round» .0 ≡ highest (c .log) (commitLimit (c .replica))
-    pub committed-height : c .replica .«committed_height» .0 ≡ height (slot (c .log) (c .replica .«committed_round» .0))
     pub waits : (q : ℕ) → c .replica .«tip_round» .0 < q → q < c .replica .round .0 → certified s (c .masks) q ≡ true
     pub bits : (q k : ℕ) → 1 ≤ q → k < replicas s → bit k (mask (c .masks) q) ≡ true → Blamed past k q
 
@@ -88,8 +144,6 @@ module _ (s : Setup) where
         tip-below = h .tip-below;
         reach = h .reach;
         timer-low = h .timer-low;
-        committed-is = h .committed-is;
-        committed-height = h .committed-height;
         waits = h .waits;
         bits = λ q k o l e. let b : Blamed past k q = h .bits q k o l e in
             (b .0, seen-grows past now g (b .0) (b .1), b .2, b .3, b .4);
@@ -99,7 +153,7 @@ module _ (s : Setup) where
     -- R grows past certified rounds, or stays, and the ticks left change
     pub wait-good : (R timer : ℕ) → c .replica .round .0 ≤ R → R ≤ suc (s .«last_round» .0) → timer ≤ c .replica .timeout .0
         → ((q : ℕ) → c .replica .round .0 ≤ q → q < R → certified s (c .masks) q ≡ true) → Good past i (waiting c R timer)
-    unfolding waiting commitLimit
+    unfolding waiting
     wait-good R timer up low short pass =
         record {
           fixed = h .fixed;
@@ -108,8 +162,6 @@ module _ (s : Setup) where
           tip-below = omega (arith, h .tip-below);
           reach = low;
           timer-low = short;
-          committed-is = h .committed-is;
-          committed-height = h .committed-height;
           waits = λ q a b. go q a b (leb (c .replica .round .0) q) refl;
           bits = h .bits;
         }
@@ -130,8 +182,6 @@ module _ (s : Setup) where
           tip-below = h .tip-below;
           reach = h .reach;
           timer-low = h .timer-low;
-          committed-is = h .committed-is;
-          committed-height = h .committed-height;
           waits = λ q a e. certified-kept s (c .masks) r k q (h .waits q a e);
           bits = λ q j p l e. ⊎-elim (λ old. h .bits q j p l old) (λ new. at q j new) (mask-set (c .masks) r k q j o p e);
         }
@@ -141,7 +191,7 @@ module _ (s : Setup) where
 
     -- a log with a tip at R or above is held
     pub hold-good : (log : List ℕ) (t n : ℕ) → Stored s past (c .masks) log t n → c .replica .round .0 ≤ t → Good past i (holding c log t n)
-    unfolding holding tipped commit commitLimit
+    unfolding holding tipped
     hold-good log t n st up =
         record {
           fixed = h .fixed;
@@ -149,10 +199,23 @@ module _ (s : Setup) where
           stored = st;
           tip-below = omega arith;
           reach = omega (arith, st .chain .low);
-          timer-low = omega arith;
-          committed-is = refl;
-          committed-height = refl;
+          timer-low = h .timer-low;
           waits = λ q a b. absurd (omega arith);
+          bits = h .bits;
+        }
+
+    -- R is entered
+    pub enter-good : Good past i (entered c)
+    unfolding entered commit
+    enter-good =
+        record {
+          fixed = h .fixed;
+          masks-length = h .masks-length;
+          stored = h .stored;
+          tip-below = h .tip-below;
+          reach = h .reach;
+          timer-low = omega arith;
+          waits = h .waits;
           bits = h .bits;
         }
 
@@ -164,29 +227,11 @@ module _ (s : Setup) where
         go true z = h .stored .chain .skip q o (leb-true _ _ z) e
         go false z = h .waits q (leb-false _ _ z) l
 
-    -- what is used of the limit of commit: it is at most the tip, and f rounds below R
-    pub limit-tip : commitLimit (c .replica) ≤ c .replica .«tip_round» .0
-    unfolding commitLimit
-    limit-tip = omega arith
-
+    -- a round up to the limit of commit, and the f rounds above it, are below R
     pub limit-low : (q : ℕ) → 1 ≤ q → q ≤ commitLimit (c .replica) → q + s .f < c .replica .round .0
     unfolding commitLimit
-    limit-low q o l = omega (arith, h .tip-below, h .fixed .f-is)
+    limit-low q o l = omega (arith, h .fixed .f-is)
 
-    pub committed-low : c .replica .«committed_round» .0 ≤ commitLimit (c .replica)
-    committed-low = omega (arith, h .committed-is, highest-le (c .log) (commitLimit (c .replica)))
-
-  pub hold-extends : (past : List Event) (i : ℕ) (c : State) → Good past i c → (log : List ℕ) (t n : ℕ) → c .replica .round .0 ≤ t
-      → ((q : ℕ) → 1 ≤ q → q ≤ c .replica .«committed_round» .0 → slot log q ≡ slot (c .log) q) → Extends c (holding c log t n)
-  unfolding holding tipped commit commitLimit
-  hold-extends past i c h log t n up keep =
-      record {
-        further =
-            omega (
-              arith,
-              h .committed-is,
-              highest-grows (c .log) log (commitLimit (c .replica)) (commitLimit (tipped (c .replica) log t n)) (omega (arith, h .tip-below))
-                  (λ q o l. keep q o (omega (arith, h .committed-is))),
-            );
-        same-slots = keep;
-      }
+    -- the limit may be above the tip, the committed round is not: its slot is filled
+    pub committed-tip : Renewed (c .replica) (c .log) → c .replica .«committed_round» .0 ≤ c .replica .«tip_round» .0
+    committed-tip r = within (s .«last_round» .0) _ _ (slot (c .log)) _ (h .stored .chain) _ (committed-held r)

@@ -18,7 +18,7 @@ use Rattle.agreement.proofs.Leaders.{leader-low, correct-mark, correct-
 use Rattle.agreement.proofs.Slots.{take-slots}
 use Rattle.agreement.proofs.Chain.{filled-kind, within, agree}
 use Rattle.agreement.proofs.Stored.{Fact, Linked}
-use Rattle.agreement.proofs.Good.{Blamed, Good, good-certified, committed-low, limit-low}
+use Rattle.agreement.proofs.Good.{Blamed, Renewed, committed-low, Good, good-certified, limit-low}
 use Rattle.agreement.proofs.Effects.{Tidy}
 use Rattle.agreement.proofs.Outcomes.{Reverts}
 
@@ -83,14 +83,14 @@ module _ (s : Setup) (correct : ℕ → Bool) (past : List Event) (h : Honest s 
         (r .0) (inr (e .0)) (inr (ap filled (sym (e .1)) ∙ e .0)) (e .1) q (omega (arith, r .1))
 
   -- two replicas hold the same frames up to a round that both may commit
-  pub same-committed : (i j : ℕ) (c d : State) → Good s past i c → Good s past j d
-      → c .replica .«committed_round» .0 ≤ d .replica .«committed_round» .0 → (q : ℕ) → 1 ≤ q → q ≤ c .replica .«committed_round» .0
-      → slot (c .log) q ≡ slot (d .log) q
-  same-committed i j c d g k l q o m =
+  pub same-committed : (i j : ℕ) (c d : State) → Good s past i c → Good s past j d → Renewed (c .replica) (c .log)
+      → Renewed (d .replica) (d .log) → c .replica .«committed_round» .0 ≤ d .replica .«committed_round» .0 → (q : ℕ) → 1 ≤ q
+      → q ≤ c .replica .«committed_round» .0 → slot (c .log) q ≡ slot (d .log) q
+  same-committed i j c d g k r t l q o m =
       let n : ℕ = c .replica .«committed_round» .0 in
       same-up-to (c .masks) (d .masks) (c .log) (d .log) _ _ _ _ (g .stored .chain) (k .stored .chain) (good-passed i c g) (good-passed j d k) n
-      (omega arith) (limit-low s past i c g n (omega arith) (committed-low s past i c g))
-      (limit-low s past j d k n (omega arith) (omega (arith, committed-low s past j d k))) q m
+      (omega arith) (limit-low s past i c g n (omega arith) (committed-low r))
+      (limit-low s past j d k n (omega arith) (omega (arith, committed-low t))) q m
 
   -- a branch that passed 13 keeps what was committed
   pub no-revert : (i : ℕ) (c : State) → Good s past i c → Reverts s past c → ⊥
@@ -100,7 +100,7 @@ module _ (s : Setup) (correct : ℕ → Bool) (past : List Event) (h : Honest s 
       n = c .replica .«committed_round» .0
 
       low : 1 ≤ n → n + s .f < c .replica .round .0
-      low o = limit-low s past i c g n o (committed-low s past i c g)
+      low o = limit-low s past i c g n o (committed-low (r .renewed))
 
       same : (q : ℕ) → 1 ≤ q → q ≤ n → slot (r .log) q ≡ slot (c .log) q
       same q o m =

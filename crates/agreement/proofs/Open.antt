@@ -22,7 +22,7 @@ use Rattle.agreement.proofs.Tests.{clash, and-true, by-cond}
 use Rattle.agreement.proofs.Slots.{length-zeros, part-zeros, filled-genesis, filled-nil, slot-beyond, highest-le}
 use Rattle.agreement.proofs.Frames.{height-genesis}
 use Rattle.agreement.proofs.Stored.{Linked}
-use Rattle.agreement.proofs.Good.{Fixed, Good}
+use Rattle.agreement.proofs.Good.{Renewed, extends-refl, Fixed, Good}
 use Rattle.agreement.proofs.Effects.{Tidy, enter-kept}
 use Rattle.agreement.proofs.Outcomes.{Fine, taken-fine}
 
@@ -77,7 +77,7 @@ module _ (s : Setup) (past : List Event) (i : ℕ) where
     first = record { replica = fresh id f timeout last; log = log; masks = zeros last }
 
     first-good : Good s past i first
-    unfolding fresh commitLimit
+    unfolding fresh
     first-good =
         record {
           fixed = fixed;
@@ -91,11 +91,13 @@ module _ (s : Setup) (past : List Event) (i : ℕ) where
           tip-below = omega arith;
           reach = omega arith;
           timer-low = omega arith;
-          committed-is = omega (arith, highest-le log (0 - f));
-          committed-height = sym height-zero;
           waits = λ q a b. absurd (omega arith);
           bits = λ q k o l e. absurd (clash e (ap (bit k) (mask-zero last q) ∙ bit-zero k));
         }
+
+    first-renewed : Renewed (first .replica) log
+    unfolding fresh commitLimit
+    first-renewed = record { committed-is = omega (arith, highest-le log (0 - f)); committed-height = sym height-zero }
 
   -- what is shown of an answer to open
   pub record OpenFine (id f last : ℕ) (o : Outcome) : Type 0 where
@@ -156,7 +158,7 @@ module _ (s : Setup) (past : List Event) (i : ℕ) where
               let x : Fixed s i id f timeout last = ranges id f timeout last log masks v ei ef el in (
                 new,
                 taken-fine s past i new (enterRound hash entry new) out
-                    (enter-kept s hash wide entry fits past i new
+                    (enter-kept s hash wide entry fits past i new new (first-renewed id f timeout last x) (extends-refl new)
                     (record { good = first-good id f timeout last x; mine = λ y p k. absurd (none y p); tidy = tidy })),
               );
         }

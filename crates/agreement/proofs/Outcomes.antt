@@ -10,14 +10,14 @@ use lib.Dec.{eqb, ltb}
 use borrow.Author.Tests.{eqb-false, ltb-false, not-true}
 use Rattle.apollo.specs.declared.Setup.{Setup}
 use Rattle.apollo.specs.Frame.{frames}
-use Rattle.apollo.specs.Replica.{leads, validReplica, validMasks}
+use Rattle.apollo.specs.Replica.{validReplica, validMasks}
 use Rattle.apollo.specs.Enter.{State, Effect}
 use Rattle.apollo.specs.Outcome.{Outcome, refused, taken, guarded}
 use Rattle.agreement.specs.Run.{Event, emit, emittedBy, stateOf}
 use Rattle.agreement.proofs.Tests.{clash, by-cond}
 use Rattle.agreement.proofs.Frames.{frames-flatten}
 use Rattle.agreement.proofs.Stored.{Stored}
-use Rattle.agreement.proofs.Good.{Extends, extends-refl}
+use Rattle.agreement.proofs.Good.{Renewed, Rested, Extends, extends-refl}
 use Rattle.agreement.proofs.Effects.{Standing, Kept}
 use Rattle.agreement.proofs.Valid.{valid}
 
@@ -29,12 +29,13 @@ module _ (s : Setup) where
     pub level : ℕ
     pub stored : Stored s past (c .masks) log tip level
     pub beyond : c .replica .round .0 ≤ tip
+    pub renewed : Renewed (c .replica) (c .log)
     pub differs : take (512 * c .replica .«committed_round» .0) log ≢ take (512 * c .replica .«committed_round» .0) (c .log)
 
   -- replica i's call leaves state c as the outcome says
   pub record Fine (past : List Event) (i : ℕ) (c : State) (o : Outcome) : Type 0 where
     pub standing : Standing s (emit i (emittedBy o) past) i (stateOf o)
-    pub rests : leads (o .answer .replica) ≡ false
+    pub rests : Rested (o .answer .replica) (o .log)
     pub extends : Extends c (stateOf o)
     pub valid-ok : o .answer .number ≢ 2
     pub reverts : o .answer .number ≡ 12 → Reverts past c
@@ -53,7 +54,7 @@ module _ (s : Setup) where
           reverts = λ z. absurd (omega (arith, z));
         }
 
-    module _ (st : Standing s past i c) (rests : leads (c .replica) ≡ false) where
+    module _ (st : Standing s past i c) (rests : Rested (c .replica) (c .log)) where
       pub refused-fine : (out : List ℕ) (k p : ℕ) → k ≢ 2 → (k ≡ 12 → Reverts past c) → Fine past i c (refused c out k p)
       unfolding refused frames emit emittedBy
       refused-fine out k p a b =

@@ -3,25 +3,23 @@ use Prim.Native.Nat.{ℕ, _-_, _≤_}
 use mathlib.Core.Path.{_≡_, refl, sym, ap, _∙_}
 use mathlib.Core.Logic.{inl, inr}
 use mathlib.Core.List.{List, _∷_}
-use mathlib.Core.Bool.{false}
 use native.Mathlib.Omega.{arith}
 use lib.ListN.{length}
 use lib.Dec.{eqb}
 use Rattle.apollo.specs.declared.Setup.{Setup}
 use Rattle.apollo.specs.Frame.{kind, signer, round, makeBlame}
-use Rattle.apollo.specs.Replica.{leads}
 use Rattle.apollo.specs.Enter.{State, waiting, hearing, settle}
 use Rattle.apollo.specs.Tick.{blaming, ticked, tickWith}
 use Rattle.agreement.specs.Run.{Event, emitted, In, emit}
 use Rattle.agreement.proofs.Tests.{by-cond}
 use Rattle.agreement.proofs.Frames.{blame-kind, blame-signer, blame-round, blame-length}
 use Rattle.agreement.proofs.Past.{emitted-is}
-use Rattle.agreement.proofs.Good.{good-grows, extends-refl, wait-extends, hear-extends}
-use Rattle.agreement.proofs.Effects.{Standing, rest-standing, rest-leads, Kept, silent, kept-trans, hear-standing, settle-kept}
+use Rattle.agreement.proofs.Good.{Rested, rest-rested, extends-refl, wait-extends, hear-extends, good-grows}
+use Rattle.agreement.proofs.Effects.{Standing, rest-standing, Kept, silent, kept-trans, hear-standing, settle-kept}
 use Rattle.agreement.proofs.Outcomes.{Fine, taken-fine, guarded-fine}
 
 module _ (s : Setup) (hash : List ℕ → List ℕ) (wide : (xs : List ℕ) → length (hash xs) ≡ 32) (past : List Event) (i : ℕ) (entry : List ℕ)
-    (c : State) (st : Standing s past i c) (rests : leads (c .replica) ≡ false) where
+    (c : State) (st : Standing s past i c) (rests : Rested (c .replica) (c .log)) where
   abbrev R : ℕ
   R = c .replica .round .0
 
@@ -59,9 +57,9 @@ module _ (s : Setup) (hash : List ℕ → List ℕ) (wide : (xs : List ℕ) → 
     blaming-kept =
         let d : State = waiting c R 0 in
         let k : Kept s (emitted i x ∷ past) i c (settle hash entry (hearing d R (c .replica .id)) R) =
-        kept-trans s (emitted i x ∷ past) i c d _ (wait-extends c R 0)
+        kept-trans s (emitted i x ∷ past) i c d _ (wait-extends c R 0 (omega arith))
         (kept-trans s (emitted i x ∷ past) i d (hearing d R (c .replica .id)) _ (hear-extends d R (c .replica .id))
-        (settle-kept s hash wide entry fits (emitted i x ∷ past) i (hearing d R (c .replica .id)) R low (unfold hearing in rest-leads s c 0 rests)
+        (settle-kept s hash wide entry fits (emitted i x ∷ past) i (hearing d R (c .replica .id)) R low (unfold hearing in rest-rested c 0 rests)
         (hear-standing s (emitted i x ∷ past) i d (rest-standing s (emitted i x ∷ past) i c blame-standing 0 (omega arith)) R (c .replica .id)
         (omega (arith, st .good .tip-below)) (
           x,
@@ -79,7 +77,7 @@ module _ (s : Setup) (hash : List ℕ → List ℕ) (wide : (xs : List ℕ) → 
         (λ _. by-cond (Kept s past i c) (eqb (c .replica .timer .0) 1) (λ _. blaming-kept)
         (λ _. silent s past i c (waiting c R (c .replica .timer .0 - 1))
         (rest-standing s past i c st (c .replica .timer .0 - 1) (omega (arith, st .good .timer-low)))
-        (rest-leads s c (c .replica .timer .0 - 1) rests) (wait-extends c R (c .replica .timer .0 - 1))))
+        (rest-rested c (c .replica .timer .0 - 1) rests) (wait-extends c R (c .replica .timer .0 - 1) (omega arith))))
 
   pub tick-fine : (out : List ℕ) → Fine s past i c (tickWith hash c entry out)
   unfolding tickWith

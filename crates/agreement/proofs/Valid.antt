@@ -1,19 +1,18 @@
--- A good state of a replica that does not lead R meets no refusal 2. Assumes nothing.
+-- A good state after a call meets no refusal 2. Assumes nothing.
 use Prim.Native.Nat.{ℕ, _+_, _*_, _≤_}
-use mathlib.Core.Path.{_≡_, sym, ap, _∙_, subst}
+use mathlib.Core.Path.{_≡_, sym, ap, _∙_}
 use mathlib.Core.List.{List}
-use mathlib.Core.Bool.{Bool, true, false, _&&_, not}
+use mathlib.Core.Bool.{Bool, true, _&&_, not}
 use native.Mathlib.Omega.{arith}
 use borrow.Author.Tests.{lt-ltb, le-leb, eq-eqb}
 use Rattle.apollo.specs.declared.Setup.{Setup}
 use Rattle.apollo.specs.Bytes.{within}
 use Rattle.apollo.specs.Log.{slot}
-use Rattle.apollo.specs.Replica.{leads, validSetup, validReplica, validMasks}
-use Rattle.apollo.specs.Enter.{State, commitLimit}
+use Rattle.apollo.specs.Replica.{validSetup, validReplica, validMasks}
+use Rattle.apollo.specs.Enter.{State}
 use Rattle.agreement.specs.Run.{Event}
-use Rattle.agreement.proofs.Slots.{highest-filled}
-use Rattle.agreement.proofs.Chain.{Held, held-level, rises}
-use Rattle.agreement.proofs.Good.{Good, committed-low, limit-tip}
+use Rattle.agreement.proofs.Chain.{held-level, rises}
+use Rattle.agreement.proofs.Good.{Renewed, Rested, committed-held, Good, committed-tip}
 
 both : {a b : Bool} → a ≡ true → b ≡ true → (a && b) ≡ true
 both {a} {b} p q = rw (p, q)
@@ -21,13 +20,9 @@ both {a} {b} p q = rw (p, q)
 inside : (lo n hi : ℕ) → lo ≤ n → n ≤ hi → within lo n hi ≡ true
 inside lo n hi p q = both (le-leb lo n p) (le-leb n hi q)
 
-module _ (s : Setup) (past : List Event) (i : ℕ) (c : State) (g : Good s past i c) where
-  committed-held : Held (slot (c .log)) (c .replica .«committed_round» .0)
-  committed-held =
-      subst (Held (slot (c .log))) (sym (g .committed-is)) (highest-filled (c .log) (commitLimit (c .replica)))
-
-  committed-tip : c .replica .«committed_round» .0 ≤ c .replica .«tip_round» .0
-  committed-tip = omega (arith, committed-low s past i c g, limit-tip s past i c g)
+module _ (s : Setup) (past : List Event) (i : ℕ) (c : State) (g : Good s past i c) (rests : Rested (c .replica) (c .log)) where
+  abbrev r : Renewed (c .replica) (c .log)
+  r = rests .renewed
 
   tip-height : c .replica .«tip_height» .0 ≤ c .replica .«tip_round» .0
   tip-height =
@@ -38,17 +33,18 @@ module _ (s : Setup) (past : List Event) (i : ℕ) (c : State) (g : Good s past 
       omega (
         arith,
         g .stored .level-is,
-        g .committed-height,
-        rises (s .«last_round» .0) _ _ (slot (c .log)) _ (g .stored .chain) _ _ committed-tip committed-held (g .stored .chain .top),
+        r .committed-height,
+        rises (s .«last_round» .0) _ _ (slot (c .log)) _ (g .stored .chain) _ _ (committed-tip s past i c g r) (committed-held r)
+            (g .stored .chain .top),
       )
 
   height-round : c .replica .«committed_height» .0 ≤ c .replica .«committed_round» .0
   height-round =
-      omega (arith, g .committed-height, held-level (s .«last_round» .0) _ _ (slot (c .log)) _ (g .stored .chain) _ committed-held)
+      omega (arith, r .committed-height, held-level (s .«last_round» .0) _ _ (slot (c .log)) _ (g .stored .chain) _ (committed-held r))
 
-  pub valid : leads (c .replica) ≡ false → (validReplica (c .replica) (c .log) && validMasks (c .replica) (c .masks)) ≡ true
+  pub valid : (validReplica (c .replica) (c .log) && validMasks (c .replica) (c .masks)) ≡ true
   unfolding validReplica validSetup
-  valid rests =
+  valid =
       both
       (both
       (both
@@ -68,8 +64,8 @@ module _ (s : Setup) (past : List Event) (i : ℕ) (c : State) (g : Good s past 
       (le-leb _ _ (g .timer-low)))
       (lt-ltb _ _ (g .tip-below)))
       (le-leb _ _ tip-height))
-      (le-leb _ _ committed-tip))
+      (le-leb _ _ (committed-tip s past i c g r)))
       (le-leb _ _ height-tip))
       (le-leb _ _ height-round))
-      (ap not rests))
+      (ap not (rests .idle)))
       (eq-eqb _ _ (g .masks-length ∙ sym (g .fixed .last-is)))

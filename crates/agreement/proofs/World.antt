@@ -12,7 +12,6 @@ use Rattle.sha256.specs.Fips.{sha256}
 use Rattle.sha256.proofs.Hash.{digest-length}
 use Rattle.apollo.specs.declared.Setup.{Setup}
 use Rattle.apollo.specs.Frame.{kind, round, framesOf, wholeFrames}
-use Rattle.apollo.specs.Replica.{leads}
 use Rattle.apollo.specs.Enter.{State}
 use Rattle.apollo.specs.Outcome.{Outcome}
 use Rattle.apollo.specs.Calls.{openCall}
@@ -21,7 +20,7 @@ use Rattle.agreement.specs.Premises.{Each, Lawful}
 use Rattle.agreement.proofs.Tests.{by-cond, cond-true}
 use Rattle.agreement.proofs.Past.{Grows, emitted-is, emit-grows, emit-back, hand-grows, hand-in, Given, hand-back}
 use Rattle.agreement.proofs.Stored.{stored-map}
-use Rattle.agreement.proofs.Good.{Good, good-grows, Extends, extends-refl}
+use Rattle.agreement.proofs.Good.{Rested, Extends, extends-refl, Good, good-grows}
 use Rattle.agreement.proofs.Effects.{Tidy, Standing}
 use Rattle.agreement.proofs.Adopt.{Known}
 use Rattle.agreement.proofs.Outcomes.{Reverts, Fine}
@@ -78,7 +77,7 @@ module _ (s : Setup) where
     pub good : (i : ℕ) (c : State) → w .states i ≡ some c → Good s (w .past) i c
     pub mine : (i : ℕ) (c : State) → w .states i ≡ some c → (x : List ℕ) → In (emitted i x) (w .past) → kind x ≡ 1
         → round x < c .replica .round .0
-    pub rests : (i : ℕ) (c : State) → w .states i ≡ some c → leads (c .replica) ≡ false
+    pub rests : (i : ℕ) (c : State) → w .states i ≡ some c → Rested (c .replica) (c .log)
     pub asleep : (i : ℕ) → w .states i ≡ none → (x : List ℕ) → In (emitted i x) (w .past) → ⊥
     pub tidy : Tidy s (w .past)
     pub valid : In (answered 2) (w .past) → ⊥
@@ -92,6 +91,7 @@ module _ (s : Setup) where
         level = r .level;
         stored = stored-map s past now _ _ _ _ _ g (λ q e. e) (r .stored);
         beyond = r .beyond;
+        renewed = r .renewed;
         differs = r .differs;
       }
 
@@ -178,7 +178,7 @@ module _ (s : Setup) where
           mine =
               each (λ j d. (x : List ℕ) → In (emitted j x) now → kind x ≡ 1 → round x < d .replica .round .0)
               (λ x p. fine .standing .mine x (opens i x p)) (λ j d ne e x p. v .mine j d e x (note-other i o (w .past) j x ne p));
-          rests = each (λ j d. leads (d .replica) ≡ false) (fine .rests) (λ j d ne e. v .rests j d e);
+          rests = each (λ j d. Rested (d .replica) (d .log)) (fine .rests) (λ j d ne e. v .rests j d e);
           asleep = still-asleep;
           tidy = tidy-back _ now opens (fine .standing .tidy);
           valid = λ p. ⊎-elim (fine .valid-ok) (v .valid) (note-answered i o (w .past) 2 p);
@@ -193,7 +193,7 @@ module _ (s : Setup) where
 
   -- each call other than open keeps the state: the one place that names them
   act-fine : (past : List Event) (i : ℕ) (c : State) (a : Act) → Known s sha256 past (framesIn c a) → Standing s past i c
-      → leads (c .replica) ≡ false → Fine s past i c (answer c a)
+      → Rested (c .replica) (c .log) → Fine s past i c (answer c a)
   unfolding answer framesIn
   act-fine past i c (branch bytes entry out) k st r =
       branch-fine s sha256 digest-length past i entry c st r bytes out (known-uncut past (c .replica .«last_round» .0) bytes k)
