@@ -10,7 +10,7 @@ use Rattle.apollo.specs.Frame.{frames, wholeFrames, checked, blockForm, blameFo
 use Rattle.apollo.specs.Log.{genesis, slot, store, clearAbove, attach, highest}
 use Rattle.apollo.specs.Masks.{bit, setBit, count, certified, gap}
 use Rattle.apollo.specs.Replica.{fresh, leads, validSetup, validReplica}
-use Rattle.apollo.specs.Enter.{State, commitLimit, commit, tipped, waiting, hearing, holding, ownBlock, proposing, enterRound, settle}
+use Rattle.apollo.specs.Enter.{State, commitLimit, commit, tipped, waiting, hearing, holding, entered, ownBlock, proposing, enterRound, settle}
 use Rattle.apollo.specs.Judging.{fault, judgedEach}
 use Rattle.apollo.specs.Outcome.{Outcome, taken, guarded}
 use Rattle.apollo.specs.Open.{openWith}
@@ -63,7 +63,7 @@ made c xs = taken (record { state = c; emitted = xs }) out
 
 -- all that computes, but for SHA-256 and the test of a check
 unfoldable pub all : Unit {0}
-unfolding out log0 log1 log3 log4 stateAt made b1 b3 b4 m0 m2 head1 head3 head4 head-m0 head-m2 d1 d3 d4 e0 e2 blockHead blameHead zeros number2 number4 same leader frames wholeFrames blockForm blameForm linked sealed makeBlock makeBlame genesis slot store clearAbove attach highest bit setBit count certified gap fresh leads validSetup validReplica commitLimit commit tipped waiting hearing holding ownBlock proposing enterRound settle taken guarded openWith lastOf firstUncertified storeAll grown fault judgedEach judged judgedAll adopting placed branched branchWith oneSet anyFresh addBlames hearingAll heard handing blaming ticked tickWith
+unfolding out log0 log1 log3 log4 stateAt made b1 b3 b4 m0 m2 head1 head3 head4 head-m0 head-m2 d1 d3 d4 e0 e2 blockHead blameHead zeros number2 number4 same leader frames wholeFrames blockForm blameForm linked sealed makeBlock makeBlame genesis slot store clearAbove attach highest bit setBit count certified gap fresh leads validSetup validReplica commitLimit commit tipped waiting hearing holding entered ownBlock proposing enterRound settle taken guarded openWith lastOf firstUncertified storeAll grown fault judgedEach judged judgedAll adopting placed branched branchWith oneSet anyFresh addBlames hearingAll heard handing blaming ticked tickWith
 all = tt
 
 -- Replica 0 opens, leads round 1 and emits block 1: for any hash, and then with the digest.
@@ -117,7 +117,7 @@ pub hear-0 : blameCall first-2 m0 [] out ≡ made heard-2 []
 unfolding all first-2 heard-2
 hear-0 = rw checked-m0 refl
 
--- Its own tick certifies round 2: it emits its blame, enters round 3, which it leads, and emits block 3 on block 1.
+-- Its own tick certifies round 2: it emits its blame, enters round 3, which it leads, emits block 3 on block 1, and commits block 1.
 ticks-2 : (m x : List ℕ) → Outcome
 ticks-2 m x = made (stateAt 2 4 1 (3, 2) (1, 1) (store log1 3 x) 5) (m ∷ x ∷ [])
 
@@ -132,16 +132,16 @@ pub tick-2 : tickCall heard-2 [] out ≡ made skipped-2 (m2 ∷ b3 ∷ [])
 unfolding ticks-2 skipped-2 log3 m2 b3
 tick-2 = tick-2-by sha256 ∙ ap₂ (λ d e. ticks-2 (head-m2 ++ d) (head3 ++ e)) name-m2 name3
 
--- Replica 0 hears both blames as a set: its own is passed over, the other is fresh. Round 2 is certified here too, and it waits for
--- round 3.
+-- Replica 0 hears both blames as a set: its own is passed over, the other is fresh. Round 2 is certified here too: it waits for round 3,
+-- and commits block 1.
 unfoldable pub skipped-0 : State
-skipped-0 = stateAt 0 3 1 (1, 1) (0, 0) log1 5
+skipped-0 = stateAt 0 3 1 (1, 1) (1, 1) log1 5
 
 pub hear-set : blamesCall blaming-0 (m0 ++ m2) [] out ≡ made skipped-0 []
 unfolding all blaming-0 skipped-0
 hear-set = rw (checked-m0, checked-m2) refl
 
--- It takes block 3, leads round 4 and emits block 4, which commits block 3.
+-- It takes block 3, leads round 4, emits block 4, and commits block 3.
 takes-3 : List ℕ → Outcome
 takes-3 x = made (stateAt 0 5 1 (4, 3) (3, 2) (store log3 4 x) 5) (x ∷ [])
 

@@ -1,5 +1,5 @@
--- A list of calls that meets demand 3's premises, with SHA-256 itself, where a leader is missing, its round is blamed and skipped, and
--- two replicas commit a block above it. Assumes nothing.
+-- A list of calls that meets demand 3's premises, with SHA-256 itself, where a leader is missing, its round is blamed and skipped, one
+-- replica commits by blames alone, and two commit a block above that round. Assumes nothing.
 use Prim.Native.Nat.{ℕ}
 use mathlib.Core.Path.{_≡_, refl, sym, ap, _∙_, subst}
 use mathlib.Core.Logic.{_⊎_, inl, inr}
@@ -15,7 +15,8 @@ use Rattle.apollo.specs.Frame.{kind, signer, round, digest}
 use Rattle.apollo.specs.Log.{genesis, chain}
 use Rattle.apollo.specs.Masks.{count}
 use Rattle.apollo.specs.Enter.{State}
-use Rattle.agreement.specs.Run.{Act, branch, blame, blames, tick, Call, opening, act, Event, handed, emitted, answered, In, Seen, World, start, uncut, framesIn, emit, answer, run}
+use Rattle.apollo.specs.Calls.{blamesCall}
+use Rattle.agreement.specs.Run.{Act, branch, blame, blames, tick, Call, opening, act, Event, handed, emitted, answered, In, Seen, World, start, uncut, framesIn, emit, stateOf, answer, run}
 use Rattle.agreement.specs.Premises.{Mostly, Patient, Distinct, Premises}
 use Rattle.agreement.specs.Claim.{committed, Agreed}
 use Rattle.agreement.proofs.Agreement.{agreement}
@@ -26,9 +27,9 @@ use Rattle.witness.proofs.Worlds.{given, next, Goes, stay, goes, lawful
 -- The list: f = 1, T = 4, a timeout of one tick; replica 1, the leader of round 2, is missing.
 --   0 opens and emits block 1; 2 opens; 2 takes block 1
 --   0 ticks and blames round 2; 2 hears that
---   2 ticks and blames round 2, which is now certified: it enters round 3 and emits block 3 on block 1
---   0 hears both blames as a set, its own bit standing already, and passes round 2; it takes block 3, emits block 4 and commits block 3
---   2 takes block 4 and commits block 3
+--   2 ticks and blames round 2, which is now certified: it enters round 3, emits block 3 on block 1 and commits block 1
+--   0 hears both blames as a set, its own bit standing already: it passes round 2 and commits block 1
+--   0 takes block 3, emits block 4 and commits block 3; 2 takes block 4 and commits block 3
 openAt : ℕ → Call
 openAt i = opening i 1 1 4 log0 (zeros 4) [] out
 
@@ -245,4 +246,12 @@ unfolding worlds
 commits = (
   (last-0, ap (λ (w : World). w .states 0) (goes setup correct steps), unfold all last-0 committed chain in refl),
   (last-2, ap (λ (w : World). w .states 2) (goes setup correct steps), unfold all last-2 committed chain in refl),
+)
+
+-- Document 02, F-2, in the seventh call: replica 0 had committed nothing, and commits block 1 by the set of blames, with which it emits
+-- nothing (`hear-set`).
+pub by-blames : (committed blaming-0 ≡ []) × (committed (stateOf (blamesCall blaming-0 (m0 ++ m2) [] out)) ≡ b1 ∷ [])
+by-blames = (
+  unfold all blaming-0 committed chain in refl,
+  ap (λ o. committed (stateOf o)) hear-set ∙ (unfold all skipped-0 committed chain in refl),
 )

@@ -1,2 +1,2 @@
 // A list of calls that meets the premises of the agreement, with SHA-256 itself: a leader is missing, its round is blamed and skipped,
-// and blocks are committed after it. No code.
+// a block is committed by the blames alone, and one above that round after it. No code.
