@@ -1,4 +1,4 @@
--- Demand 3, and the two facts beyond it. Assumes what the statements say, and nothing else.
+-- Demand 3, and facts beyond it. Assumes what the statements say, and nothing else.
 use Prim.Native.Nat.{ℕ, _≤_, _<_}
 use mathlib.Core.Path.{_≡_, refl, sym, ap, _∙_, subst}
 use mathlib.Core.Logic.{_⊎_, inl, inr, ⊎-elim}
@@ -13,19 +13,19 @@ use Rattle.apollo.specs.declared.Setup.{Setup}
 use Rattle.apollo.specs.Setup.{replicas}
 use Rattle.apollo.specs.Frame.{signer, checked}
 use Rattle.apollo.specs.Log.{slot, chain}
-use Rattle.apollo.specs.Enter.{State}
+use Rattle.apollo.specs.Enter.{State, commitLimit}
 use Rattle.apollo.specs.Outcome.{Outcome}
 use Rattle.agreement.specs.Run.{Call, opening, act, handed, emitted, In, Seen, World, start, framesIn, hand, after, opened, answer, callAt, step, run}
 use Rattle.apollo.specs.Calls.{openCall}
-use Rattle.agreement.specs.Premises.{Each, Lawful, Unforged}
-use Rattle.agreement.specs.Claim.{committed, Begins, Agreement, NeverInvalid, OnlyGrows}
+use Rattle.agreement.specs.Premises.{Each, Lawful, Unforged, Premises}
+use Rattle.agreement.specs.Claim.{committed, Begins, Agreement, ByRound, NeverInvalid, OnlyGrows}
 use Rattle.agreement.proofs.Tests.{and-true, by-cond}
-use Rattle.agreement.proofs.Slots.{chain-slots, chain-more}
+use Rattle.agreement.proofs.Slots.{chain-slots, chain-more, highest-le, highest-grows}
 use Rattle.agreement.proofs.Past.{Grows, hand-grows, Given, hand-back}
-use Rattle.agreement.proofs.Good.{Extends}
+use Rattle.agreement.proofs.Good.{Renewed, committed-low, Extends, limit-grows}
 use Rattle.agreement.proofs.Valid.{valid}
 use Rattle.agreement.proofs.World.{Inv, Stepped, note-grows, note-handed, step-stepped, start-inv, run-inv}
-use Rattle.agreement.proofs.Honest.{Honest, same-committed, no-revert, emitted-stands}
+use Rattle.agreement.proofs.Honest.{Honest, same-limit, no-revert, emitted-stands}
 
 -- a list begins another with which its replica shares the slots up to the committed round
 begins : (c d : State) → c .replica .«committed_round» .0 ≤ d .replica .«committed_round» .0
@@ -119,46 +119,79 @@ module _ (s : Setup) where
     start-authentic x (inl p) = absurd p
     start-authentic x (inr p) = absurd (p .1)
 
+-- the world of a list that meets the premises
+module _ (s : Setup) (correct : ℕ → Bool) (calls : List (ℕ × Call)) (p : Premises s correct calls) where
+  abbrev w : World
+  w = run start calls
+
+  v : Inv s w
+  v = run-inv s calls start (p .lawful) (start-inv s)
+
+  h : Honest s correct (w .past)
+  h =
+      record {
+        mostly = p .mostly;
+        authentic = run-authentic s correct calls start (p .lawful) (p .unforged) (start-inv s) (start-authentic s correct);
+        patient = p .patient;
+        distinct = p .distinct;
+        tidy = v .tidy;
+      }
+
+  -- of two replicas, the second one's R not the lower
+  module _ (i j : ℕ) (c d : State) (ec : w .states i ≡ some c) (ed : w .states j ≡ some d) (l : c .replica .round .0 ≤ d .replica .round .0) where
+    same-slots : (q : ℕ) → 1 ≤ q → q ≤ commitLimit (c .replica) → slot (c .log) q ≡ slot (d .log) q
+    same-slots = same-limit s correct (w .past) h i j c d (v .good i c ec) (v .good j d ed) l
+
+    further : c .replica .«committed_round» .0 ≤ d .replica .«committed_round» .0
+    further =
+        let r : Renewed (c .replica) (c .log) = v .rests i c ec .renewed in
+        let t : Renewed (d .replica) (d .log) = v .rests j d ed .renewed in
+        omega (
+          arith,
+          r .committed-is,
+          t .committed-is,
+          highest-grows (c .log) (d .log) (commitLimit (c .replica)) (commitLimit (d .replica))
+              (limit-grows s (w .past) i c (v .good i c ec) j d (v .good j d ed) l)
+              (λ q o m. sym (same-slots q o (omega (arith, highest-le (c .log) (commitLimit (c .replica)))))),
+        )
+
+    same-committed : (q : ℕ) → 1 ≤ q → q ≤ c .replica .«committed_round» .0 → slot (c .log) q ≡ slot (d .log) q
+    same-committed q o m = same-slots q o (omega (arith, committed-low (v .rests i c ec .renewed)))
+
+    begins-by : Begins (committed c) (committed d)
+    begins-by = begins c d further same-committed
+
+  level-by : (i j : ℕ) (c d : State) → w .states i ≡ some c → w .states j ≡ some d → c .replica .round .0 ≡ d .replica .round .0
+      → committed c ≡ committed d
+  unfolding committed
+  level-by i j c d ec ed e =
+      let k : c .replica .«committed_round» .0 ≡ d .replica .«committed_round» .0 =
+      omega (arith, further i j c d ec ed (omega arith), further j i d c ed ec (omega arith)) in
+      chain-slots (c .log) (d .log) _ (same-committed i j c d ec ed (omega arith)) ∙ ap (chain (d .log)) k
+
+  prefixes : (i j : ℕ) (c d : State) → w .states i ≡ some c → w .states j ≡ some d
+      → Begins (committed c) (committed d) ⊎ Begins (committed d) (committed c)
+  prefixes i j c d ec ed = go (leb (c .replica .round .0) (d .replica .round .0)) refl
+    where
+      go : (b : Bool) → leb (c .replica .round .0) (d .replica .round .0) ≡ b
+          → Begins (committed c) (committed d) ⊎ Begins (committed d) (committed c)
+      go true e = inl (begins-by i j c d ec ed (leb-true _ _ e))
+      go false e =
+          let l : d .replica .round .0 < c .replica .round .0 = leb-false _ _ e in
+          inr (begins-by j i d c ed ec (omega arith))
+
 pub agreement : Agreement
 agreement s correct calls p =
+    let v : Inv s (run start calls) = v s correct calls p in
+    let h : Honest s correct (run start calls .past) = h s correct calls p in
     record {
-      prefixes = prefixes;
-      kept = λ a. let r = v .reverting a in no-revert s correct (w .past) h (r .0) (r .1) (r .2) (r .3);
-      stands = λ i j x c q ci e k m. emitted-stands s correct (w .past) h i j x c q (v .good j c m) ci e k;
+      prefixes = prefixes s correct calls p;
+      kept = λ a. let r = v .reverting a in no-revert s correct (run start calls .past) h (r .0) (r .1) (r .2) (r .3);
+      stands = λ i j x c q ci e k m. emitted-stands s correct (run start calls .past) h i j x c q (v .good j c m) ci e k;
     }
-  where
-    w : World
-    w = run start calls
 
-    v : Inv s w
-    v = run-inv s calls start (p .lawful) (start-inv s)
-
-    h : Honest s correct (w .past)
-    h =
-        record {
-          mostly = p .mostly;
-          authentic = run-authentic s correct calls start (p .lawful) (p .unforged) (start-inv s) (start-authentic s correct);
-          patient = p .patient;
-          distinct = p .distinct;
-          tidy = v .tidy;
-        }
-
-    prefixes : (i j : ℕ) (c d : State) → w .states i ≡ some c → w .states j ≡ some d
-        → Begins (committed c) (committed d) ⊎ Begins (committed d) (committed c)
-    prefixes i j c d ec ed = go (leb (c .replica .«committed_round» .0) (d .replica .«committed_round» .0)) refl
-      where
-        begins-by : (i j : ℕ) (c d : State) → w .states i ≡ some c → w .states j ≡ some d
-            → c .replica .«committed_round» .0 ≤ d .replica .«committed_round» .0 → Begins (committed c) (committed d)
-        begins-by i j c d ec ed l =
-            begins c d l
-            (same-committed s correct (w .past) h i j c d (v .good i c ec) (v .good j d ed) (v .rests i c ec .renewed) (v .rests j d ed .renewed) l)
-
-        go : (b : Bool) → leb (c .replica .«committed_round» .0) (d .replica .«committed_round» .0) ≡ b
-            → Begins (committed c) (committed d) ⊎ Begins (committed d) (committed c)
-        go true e = inl (begins-by i j c d ec ed (leb-true _ _ e))
-        go false e =
-            let l : d .replica .«committed_round» .0 < c .replica .«committed_round» .0 = leb-false _ _ e in
-            inr (begins-by j i d c ed ec (omega arith))
+pub by-round : ByRound
+by-round s correct calls p i j c d ec ed = (begins-by s correct calls p i j c d ec ed, level-by s correct calls p i j c d ec ed)
 
 pub never-invalid : NeverInvalid
 never-invalid s calls l =

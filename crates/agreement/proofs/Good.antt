@@ -232,6 +232,12 @@ module _ (s : Setup) where
     unfolding commitLimit
     limit-low q o l = omega (arith, h .fixed .f-is)
 
+    -- the limit grows with R
+    pub limit-grows : (j : ℕ) (d : State) → Good past j d → c .replica .round .0 ≤ d .replica .round .0
+        → commitLimit (c .replica) ≤ commitLimit (d .replica)
+    unfolding commitLimit
+    limit-grows j d g l = omega (arith, h .fixed .f-is, g .fixed .f-is)
+
     -- the limit may be above the tip, the committed round is not: its slot is filled
     pub committed-tip : Renewed (c .replica) (c .log) → c .replica .«committed_round» .0 ≤ c .replica .«tip_round» .0
     committed-tip r = within (s .«last_round» .0) _ _ (slot (c .log)) _ (h .stored .chain) _ (committed-held r)

@@ -11,14 +11,14 @@ use Rattle.apollo.specs.Setup.{replicas, leader}
 use Rattle.apollo.specs.Frame.{kind, signer, round, digest}
 use Rattle.apollo.specs.Log.{genesis, slot, filled}
 use Rattle.apollo.specs.Masks.{count, bit, mask, certified}
-use Rattle.apollo.specs.Enter.{State}
+use Rattle.apollo.specs.Enter.{State, commitLimit}
 use Rattle.agreement.specs.Run.{Event, emitted, In, Seen}
 use Rattle.agreement.proofs.Tests.{clash, either}
 use Rattle.agreement.proofs.Leaders.{leader-low, correct-mark, correct-round}
 use Rattle.agreement.proofs.Slots.{take-slots}
 use Rattle.agreement.proofs.Chain.{filled-kind, within, agree}
 use Rattle.agreement.proofs.Stored.{Fact, Linked}
-use Rattle.agreement.proofs.Good.{Blamed, Renewed, committed-low, Good, good-certified, limit-low}
+use Rattle.agreement.proofs.Good.{Blamed, committed-low, Good, good-certified, limit-low}
 use Rattle.agreement.proofs.Effects.{Tidy}
 use Rattle.agreement.proofs.Outcomes.{Reverts}
 
@@ -82,15 +82,14 @@ module _ (s : Setup) (correct : ℕ → Bool) (past : List Event) (h : Honest s 
         agree (s .«last_round» .0) (Fact s past) (λ x. Seen x past) (λ n x f. f .round-is) (λ n x f. f .seen) (h .distinct) _ _ (slot a) (slot b) t t′ c d
         (r .0) (inr (e .0)) (inr (ap filled (sym (e .1)) ∙ e .0)) (e .1) q (omega (arith, r .1))
 
-  -- two replicas hold the same frames up to a round that both may commit
-  pub same-committed : (i j : ℕ) (c d : State) → Good s past i c → Good s past j d → Renewed (c .replica) (c .log)
-      → Renewed (d .replica) (d .log) → c .replica .«committed_round» .0 ≤ d .replica .«committed_round» .0 → (q : ℕ) → 1 ≤ q
-      → q ≤ c .replica .«committed_round» .0 → slot (c .log) q ≡ slot (d .log) q
-  same-committed i j c d g k r t l q o m =
-      let n : ℕ = c .replica .«committed_round» .0 in
+  -- two replicas hold the same frames up to the round that the one with the lower R may commit
+  pub same-limit : (i j : ℕ) (c d : State) → Good s past i c → Good s past j d → c .replica .round .0 ≤ d .replica .round .0 → (q : ℕ)
+      → 1 ≤ q → q ≤ commitLimit (c .replica) → slot (c .log) q ≡ slot (d .log) q
+  same-limit i j c d g k l q o m =
+      let n : ℕ = commitLimit (c .replica) in
+      let low : n + s .f < c .replica .round .0 = limit-low s past i c g n (omega arith) (omega arith) in
       same-up-to (c .masks) (d .masks) (c .log) (d .log) _ _ _ _ (g .stored .chain) (k .stored .chain) (good-passed i c g) (good-passed j d k) n
-      (omega arith) (limit-low s past i c g n (omega arith) (committed-low r))
-      (limit-low s past j d k n (omega arith) (omega (arith, committed-low t))) q m
+      (omega arith) low (omega (arith, low)) q m
 
   -- a branch that passed 13 keeps what was committed
   pub no-revert : (i : ℕ) (c : State) → Good s past i c → Reverts s past c → ⊥

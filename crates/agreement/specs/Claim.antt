@@ -1,4 +1,4 @@
--- Demand 3's claim about a whole list of calls, and three facts beyond it.
+-- Demand 3's claim about a whole list of calls, and four facts beyond it.
 use Prim.Native.Nat.{ℕ, _≤_}
 use mathlib.Core.Path.{_≡_}
 use mathlib.Core.Logic.{_⊎_}
@@ -37,6 +37,15 @@ pub record Agreed (correct : ℕ → Bool) (w : World) : Type 0 where
 abbrev pub Agreement : Type 0
 Agreement =
     (s : Setup) (correct : ℕ → Bool) (calls : List (ℕ × Call)) → Premises s correct calls → Agreed correct (run start calls)
+
+-- Beyond demand 3, with its premises: of two replicas the list of the one whose R is not the higher begins the other's, so at one R,
+-- as at the end of a term, all lists are the same
+abbrev pub ByRound : Type 0
+ByRound =
+    (s : Setup) (correct : ℕ → Bool) (calls : List (ℕ × Call)) → Premises s correct calls → (i j : ℕ) (c d : State)
+    → run start calls .states i ≡ some c → run start calls .states j ≡ some d
+    → (c .replica .round .0 ≤ d .replica .round .0 → Begins (committed c) (committed d))
+    × (c .replica .round .0 ≡ d .replica .round .0 → committed c ≡ committed d)
 
 -- Beyond demand 3, with no premise about honesty or names: no state meets refusal 2, of these calls or of read and fetch
 pub record Valid (w : World) : Type 0 where
