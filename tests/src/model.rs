@@ -547,16 +547,22 @@ impl<'a> Card<'a> {
         self.record.left = self.record.wait;
         if leads(&self.record) {
             self.put_out_block();
-            self.record.round += 1;
+            self.grow_to(self.record.round + 1);
             self.record.left = self.record.wait;
         }
+    }
+
+    /// R grows, and with it what is committed; in a call that grows twice the second stands.
+    fn grow_to(&mut self, round: u32) {
+        self.record.round = round;
+        self.commit();
     }
 
     /// R is over if enough cards blame it.
     fn pass_if_shown(&mut self) {
         let mask = self.lent.masks[self.record.round as usize - 1];
         if shown(mask, self.record.f) {
-            self.record.round += 1;
+            self.grow_to(self.record.round + 1);
             self.enter();
         }
     }
@@ -573,16 +579,14 @@ impl<'a> Card<'a> {
             self.record.tip_round = frame::round(frame);
             self.record.tip_height = frame::height(frame);
         }
-        self.commit();
-        self.record.round = self.record.tip_round + 1;
+        self.grow_to(self.record.tip_round + 1);
         self.enter();
     }
 
+    /// The highest filled slot up to R - 1 - f, wherever the tip is; the genesis if there is none.
     fn commit(&mut self) {
-        let limit = self
-            .record
-            .tip_round
-            .saturating_sub(u32::from(self.record.f));
+        let beyond = 1 + u32::from(self.record.f);
+        let limit = self.record.round.saturating_sub(beyond);
         let book = &slots(self.lent.log)[..limit as usize];
         (self.record.committed_round, self.record.committed_height) =
             match book.iter().rposition(frame::filled) {
@@ -615,7 +619,6 @@ impl<'a> Card<'a> {
         slots_mut(self.lent.log)[round as usize - 1] = block;
         self.record.tip_round = round;
         self.record.tip_height = height;
-        self.commit();
     }
 
     fn tip_name(&self) -> Name {
