@@ -129,6 +129,16 @@ pub fn line_above(log: &[u8], height: u32) -> impl Iterator<Item = &Frame> {
         .filter(move |slot| frame::filled(slot) && frame::height(slot) > height)
 }
 
+/// Round and height that R commits: the highest filled slot up to R - 1 - f, wherever the tip is; the genesis if there is none.
+pub fn committed(log: &[u8], round: u32, f: u8) -> (u32, u32) {
+    let limit = round.saturating_sub(1 + u32::from(f));
+    let book = slots(log);
+    let found = book.iter().take(limit as usize).rposition(frame::filled);
+    found.map_or((0, 0), |index| {
+        (index as u32 + 1, frame::height(&book[index]))
+    })
+}
+
 fn all_zero(bytes: &[u8]) -> bool {
     bytes.iter().fold(0, |sum, byte| sum | byte) == 0
 }
@@ -583,16 +593,10 @@ impl<'a> Card<'a> {
         self.enter();
     }
 
-    /// The highest filled slot up to R - 1 - f, wherever the tip is; the genesis if there is none.
     fn commit(&mut self) {
-        let beyond = 1 + u32::from(self.record.f);
-        let limit = self.record.round.saturating_sub(beyond);
-        let book = &slots(self.lent.log)[..limit as usize];
+        let Record { round, f, .. } = self.record;
         (self.record.committed_round, self.record.committed_height) =
-            match book.iter().rposition(frame::filled) {
-                Some(index) => (index as u32 + 1, frame::height(&book[index])),
-                None => (0, 0),
-            };
+            committed(self.lent.log, round, f);
     }
 
     /// The place in the out buffer for the next frame put out.
