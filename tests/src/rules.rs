@@ -49,7 +49,7 @@ impl Rules {
         if taken && !is_by_rule(side) {
             let card = call.card;
             return Err(format!(
-                "claim: card {card} has not committed what R allows"
+                "claim: card {card} has committed another slot than its R gives"
             ));
         }
         Ok(())
@@ -65,15 +65,12 @@ fn grow(list: &mut Vec<Frame>, side: &Side) -> bool {
     kept
 }
 
-/// Whether the committed slot is the last filled one of those that R allows.
+/// Whether the committed slot is the last filled one of those up to R - 1 - f.
 fn is_by_rule(side: &Side) -> bool {
     let record = &side.record;
     let allowed = |round: &u32| round + u32::from(record.f) < record.round;
     let filled = |round: &u32| frame::filled(side.slot(*round));
-    let mut rounds = (1..=record.term).take_while(allowed).filter(filled);
-    let (round, height) = (record.committed_round, record.committed_height);
-    match round {
-        0 => height == 0 && rounds.next().is_none(),
-        _ => rounds.last() == Some(round) && height == frame::height(side.slot(round)),
-    }
+    let last = (1..=record.term).take_while(allowed).filter(filled).last();
+    let height = last.map_or(0, |round| frame::height(side.slot(round)));
+    (record.committed_round, record.committed_height) == (last.unwrap_or(0), height)
 }
