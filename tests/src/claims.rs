@@ -142,7 +142,7 @@ impl Claims {
         if self.answered_12 {
             return Err("claim: a sound card answered 12".into());
         }
-        let open = |(card, _): &(usize, &Side)| self.open >> card & 1 == 1;
+        let open = |&(card, _): &(usize, &Side)| self.is_open(card);
         let cards: Vec<_> = sides.iter().enumerate().filter(open).collect();
         for &(card, side) in &cards {
             if card == call.card || !self.due {

@@ -6,8 +6,8 @@ use crate::call::{Call, Head, What};
 use crate::changes;
 use crate::claims::Due;
 use crate::frame::{self, Frame, SIZE};
-use crate::model::MOST_BLAMES;
-use crate::model::{self, attaching, cards, shown, slots, Answer, Fetched, Part, Record};
+use crate::model::{attaching, cards, committed, shown, slots};
+use crate::model::{Answer, Fetched, Part, Record, MOST_BLAMES};
 use crate::runner::{Outcome, Side};
 
 /// Refusals that each call can give.
@@ -191,7 +191,7 @@ const CLAIMED: &[(&str, &str, &[&str])] = &[
     ),
 ];
 
-/// What a call that is taken does to the committed round; the last three on states that no call made.
+/// What blames and ticks do to the committed round; the last three on states that no call made.
 const COMMITS: [&str; 6] = [
     "commits, no block stored",
     "commits, block put out",
@@ -247,7 +247,7 @@ impl Before {
             .map_or(record.round, frame::round);
         let index = (round as usize).wrapping_sub(1);
         let log = side.log.part(call.log_len);
-        let committed = (record.committed_round, record.committed_height);
+        let stands = (record.committed_round, record.committed_height);
         Before {
             record,
             mask: masks.get(index).copied().unwrap_or(0),
@@ -255,7 +255,7 @@ impl Before {
                 What::Branch(frames) => attach(frames, log),
                 _ => None,
             },
-            another_due: model::committed(log, record.round, record.f) != committed,
+            another_due: committed(log, record.round, record.f) != stands,
         }
     }
 
@@ -297,7 +297,7 @@ pub struct Coverage {
     counts: BTreeMap<Row, u64>,
     /// Whether the claims are due for the call that is being counted.
     due: bool,
-    /// The last record that a call left with a slot above its tip committed.
+    /// What the last call that was taken left, if that has a slot above its tip committed.
     above: Option<Record>,
 }
 
@@ -359,6 +359,7 @@ impl Coverage {
 
     /// Counts a list.
     pub fn list(&mut self, head: &Head) {
+        self.above = None;
         let rows: Vec<_> = SIZES.iter().map(|(row, fits)| (fits(head), *row)).collect();
         self.add_all("list", &rows);
     }

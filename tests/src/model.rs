@@ -129,7 +129,8 @@ pub fn line_above(log: &[u8], height: u32) -> impl Iterator<Item = &Frame> {
         .filter(move |slot| frame::filled(slot) && frame::height(slot) > height)
 }
 
-/// Round and height that R commits: the highest filled slot up to R - 1 - f, wherever the tip is; the genesis if there is none.
+/// Round and height that R commits: those of the highest filled slot up to R - 1 - f, wherever the
+/// tip is, or of the genesis.
 pub fn committed(log: &[u8], round: u32, f: u8) -> (u32, u32) {
     let limit = round.saturating_sub(1 + u32::from(f));
     let book = slots(log);
@@ -562,7 +563,7 @@ impl<'a> Card<'a> {
         }
     }
 
-    /// R grows, and with it what is committed; in a call that grows twice the second stands.
+    /// R grows, and with it what is committed; where R grows twice in a call the second stands.
     fn grow_to(&mut self, round: u32) {
         self.record.round = round;
         self.commit();

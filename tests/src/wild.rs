@@ -179,7 +179,8 @@ impl Wild {
         self.rng.pick(&[0, 1, round, round + 1, u32::MAX, 1 << 31])
     }
 
-    /// A record in its ranges, mostly one that fits the book, at times with filled slots above the tip.
+    /// A record in its ranges, mostly one that fits the book, at times with filled slots above the
+    /// tip.
     fn record(&mut self, log: &[u8]) -> Record {
         let (f, term) = (self.head.f, self.head.term);
         let round = match self.rng.below(12) {
@@ -199,7 +200,8 @@ impl Wild {
         };
         let tip_round = self.top(log, below);
         let tip_height = self.height_at(log, tip_round, tip_round);
-        let limit = tip_round.saturating_sub(self.rng.pick(&[0, f.into(), f.into()]));
+        let by_rule = (round - 1).saturating_sub(f.into()).min(tip_round);
+        let limit = self.rng.pick(&[tip_round, by_rule, by_rule]);
         let committed_round = self.top(log, limit);
         let most = committed_round.min(tip_height);
         let wait = self.rng.pick(&[1, 2, 3, 60_000]);
