@@ -206,6 +206,7 @@ const ABOVE: &str = "refused  2, committed above tip";
 
 const TWO_BLOCKS: Row = ("claims", "cards hold two blocks of a round");
 const TWO_TIPS: Row = ("claims", "tips of two rounds at one R");
+const TWO_ENDS: Row = ("claims", "tips of two rounds at R = T + 1");
 const SET_OF_ONE: Row = ("claims", "a set of one beside a blame");
 
 /// A size of lists and how it is told.
@@ -328,7 +329,7 @@ impl Coverage {
         for &(_, group, claimed) in CLAIMED {
             rows.extend(claimed.iter().map(|row| (group, *row)));
         }
-        rows.extend([TWO_BLOCKS, TWO_TIPS, SET_OF_ONE]);
+        rows.extend([TWO_BLOCKS, TWO_TIPS, TWO_ENDS, SET_OF_ONE]);
         rows.extend(SIZES.iter().map(|size| ("list", size.0)));
         Coverage {
             rows,
@@ -367,9 +368,12 @@ impl Coverage {
     /// Counts a call and whether the claims were due after it.
     pub fn call(&mut self, call: &Call, before: &Before, outcome: &Outcome, due: Due) {
         self.due = due.claims;
+        let answer = outcome.answer();
+        let ends = answer.is_some_and(|answer| answer.record.round > answer.record.term);
         let rows = [
             (due.two_blocks, TWO_BLOCKS.1),
             (due.two_tips, TWO_TIPS.1),
+            (due.two_tips && ends, TWO_ENDS.1),
             (call.is_set_of_one(), SET_OF_ONE.1),
         ];
         self.add_all("claims", &rows);
