@@ -1,4 +1,5 @@
-//! The three claims about sound cards, checked call by call on the library's buffers.
+//! The three claims about sound cards, checked call by call on the library's buffers, and what
+//! committing by R adds to them: sound cards that wait for one round have committed the same.
 //!
 //! The premises are judged from the calls themselves, so a list with calls left out is judged
 //! afresh: at most f cards that are not sound, no forged frame, and no sound card that blamed a
@@ -15,7 +16,8 @@ use crate::runner::{Outcome, Side};
 pub struct Claims {
     f: u8,
     term: u32,
-    rules: Rules,
+    /// What every card keeps to; none to leave it out.
+    pub rules: Option<Rules>,
     /// Cards that have been sound so far, and those of them that are open.
     sound: u16,
     open: u16,
@@ -34,12 +36,13 @@ pub struct Claims {
 }
 
 /// What was checked after a call.
-#[derive(Clone, Copy, Debug, PartialEq, Eq)]
-pub enum Due {
-    Nothing,
-    Claims,
-    /// The claims, and the called card's tip is not another card's block of that round.
-    TwoBlocks,
+#[derive(Clone, Copy, Debug, Default)]
+pub struct Due {
+    pub claims: bool,
+    /// The called card's tip is not another card's block of that round.
+    pub two_blocks: bool,
+    /// Another card waits for the same round on a tip of another round.
+    pub two_tips: bool,
 }
 
 impl Claims {
@@ -47,7 +50,7 @@ impl Claims {
         Claims {
             f: head.f,
             term: head.term,
-            rules: Rules::new(head),
+            rules: Some(Rules::new(head)),
             sound: head.sound,
             open: 0,
             broken: None,
@@ -75,7 +78,9 @@ impl Claims {
 
     /// The host wrote a card's state by itself.
     pub fn written(&mut self, card: usize) {
-        self.rules.written(card);
+        if let Some(rules) = &mut self.rules {
+            rules.written(card);
+        }
         self.lent_other(card);
     }
 
@@ -122,45 +127,54 @@ impl Claims {
         sides: &[Side],
         out: &[u8],
     ) -> Result<Due, String> {
-        self.rules.after(call, outcome, &sides[call.card])?;
+        if let Some(rules) = &mut self.rules {
+            rules.after(call, outcome, &sides[call.card])?;
+        }
         if self.broken.is_some() || !self.is_sound(call.card) {
-            return Ok(Due::Nothing);
+            return Ok(Due::default());
         }
         let answer = outcome.answer();
         let block = answer.and_then(|answer| self.note(call, answer, out));
         let others = cards(self.f) - self.open.count_ones();
         if self.broken.is_some() || others > u32::from(self.f) {
-            return Ok(Due::Nothing);
+            return Ok(Due::default());
         }
         if self.answered_12 {
             return Err("claim: a sound card answered 12".into());
         }
-        for (card, side) in sides.iter().enumerate() {
-            if !self.is_open(card) {
-                continue;
-            }
+        let open = |&(card, _): &(usize, &Side)| self.is_open(card);
+        let cards: Vec<_> = sides.iter().enumerate().filter(open).collect();
+        for &(card, side) in &cards {
             if card == call.card || !self.due {
                 self.check_card(card, side)?;
             } else if let Some(round) = block {
                 self.check_block(round, card, side)?;
             }
         }
+        for (card, side) in cards {
+            self.check_limit(card, side)?;
+        }
         self.due = true;
         self.checked += 1;
         Ok(self.tips(call.card, sides))
     }
 
-    /// Whether another card holds another block of the called card's tip round.
+    /// How the called card's tip differs from other cards'.
     fn tips(&self, card: usize, sides: &[Side]) -> Due {
-        let round = sides[card].record.tip_round;
-        let tip_differs = |other: &Side| {
-            let slot = other.slot(round);
-            frame::filled(slot) && slot != sides[card].slot(round)
+        let record = &sides[card].record;
+        let tip = record.tip_round;
+        let other_block = |other: &Side| {
+            let slot = other.slot(tip);
+            frame::filled(slot) && slot != sides[card].slot(tip)
         };
-        if round > 0 && sides.iter().any(tip_differs) {
-            Due::TwoBlocks
-        } else {
-            Due::Claims
+        let other_tip = |(index, other): (usize, &Side)| {
+            let same_round = other.record.round == record.round;
+            self.is_open(index) && same_round && other.record.tip_round != tip
+        };
+        Due {
+            claims: true,
+            two_blocks: tip > 0 && sides.iter().any(other_block),
+            two_tips: sides.iter().enumerate().any(other_tip),
         }
     }
 
@@ -218,6 +232,21 @@ impl Claims {
             }
         }
         Ok(())
+    }
+
+    /// A card has committed all frames of the longest list that its R allows.
+    fn check_limit(&self, card: usize, side: &Side) -> Result<(), String> {
+        let (round, committed) = (side.record.round, side.record.committed_round);
+        let held = self
+            .agreed
+            .partition_point(|agreed| frame::round(agreed) <= committed);
+        match self.agreed.get(held).map(frame::round) {
+            Some(next) if next + u32::from(self.f) < round => Err(format!(
+                "claim: card {card} waits for round {round} and has not committed round {next}, \
+                 as another has"
+            )),
+            _ => Ok(()),
+        }
     }
 
     /// The third claim for a new block at a card that was checked before.

@@ -6,7 +6,8 @@ use crate::call::{Call, Head, What};
 use crate::changes;
 use crate::claims::Due;
 use crate::frame::{self, Frame, SIZE};
-use crate::model::{attaching, cards, shown, slots, Answer, Fetched, Part, Record, MOST_BLAMES};
+use crate::model::{attaching, cards, committed, shown, slots};
+use crate::model::{Answer, Fetched, Part, Record, MOST_BLAMES};
 use crate::runner::{Outcome, Side};
 
 /// Refusals that each call can give.
@@ -152,6 +153,9 @@ const CLAIMED: &[(&str, &str, &[&str])] = &[
             "refused 14 early",
             "taken, R shown",
             "taken, R shown, block put out",
+            "commits, no block stored",
+            "commits, block put out",
+            "commits at R = T + 1",
         ],
     ),
     (
@@ -170,12 +174,39 @@ const CLAIMED: &[(&str, &str, &[&str])] = &[
             "taken, R shown",
             "taken, R shown, block put out",
             "taken, R shown, over f + 1 frames",
+            "commits, no block stored",
+            "commits, block put out",
+            "commits at R = T + 1",
         ],
     ),
-    ("tick", "claims, tick", &["blamed, R shown"]),
+    (
+        "tick",
+        "claims, tick",
+        &[
+            "blamed, R shown",
+            "commits, no block stored",
+            "commits, block put out",
+            "commits at R = T + 1",
+        ],
+    ),
 ];
 
+/// What blames and ticks do to the committed round; the last three on states that no call made.
+const COMMITS: [&str; 6] = [
+    "commits, no block stored",
+    "commits, block put out",
+    "commits at R = T + 1",
+    "commits above the tip",
+    "committed lowered",
+    "R stays, rule gives another slot",
+];
+
+/// On a record that the call before left with a slot above its tip committed.
+const ABOVE: &str = "refused  2, committed above tip";
+
 const TWO_BLOCKS: Row = ("claims", "cards hold two blocks of a round");
+const TWO_TIPS: Row = ("claims", "tips of two rounds at one R");
+const TWO_ENDS: Row = ("claims", "tips of two rounds at R = T + 1");
 const SET_OF_ONE: Row = ("claims", "a set of one beside a blame");
 
 /// A size of lists and how it is told.
@@ -204,6 +235,8 @@ pub struct Before {
     mask: u16,
     /// The round that a branch attaches to, and whether filled slots lie above it.
     attach: Option<(u32, bool)>,
+    /// Whether the rule gives another slot at R than the committed one.
+    another_due: bool,
 }
 
 impl Before {
@@ -214,13 +247,16 @@ impl Before {
             .first()
             .map_or(record.round, frame::round);
         let index = (round as usize).wrapping_sub(1);
+        let log = side.log.part(call.log_len);
+        let stands = (record.committed_round, record.committed_height);
         Before {
             record,
             mask: masks.get(index).copied().unwrap_or(0),
             attach: match &call.what {
-                What::Branch(frames) => attach(frames, side.log.part(call.log_len)),
+                What::Branch(frames) => attach(frames, log),
                 _ => None,
             },
+            another_due: committed(log, record.round, record.f) != stands,
         }
     }
 
@@ -262,6 +298,8 @@ pub struct Coverage {
     counts: BTreeMap<Row, u64>,
     /// Whether the claims are due for the call that is being counted.
     due: bool,
+    /// What the last call that was taken left, if that has a slot above its tip committed.
+    above: Option<Record>,
 }
 
 pub type Row = (&'static str, &'static str);
@@ -279,18 +317,25 @@ impl Coverage {
         for &(call, numbers) in REFUSALS {
             rows.extend(numbers.iter().map(|&n| (call, REFUSED[usize::from(n)])));
             rows.extend(WAYS.iter().filter(|row| row.0 == call));
+            if matches!(call, "blame" | "blames" | "tick") {
+                rows.extend(COMMITS.map(|row| (call, row)));
+            }
+            if call != "open" {
+                rows.push((call, ABOVE));
+            }
         }
         rows.extend(WAYS.iter().filter(|row| row.0 == "digest"));
         rows.extend(changes::rows());
         for &(_, group, claimed) in CLAIMED {
             rows.extend(claimed.iter().map(|row| (group, *row)));
         }
-        rows.extend([TWO_BLOCKS, SET_OF_ONE]);
+        rows.extend([TWO_BLOCKS, TWO_TIPS, TWO_ENDS, SET_OF_ONE]);
         rows.extend(SIZES.iter().map(|size| ("list", size.0)));
         Coverage {
             rows,
             counts: BTreeMap::new(),
             due: false,
+            above: None,
         }
     }
 
@@ -315,18 +360,26 @@ impl Coverage {
 
     /// Counts a list.
     pub fn list(&mut self, head: &Head) {
+        self.above = None;
         let rows: Vec<_> = SIZES.iter().map(|(row, fits)| (fits(head), *row)).collect();
         self.add_all("list", &rows);
     }
 
     /// Counts a call and whether the claims were due after it.
     pub fn call(&mut self, call: &Call, before: &Before, outcome: &Outcome, due: Due) {
-        self.due = due != Due::Nothing;
-        if due == Due::TwoBlocks {
-            self.add(TWO_BLOCKS.0, TWO_BLOCKS.1);
-        }
-        if call.is_set_of_one() {
-            self.add(SET_OF_ONE.0, SET_OF_ONE.1);
+        self.due = due.claims;
+        let answer = outcome.answer();
+        let ends = answer.is_some_and(|answer| answer.record.round > answer.record.term);
+        let rows = [
+            (due.two_blocks, TWO_BLOCKS.1),
+            (due.two_tips, TWO_TIPS.1),
+            (due.two_tips && ends, TWO_ENDS.1),
+            (call.is_set_of_one(), SET_OF_ONE.1),
+        ];
+        self.add_all("claims", &rows);
+        let follows = self.above == Some(before.record) && call.lends_all(before.record.term);
+        if follows && outcome.number() == Some(2) {
+            self.add(call.word(), ABOVE);
         }
         for &(group, change) in &call.changes {
             self.add(group, change);
@@ -445,6 +498,12 @@ impl Coverage {
     }
 
     fn taken(&mut self, call: &Call, before: &Before, answer: &Answer) {
+        let record = &answer.record;
+        let above = record.committed_round > record.tip_round;
+        self.above = above.then_some(*record);
+        if matches!(call.what, What::Blame(_) | What::Blames(_) | What::Tick) {
+            self.commits(call.word(), before, record);
+        }
         match &call.what {
             What::Open(_) if answer.frames == 1 => self.add("open", "taken, leads round 1"),
             What::Open(_) => self.add("open", "taken, does not lead"),
@@ -452,6 +511,26 @@ impl Coverage {
             What::Blame(frame) => self.blames("blame", slots(frame), before, answer),
             What::Blames(frames) => self.set(slots(frames), before, answer),
             _ => self.tick(before, answer),
+        }
+    }
+
+    /// What a blame, a set of blames or a tick did to the committed round.
+    fn commits(&mut self, call: &'static str, before: &Before, after: &Record) {
+        let record = &before.record;
+        let grew = after.committed_round > record.committed_round;
+        let stored = after.tip_round != record.tip_round;
+        let reached = [
+            grew && !stored,
+            grew && stored,
+            grew && !stored && after.round > after.term,
+            self.above.is_some(),
+            after.committed_round < record.committed_round,
+            after.round == record.round && before.another_due,
+        ];
+        for (row, reached) in COMMITS.iter().zip(reached) {
+            if reached {
+                self.add(call, row);
+            }
         }
     }
 

@@ -43,8 +43,7 @@
 use std::fmt::Write;
 
 use crate::call::{Call, State, Step, What};
-use crate::coverage::Coverage;
-use crate::drive::run;
+use crate::coverage::{Coverage, Row};
 use crate::frame::SIZE;
 use crate::library::Model;
 use crate::lists::{Maker, Sizes};
@@ -68,28 +67,64 @@ pub struct Emitted {
     pub calls: u64,
 }
 
-/// Lists of small cards from a seed on, until there are so many calls: first those that reach much
-/// that is new for their length, in the end any.
+/// How many seeds are looked at for lists that reach much.
+const SEEDS: u64 = 600;
+
+/// Lists of small cards from a seed on, until there are so many calls: each time the one that
+/// reaches most that is new for its length, in the end any.
 pub fn emit(first_seed: u64, calls: u64, coverage: &mut Coverage) -> Emitted {
     let mut emitted = Emitted::default();
-    for wanted in [32, 16, 8, 4, 2, 1] {
-        for seed in first_seed..first_seed + 300 {
-            let mut trial = coverage.clone();
-            let Ok(passed) = run(&Model, seed, Sizes::Small, &mut trial) else {
-                panic!("the model is itself");
-            };
-            let new = (coverage.gaps().len() - trial.gaps().len()) as u64;
-            if 100 * new >= wanted * passed.calls && emitted.calls < calls {
-                emitted.list(seed, calls, coverage);
-            }
-        }
-    }
-    let mut seed = first_seed + 300;
+    let mut trials: Vec<Trial> = (first_seed..first_seed + SEEDS).map(Trial::new).collect();
+    let mut next_seed = first_seed + SEEDS;
     while emitted.calls < calls {
+        let best = (0..trials.len()).max_by_key(|&index| trials[index].worth(coverage));
+        let seed = best.map_or(next_seed, |index| trials.swap_remove(index).seed);
+        next_seed += u64::from(best.is_none());
         emitted.list(seed, calls, coverage);
-        seed += 1;
     }
     emitted
+}
+
+/// What the list of a seed reaches.
+struct Trial {
+    seed: u64,
+    /// Bytes of the input; a call counts as 256 more.
+    length: usize,
+    /// How often it reaches each row.
+    counts: Vec<(Row, u64)>,
+}
+
+impl Trial {
+    fn new(seed: u64) -> Trial {
+        let (mut emitted, mut coverage) = (Emitted::default(), Coverage::new());
+        emitted.list(seed, u64::MAX, &mut coverage);
+        let counts = coverage
+            .rows()
+            .iter()
+            .map(|row| (*row, coverage.count(row)));
+        Trial {
+            seed,
+            length: emitted.input.len() + 256 * emitted.calls as usize,
+            counts: counts.filter(|(_, count)| *count > 0).collect(),
+        }
+    }
+
+    /// Points for each megabyte.
+    fn worth(&self, coverage: &Coverage) -> usize {
+        let points = |(row, count): &(Row, u64)| {
+            let reached = coverage.count(row);
+            points(reached + count) - points(reached)
+        };
+        1_000_000 * self.counts.iter().map(points).sum::<usize>() / self.length
+    }
+}
+
+/// Many for reaching a row at all, some for reaching it a few times more.
+fn points(count: u64) -> usize {
+    match count {
+        0 => 0,
+        _ => 16 + count.min(5) as usize,
+    }
 }
 
 impl Emitted {

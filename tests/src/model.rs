@@ -129,6 +129,17 @@ pub fn line_above(log: &[u8], height: u32) -> impl Iterator<Item = &Frame> {
         .filter(move |slot| frame::filled(slot) && frame::height(slot) > height)
 }
 
+/// Round and height that R commits: those of the highest filled slot up to R - 1 - f, wherever the
+/// tip is, or of the genesis.
+pub fn committed(log: &[u8], round: u32, f: u8) -> (u32, u32) {
+    let limit = round.saturating_sub(1 + u32::from(f));
+    let book = slots(log);
+    let found = book.iter().take(limit as usize).rposition(frame::filled);
+    found.map_or((0, 0), |index| {
+        (index as u32 + 1, frame::height(&book[index]))
+    })
+}
+
 fn all_zero(bytes: &[u8]) -> bool {
     bytes.iter().fold(0, |sum, byte| sum | byte) == 0
 }
@@ -547,16 +558,22 @@ impl<'a> Card<'a> {
         self.record.left = self.record.wait;
         if leads(&self.record) {
             self.put_out_block();
-            self.record.round += 1;
+            self.grow_to(self.record.round + 1);
             self.record.left = self.record.wait;
         }
+    }
+
+    /// R grows, and with it what is committed; where R grows twice in a call the second stands.
+    fn grow_to(&mut self, round: u32) {
+        self.record.round = round;
+        self.commit();
     }
 
     /// R is over if enough cards blame it.
     fn pass_if_shown(&mut self) {
         let mask = self.lent.masks[self.record.round as usize - 1];
         if shown(mask, self.record.f) {
-            self.record.round += 1;
+            self.grow_to(self.record.round + 1);
             self.enter();
         }
     }
@@ -573,22 +590,14 @@ impl<'a> Card<'a> {
             self.record.tip_round = frame::round(frame);
             self.record.tip_height = frame::height(frame);
         }
-        self.commit();
-        self.record.round = self.record.tip_round + 1;
+        self.grow_to(self.record.tip_round + 1);
         self.enter();
     }
 
     fn commit(&mut self) {
-        let limit = self
-            .record
-            .tip_round
-            .saturating_sub(u32::from(self.record.f));
-        let book = &slots(self.lent.log)[..limit as usize];
+        let Record { round, f, .. } = self.record;
         (self.record.committed_round, self.record.committed_height) =
-            match book.iter().rposition(frame::filled) {
-                Some(index) => (index as u32 + 1, frame::height(&book[index])),
-                None => (0, 0),
-            };
+            committed(self.lent.log, round, f);
     }
 
     /// The place in the out buffer for the next frame put out.
@@ -615,7 +624,6 @@ impl<'a> Card<'a> {
         slots_mut(self.lent.log)[round as usize - 1] = block;
         self.record.tip_round = round;
         self.record.tip_height = height;
-        self.commit();
     }
 
     fn tip_name(&self) -> Name {

@@ -1,5 +1,6 @@
 //! What every card keeps to, whoever lies, while its host lends it what its last call left: no call
-//! answers 2, and its committed list only grows.
+//! answers 2, its committed list only grows, and a block is committed when its round is at most
+//! R - 1 - f.
 
 use crate::call::{Call, Head, What};
 use crate::frame::{self, Frame, SIZE};
@@ -25,7 +26,7 @@ impl Rules {
         self.lists[card] = None;
     }
 
-    /// Checks both after a call at a card; the side is the library's.
+    /// Checks them after a call at a card; the side is the library's.
     pub fn after(&mut self, call: &Call, outcome: &Outcome, side: &Side) -> Result<(), String> {
         let taken = outcome.answer().is_some_and(|answer| answer.number == 0);
         match &call.what {
@@ -45,6 +46,12 @@ impl Rules {
             let card = call.card;
             return Err(format!("claim: the committed list of card {card} shrank"));
         }
+        if taken && !is_by_rule(side) {
+            let card = call.card;
+            return Err(format!(
+                "claim: card {card} has committed another slot than its R gives"
+            ));
+        }
         Ok(())
     }
 }
@@ -56,4 +63,14 @@ fn grow(list: &mut Vec<Frame>, side: &Side) -> bool {
     let kept = list.iter().all(|held| committed.next() == Some(held));
     list.extend(committed);
     kept
+}
+
+/// Whether the committed slot is the last filled one of those up to R - 1 - f.
+fn is_by_rule(side: &Side) -> bool {
+    let record = &side.record;
+    let allowed = |round: &u32| round + u32::from(record.f) < record.round;
+    let filled = |round: &u32| frame::filled(side.slot(*round));
+    let last = (1..=record.term).take_while(allowed).filter(filled).last();
+    let height = last.map_or(0, |round| frame::height(side.slot(round)));
+    (record.committed_round, record.committed_height) == (last.unwrap_or(0), height)
 }

@@ -63,7 +63,7 @@ impl Wild {
         let log = self.book(tidy);
         let mut masks = self.masks();
         let mut record = self.record(&log);
-        if self.rng.chance(25) {
+        if self.rng.chance(35) {
             self.ripen(&mut record, &mut masks);
         }
         if self.rng.chance(12) {
@@ -73,13 +73,15 @@ impl Wild {
         State { record, log, masks }
     }
 
-    /// One blame more and the card leads the next round.
+    /// One blame more and R grows; the card may lead the next round.
     fn ripen(&mut self, record: &mut Record, masks: &mut [u16]) {
-        let (f, round) = (self.head.f, record.round);
-        if round >= self.head.term {
+        let (f, round, term) = (self.head.f, record.round, self.head.term);
+        if round > term {
             return;
         }
-        record.own = leader(round + 1, f);
+        if round < term && self.rng.chance(60) {
+            record.own = leader(round + 1, f);
+        }
         record.left = 1;
         let mut mask = 0u16;
         while mask.count_ones() < f.into() {
@@ -177,7 +179,8 @@ impl Wild {
         self.rng.pick(&[0, 1, round, round + 1, u32::MAX, 1 << 31])
     }
 
-    /// A record in its ranges, mostly one that fits the book.
+    /// A record in its ranges, mostly one that fits the book, at times with filled slots above the
+    /// tip.
     fn record(&mut self, log: &[u8]) -> Record {
         let (f, term) = (self.head.f, self.head.term);
         let round = match self.rng.below(12) {
@@ -190,9 +193,15 @@ impl Wild {
         if own == lead && round <= term {
             own = ((u32::from(own) + 1) % cards(f)) as u8;
         }
-        let tip_round = self.top(log, round - 1);
+        let below = if self.rng.chance(20) {
+            self.rng.within(0, round - 1)
+        } else {
+            round - 1
+        };
+        let tip_round = self.top(log, below);
         let tip_height = self.height_at(log, tip_round, tip_round);
-        let limit = tip_round.saturating_sub(self.rng.pick(&[0, f.into(), f.into()]));
+        let by_rule = (round - 1).saturating_sub(f.into()).min(tip_round);
+        let limit = self.rng.pick(&[tip_round, by_rule, by_rule]);
         let committed_round = self.top(log, limit);
         let most = committed_round.min(tip_height);
         let wait = self.rng.pick(&[1, 2, 3, 60_000]);

@@ -151,25 +151,186 @@ fn commit(record: &mut Record, log: &[u8], fits: impl Fn(u32, u32) -> bool) {
     (record.committed_round, record.committed_height) = last.unwrap_or((0, 0));
 }
 
-fn commits_one_round_early(ask: &Ask, mut lent: Lent) -> Answer {
+/// What a call that was taken has done to R and the line.
+struct Done {
+    before: Record,
+    after: Record,
+    own_block: bool,
+}
+
+impl Done {
+    fn grew(&self) -> bool {
+        self.after.round > self.before.round
+    }
+
+    fn stored(&self) -> bool {
+        self.after.tip_round != self.before.tip_round
+    }
+
+    /// R - 1 - f for an R.
+    fn limit(&self, round: u32) -> u32 {
+        round.saturating_sub(1 + u32::from(self.after.f))
+    }
+
+    /// The record with the committed slot that it had before.
+    fn not_renewed(&self) -> Record {
+        Record {
+            committed_round: self.before.committed_round,
+            committed_height: self.before.committed_height,
+            ..self.after
+        }
+    }
+}
+
+/// Calls the model and changes the record that it leaves.
+fn amend(ask: &Ask, mut lent: Lent, other: impl Fn(&Done, &[u8]) -> Record) -> Answer {
     let mut answer = honest(ask, again(&mut lent));
-    if answer.number == 0 && answer.record.tip_round > ask.record().tip_round {
-        let limit = answer.record.tip_round + 1;
-        let f = u32::from(answer.record.f);
-        commit(&mut answer.record, lent.log, |round, _| round + f <= limit);
+    if answer.number == 0 {
+        let last = slots(lent.out)[..usize::from(answer.frames)].last();
+        let done = Done {
+            before: ask.record(),
+            after: answer.record,
+            own_block: last.is_some_and(frame::filled),
+        };
+        answer.record = other(&done, lent.log);
     }
     answer
 }
 
-fn commits_by_heights(ask: &Ask, mut lent: Lent) -> Answer {
-    let mut answer = honest(ask, again(&mut lent));
-    if answer.number == 0 && answer.record.tip_round > ask.record().tip_round {
-        let (top, f) = (answer.record.tip_height, u32::from(answer.record.f));
-        commit(&mut answer.record, lent.log, |_, height| {
-            height.saturating_add(f) <= top
-        });
+/// In the calls that the slip names, commits up to the round that it gives.
+fn commits_to(ask: &Ask, lent: Lent, named: fn(&Done) -> bool, to: fn(&Done) -> u32) -> Answer {
+    amend(ask, lent, |done, log| {
+        let mut record = done.after;
+        if named(done) {
+            let limit = to(done);
+            commit(&mut record, log, |round, _| round <= limit);
+        }
+        record
+    })
+}
+
+/// Leaves what was committed in the calls that the slip names.
+fn leaves_committed(ask: &Ask, lent: Lent, left: fn(&Done) -> bool) -> Answer {
+    amend(ask, lent, |done, _| match left(done) {
+        true => done.not_renewed(),
+        false => done.after,
+    })
+}
+
+/// R - f.
+fn commits_one_round_early(ask: &Ask, lent: Lent) -> Answer {
+    commits_to(ask, lent, Done::grew, |done| {
+        done.limit(done.after.round + 1)
+    })
+}
+
+fn commits_by_heights(ask: &Ask, lent: Lent) -> Answer {
+    amend(ask, lent, |done, log| {
+        let mut record = done.after;
+        if done.grew() {
+            let limit = done.limit(record.round);
+            commit(&mut record, log, |_, height| height <= limit);
+        }
+        record
+    })
+}
+
+/// Tip round - f, wherever R grows.
+fn commits_by_the_tip(ask: &Ask, lent: Lent) -> Answer {
+    commits_to(ask, lent, Done::grew, |done| {
+        done.limit(done.after.tip_round + 1)
+    })
+}
+
+fn commits_up_to_the_tip(ask: &Ask, lent: Lent) -> Answer {
+    commits_to(ask, lent, Done::grew, |done| {
+        done.limit(done.after.round).min(done.after.tip_round)
+    })
+}
+
+/// By the R that the last growth of a call starts from.
+fn commits_before_r_grows(ask: &Ask, lent: Lent) -> Answer {
+    commits_to(ask, lent, Done::grew, |done| match done.own_block {
+        true => done.limit(done.after.round - 1),
+        false => done.limit(done.before.round),
+    })
+}
+
+/// By the R that a blame, a tick or a branch brings, not by the one after the card's own block.
+fn commits_by_the_first_r(ask: &Ask, lent: Lent) -> Answer {
+    let own_block = |done: &Done| done.own_block;
+    commits_to(ask, lent, own_block, |done| {
+        done.limit(done.after.round - 1)
+    })
+}
+
+fn commits_though_r_stays(ask: &Ask, lent: Lent) -> Answer {
+    let stays = |done: &Done| !done.grew();
+    commits_to(ask, lent, stays, |done| done.limit(done.after.round))
+}
+
+fn commits_by_idle_ticks(ask: &Ask, lent: Lent) -> Answer {
+    match ask {
+        Ask::Tick(record) if record.left == 0 => commits_though_r_stays(ask, lent),
+        _ => honest(ask, lent),
     }
-    answer
+}
+
+fn commits_by_passed_rounds(ask: &Ask, lent: Lent) -> Answer {
+    match ask {
+        Ask::Blame(record, bytes) | Ask::Blames(record, bytes)
+            if slots(bytes).first().map_or(0, frame::round) < record.round =>
+        {
+            commits_though_r_stays(ask, lent)
+        }
+        _ => honest(ask, lent),
+    }
+}
+
+fn commits_where_a_block_is_stored(ask: &Ask, lent: Lent) -> Answer {
+    leaves_committed(ask, lent, |done| !done.stored())
+}
+
+fn commits_nothing_by_a_blame(ask: &Ask, lent: Lent) -> Answer {
+    match ask {
+        Ask::Blame(..) => commits_where_a_block_is_stored(ask, lent),
+        _ => honest(ask, lent),
+    }
+}
+
+fn commits_nothing_by_a_set(ask: &Ask, lent: Lent) -> Answer {
+    match ask {
+        Ask::Blames(_, bytes) if bytes.len() > SIZE => commits_where_a_block_is_stored(ask, lent),
+        _ => honest(ask, lent),
+    }
+}
+
+fn commits_nothing_by_a_tick(ask: &Ask, lent: Lent) -> Answer {
+    match ask {
+        Ask::Tick(_) => commits_where_a_block_is_stored(ask, lent),
+        _ => honest(ask, lent),
+    }
+}
+
+fn commits_nothing_at_the_end(ask: &Ask, lent: Lent) -> Answer {
+    leaves_committed(ask, lent, |done| done.after.round > done.after.term)
+}
+
+fn never_lowers_the_committed_round(ask: &Ask, lent: Lent) -> Answer {
+    leaves_committed(ask, lent, |done| {
+        done.after.committed_round < done.before.committed_round
+    })
+}
+
+/// A blame, a set or a tick renews the committed round alone.
+fn leaves_the_committed_height(ask: &Ask, lent: Lent) -> Answer {
+    amend(ask, lent, |done, _| {
+        let mut record = done.after;
+        if !done.stored() {
+            record.committed_height = done.before.committed_height;
+        }
+        record
+    })
 }
 
 fn commits_nothing(ask: &Ask, lent: Lent) -> Answer {
@@ -650,14 +811,21 @@ fn undoes(ask: &Ask, mut lent: Lent) -> Answer {
     model::branch(forgetful, bytes, lent)
 }
 
-/// After a set, waits for the round of the block that it put out.
+/// After a set, waits for the round of the block that it put out, and commits by that round.
 fn waits_for_its_own_round(ask: &Ask, lent: Lent) -> Answer {
-    let mut answer = honest(ask, lent);
-    if let (Ask::Blames(..), 1) = (ask, answer.frames) {
-        answer.record.round -= 1;
-        answer.record.tip_round -= 1;
-    }
-    answer
+    let Ask::Blames(..) = ask else {
+        return honest(ask, lent);
+    };
+    amend(ask, lent, |done, log| {
+        let mut record = done.after;
+        if done.own_block {
+            record.round -= 1;
+            record.tip_round -= 1;
+            let limit = done.limit(record.round);
+            commit(&mut record, log, |round, _| round <= limit);
+        }
+        record
+    })
 }
 
 fn leader_though_refused(ask: &Ask, lent: Lent) -> Answer {
@@ -791,10 +959,32 @@ fn set_slips() -> Vec<(&'static str, Broken)> {
     slips.into_iter().map(broken).collect()
 }
 
+/// Slips of committing by R.
+fn commit_slips() -> Vec<(&'static str, Broken)> {
+    let slips: [(&str, Machine); 14] = [
+        ("tip round - f", commits_by_the_tip),
+        ("up to the tip", commits_up_to_the_tip),
+        ("where a block is stored", commits_where_a_block_is_stored),
+        ("before R grows", commits_before_r_grows),
+        ("by the first R", commits_by_the_first_r),
+        ("though R stays", commits_though_r_stays),
+        ("by an idle tick", commits_by_idle_ticks),
+        ("by a passed round", commits_by_passed_rounds),
+        ("not by a blame", commits_nothing_by_a_blame),
+        ("not by a set", commits_nothing_by_a_set),
+        ("not by a tick", commits_nothing_by_a_tick),
+        ("not at R = T + 1", commits_nothing_at_the_end),
+        ("never lowered", never_lowers_the_committed_round),
+        ("height left", leaves_the_committed_height),
+    ];
+    let broken = |(name, machine)| (name, Broken::machine(machine));
+    slips.into_iter().map(broken).collect()
+}
+
 #[test]
 fn every_slip_is_found_and_shrunk() {
     let slips = named_slips().into_iter().chain(other_slips());
-    for (name, library) in slips.chain(set_slips()) {
+    for (name, library) in slips.chain(set_slips()).chain(commit_slips()) {
         let mut coverage = Coverage::new();
         let found = (1..=300).find_map(|seed| run(&library, seed, Sizes::All, &mut coverage).err());
         let failure = found.unwrap_or_else(|| panic!("not found: {name}"));
@@ -820,13 +1010,37 @@ fn a_fetch_of_fewer_frames_passes() {
     }
 }
 
-/// With the same slip on both sides only the claims can find it.
+/// Finds a slip that is on both sides, where only the claims can, with a part of what they say.
+fn claims_find(name: &str, machine: Machine, rules: bool, part: &str) {
+    let library = Broken::machine(machine);
+    let found = (1..=600).find_map(|seed| {
+        let maker = Maker::new(seed, Sizes::All);
+        let mut runner = Runner::beside(&library, &library, &maker.head().clone());
+        if !rules {
+            runner.claims.rules = None;
+        }
+        run_on(runner, maker, &mut Coverage::new()).err()
+    });
+    let failure = found.unwrap_or_else(|| panic!("not found: {name}"));
+    println!("{name}: {}", failure.message);
+    assert!(failure.message.starts_with("claim:"), "{}", failure.message);
+    assert!(failure.message.contains(part), "{}", failure.message);
+}
+
 #[test]
 fn claims_find_slips_on_both_sides() {
     let slips: [(&str, Machine, &str); 6] = [
-        ("commits one round early", commits_one_round_early, ""),
-        ("shows a round with f", shows_with_f, ""),
-        ("takes unshown rounds", takes_unshown_rounds, ""),
+        (
+            "commits one round early",
+            commits_one_round_early,
+            "than its R gives",
+        ),
+        ("by the tip", commits_by_the_tip, "than its R gives"),
+        (
+            "not at R = T + 1",
+            commits_nothing_at_the_end,
+            "than its R gives",
+        ),
         ("takes stale sets", takes_stale_sets, "blames of one frame"),
         ("undoes committed slots", undoes, "shrank"),
         (
@@ -836,15 +1050,29 @@ fn claims_find_slips_on_both_sides() {
         ),
     ];
     for (name, machine, part) in slips {
-        let library = Broken::machine(machine);
-        let found = (1..=600).find_map(|seed| {
-            let maker = Maker::new(seed, Sizes::All);
-            let runner = Runner::beside(&library, &library, &maker.head().clone());
-            run_on(runner, maker, &mut Coverage::new()).err()
-        });
-        let failure = found.unwrap_or_else(|| panic!("not found: {name}"));
-        println!("{name}: {}", failure.message);
-        assert!(failure.message.starts_with("claim:"), "{}", failure.message);
-        assert!(failure.message.contains(part), "{}", failure.message);
+        claims_find(name, machine, true, part);
+    }
+}
+
+/// The claims about sound cards find these by themselves.
+#[test]
+fn claims_about_sound_cards_find_slips_on_both_sides() {
+    let slips: [(&str, Machine, &str); 5] = [
+        (
+            "commits one round early",
+            commits_one_round_early,
+            "parts from another's",
+        ),
+        ("shows a round with f", shows_with_f, ""),
+        ("takes unshown rounds", takes_unshown_rounds, ""),
+        ("by the tip", commits_by_the_tip, "as another has"),
+        (
+            "not at R = T + 1",
+            commits_nothing_at_the_end,
+            "as another has",
+        ),
+    ];
+    for (name, machine, part) in slips {
+        claims_find(name, machine, false, part);
     }
 }

@@ -1,7 +1,9 @@
 //! A program as small as can be that reads an emitted list: it has to print what was expected.
 
+use std::sync::OnceLock;
+
 use beside::coverage::Coverage;
-use beside::emit::emit;
+use beside::emit::{emit, Emitted};
 use beside::frame::SIZE;
 use beside::model::{self, Answer, Lent, Record, Setup};
 use beside::sha256;
@@ -217,14 +219,54 @@ fn an_emitted_list_reads_back() {
     assert_eq!(emitted.output.lines().count(), 6_000);
 }
 
+/// The list of 2,000 calls and what it reaches.
+fn list() -> &'static (Emitted, Coverage) {
+    static LIST: OnceLock<(Emitted, Coverage)> = OnceLock::new();
+    LIST.get_or_init(|| {
+        let mut coverage = Coverage::new();
+        (emit(1, 2_000, &mut coverage), coverage)
+    })
+}
+
 #[test]
 fn an_emitted_list_makes_every_call_often() {
-    let emitted = emit(1, 2_000, &mut Coverage::new());
+    let (emitted, _) = list();
     for letter in "obvatqf".chars() {
         let made = emitted
             .input
             .lines()
             .filter(|line| line.starts_with(letter));
         assert!(made.count() >= 50, "{letter}");
+    }
+}
+
+/// Each way of committing without a block is there, and the 2 after a commit above the tip.
+#[test]
+fn an_emitted_list_commits_in_every_way() {
+    let (_, coverage) = list();
+    let every = [
+        ("commits, no block stored", 5),
+        ("commits, block put out", 2),
+        ("commits at R = T + 1", 2),
+        ("commits above the tip", 1),
+        ("R stays, rule gives another slot", 1),
+        ("refused  2, committed above tip", 1),
+    ];
+    for call in ["blame", "blames", "tick"] {
+        for (row, least) in every {
+            let count = coverage.count(&(call, row));
+            assert!(count >= least, "{call}: {row}: {count}");
+        }
+    }
+}
+
+/// The list beside the program that reads it: a change of the rules or of the lists shows here first.
+#[test]
+fn the_stored_list_is_the_emitted_one() {
+    let (emitted, _) = list();
+    for (name, text) in [("stdin", &emitted.input), ("stdout", &emitted.output)] {
+        let path = format!("{}/../crates/mixed/{name}", env!("CARGO_MANIFEST_DIR"));
+        let stored = std::fs::read_to_string(&path).expect(&path);
+        assert!(stored == *text, "{path}: emit it anew");
     }
 }
