@@ -13,7 +13,7 @@ use borrow.Author.Tests.{le-ltb, eq-eqb, ne-eqb, eqb-true, eqb-false}
 use Rattle.sha256.specs.Fips.{sha256}
 use Rattle.apollo.specs.declared.Replica.{Replica}
 use Rattle.apollo.specs.Bytes.{number4, zeros, same}
-use Rattle.apollo.specs.Setup.{leader, setup}
+use Rattle.apollo.specs.Setup.{replicas, leader, setup, setupOf}
 use Rattle.apollo.specs.Frame.{kind, signer, round, height, parent, digest, linked, sealed, blameHead, makeBlock, makeBlame}
 use Rattle.apollo.specs.Log.{genesis, slot, filled, store, clearAbove, attach, highest}
 use Rattle.apollo.specs.Masks.{bit, mask, addBlame}
@@ -26,12 +26,32 @@ use Rattle.apollo.specs.Calls.{openCall, branchCall, blameCall}
 use Rattle.apollo.specs.BenchSheet.{after, Callable, block, blocks}
 use Rattle.apollo.proofs.Single.{blame-one}
 use Rattle.apollo.proofs.Tests.{both, cond-true, cond-false, same-of}
-use Rattle.apollo.proofs.Validity.{valid-of}
+use Rattle.apollo.proofs.Validity.{Valid, valid, valid-of}
 use Rattle.apollo.proofs.Slots.{length-zeros, length-store, store-same, store-other, length-clear, clear-low, take-slots}
 use Rattle.apollo.proofs.Judging.{passes, fresh-branch, attaches}
 use Rattle.apollo.proofs.Made.{block-length, block-made, block-round, block-height, block-kind, block-parent, blame-length, blame-round, blame-form, blame-checked}
 use Rattle.apollo.proofs.BenchOpen.{open-fits}
 use Rattle.apollo.proofs.BenchBranches.{adopts, skips-none, grown-low}
+
+-- a blame of replica j for a round up to R, its bit not yet set, on any state
+pub hears-at : {s : State} {out : List ℕ} → Callable s out → (entry : List ℕ) → length entry ≤ 400 → (j r : ℕ) → j < replicas (setupOf (s .replica))
+    → 1 ≤ r → r ≤ s .replica .round .0 → bit j (mask (s .masks) r) ≡ false
+    → blameCall s (makeBlame sha256 j r) entry out ≡ taken (settle sha256 entry (hearing s r j) r) out
+unfolding oneBlame
+hears-at {s} {out} c entry l j r signs one low fresh-bit =
+    let v : Valid (s .replica) (s .log) = valid (s .replica) (s .log) (c .valid) in
+    let y : List ℕ = makeBlame sha256 j r in
+    let high : r ≤ s .replica .«last_round» .0 = omega (arith, c .running) in
+    let short : r < 65536 = omega (arith, v .setup .last-most) in
+    let at : round y ≡ r = ap (λ (z : List ℕ). round z) (sym (append-nil y)) ∙ blame-round j r [] short in
+    let by : signer y ≡ j = unfold makeBlame sealed blameHead in refl in
+    blame-one s y entry out ∙ passes c entry l _
+    ∙ cond-false _ _ (ap not (eq-eqb (length y) 512 (blame-length j r)))
+    ∙ cond-false _ _ (ap not (blame-checked j r))
+    ∙ cond-false _ _ (ap not (blame-form (setupOf (s .replica)) j r signs one high short))
+    ∙ cond-false _ _ (le-ltb (s .replica .round .0) (round y) (omega arith))
+    ∙ cond-false _ _ (ap₂ (λ k q. bit k (mask (s .masks) q)) by at ∙ fresh-bit)
+    ∙ ap (λ m. taken m out) (ap₂ (λ q k. settle sha256 entry (hearing s q k) q) at by)
 
 -- an empty block of replica i for round r at height h on frame p, for f = 1 and T = 6
 pub child : (i r h : ℕ) (p : List ℕ) → List ℕ
@@ -377,13 +397,6 @@ module _ (s : State) (id n : ℕ) (masks : List ℕ) (made : Made s id n masks) 
     abbrev y : List ℕ
     y = makeBlame sha256 j r
 
-    at-y : round y ≡ r
-    at-y = ap (λ (z : List ℕ). round z) (sym (append-nil y)) ∙ blame-round j r [] (omega arith)
-
-    by-y : signer y ≡ j
-    unfolding makeBlame sealed blameHead
-    by-y = refl
-
     settled : settle sha256 [] (hearing here r j) r ≡ record { state = hearing here r j; emitted = [] }
     unfolding settle hearing
     settled =
@@ -391,16 +404,8 @@ module _ (s : State) (id n : ℕ) (masks : List ℕ) (made : Made s id n masks) 
         rw e refl
 
     heard-y : blameCall here y [] out ≡ taken (record { state = hearing here r j; emitted = [] }) out
-    unfolding oneBlame
     heard-y =
-        let e : round y ≡ r = at-y in
-        blame-one here y [] out ∙ passes here-callable [] (omega arith) _
-        ∙ cond-false _ _ (ap not (eq-eqb (length y) 512 (blame-length j r)))
-        ∙ cond-false _ _ (ap not (blame-checked j r))
-        ∙ cond-false _ _ (ap not (blame-form (setup 1 6) j r signs one (omega arith) (omega arith)))
-        ∙ cond-false _ _ (le-ltb (n + 1) (round y) (omega arith))
-        ∙ cond-false _ _ (ap₂ (λ k q. bit k (mask masks q)) by-y e ∙ fresh-bit)
-        ∙ ap (λ m. taken m out) (ap₂ (λ q k. settle sha256 [] (hearing here q k) q) e by-y ∙ settled)
+        hears-at here-callable [] (omega arith) j r signs one (omega arith) fresh-bit ∙ ap (λ m. taken m out) settled
 
     pub hears : Made (after (blameCall s y [] out)) id n (addBlame masks r j)
     unfolding taken hearing

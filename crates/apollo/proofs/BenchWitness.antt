@@ -1,7 +1,7 @@
--- The premises of items 3, 9 and 10 of the bench sheet can be met; those of 9 and 10 by states that calls make from open on. Assumes
+-- The premises of items 9 and 10 of the bench sheet can be met, by states that calls make from open on (of item 3: crate witness). Assumes
 -- nothing.
 use Prim.Native.Nat.{ℕ, _+_, _≤_, _<_}
-use mathlib.Core.Path.{_≡_, refl, sym, ap, _∙_, subst}
+use mathlib.Core.Path.{_≡_, refl, sym, subst}
 use mathlib.Core.List.{List, [], _∷_}
 use mathlib.Core.Bool.{true, false}
 use native.Mathlib.Omega.{arith}
@@ -12,119 +12,16 @@ use Rattle.sha256.specs.Fips.{sha256}
 use Rattle.apollo.specs.Bytes.{zeros}
 use Rattle.apollo.specs.Setup.{setupOf, leader, setup}
 use Rattle.apollo.specs.Frame.{round, height, linked, makeBlame}
-use Rattle.apollo.specs.Log.{slot, filled, store}
-use Rattle.apollo.specs.Masks.{bit, setBit, count, mask, addBlame, certified}
+use Rattle.apollo.specs.Log.{slot, filled}
+use Rattle.apollo.specs.Masks.{bit, setBit, mask, addBlame}
 use Rattle.apollo.specs.Replica.{leads}
 use Rattle.apollo.specs.Enter.{State}
 use Rattle.apollo.specs.Branch.{childOf}
 use Rattle.apollo.specs.Calls.{branchCall, blameCall}
-use Rattle.apollo.specs.BenchSheet.{chainRounds, after, ParentIn, Item3, Item9, Item10, Held, block, blocks}
+use Rattle.apollo.specs.BenchSheet.{chainRounds, after, ParentIn, Item9, Item10, Held, block, blocks}
 use Rattle.apollo.proofs.Tests.{both}
-use Rattle.apollo.proofs.Validity.{valid-of}
-use Rattle.apollo.proofs.Slots.{length-zeros, length-store, store-same, store-other}
+use Rattle.apollo.proofs.Slots.{length-zeros}
 use Rattle.apollo.proofs.BenchMade.{child, Child, children, unrelated, blk, Sized, sized, next, Holds, record-of, out, slot-full, renewed, callable, Made, opening, opening-0, opening-1, branch-waits, branch-leads, hears}
-
--- Item 3, at replica 2 with T = 6 and a wait of 2: of the slots 1 and 3 the first byte says that they are filled, two blames were heard for
--- round 2 and one for round 4, and one tick is left.
-full : List ℕ
-full = 1 ∷ zeros 511
-
-skipping-log : List ℕ
-unfolding full
-skipping-log = store (store (zeros 3072) 1 full) 3 full
-
-pub skipping : State
-unfolding skipping-log
-skipping =
-    record {
-      replica =
-          record {
-            id = 2;
-            f = 1;
-            timeout = record { 0 = 2 };
-            «last_round» = record { 0 = 6 };
-            round = record { 0 = 4 };
-            timer = record { 0 = 1 };
-            «tip_round» = record { 0 = 3 };
-            «tip_height» = record { 0 = 2 };
-            «committed_round» = record { 0 = 1 };
-            «committed_height» = record { 0 = 1 };
-          };
-      log = skipping-log;
-      masks = 0 ∷ 3 ∷ 0 ∷ 1 ∷ 0 ∷ 0 ∷ [];
-    }
-
-full-length : length full ≡ 512
-unfolding full
-full-length = omega (arith, length-zeros 511)
-
-first-size : length (store (zeros 3072) 1 full) ≡ 3072
-first-size = length-store (zeros 3072) 1 full (omega arith) (omega (arith, length-zeros 3072)) full-length ∙ length-zeros 3072
-
--- slot q where neither block is
-skipped-slot : (q : ℕ) → ¬ (q ≡ 1) → ¬ (q ≡ 3) → slot skipping-log q ≡ slot (zeros 3072) q
-unfolding skipping-log
-skipped-slot q a b =
-    store-other (store (zeros 3072) 1 full) 3 full q (omega arith) (omega (arith, first-size)) full-length b
-    ∙ store-other (zeros 3072) 1 full q (omega arith) (omega (arith, length-zeros 3072)) full-length a
-
-skipping-chain : chainRounds skipping-log 4 ≡ 1 ∷ 3 ∷ []
-unfolding chainRounds skipping-log full
-skipping-chain =
-    let first : filled (slot skipping-log 1) ≡ true =
-    ap filled (store-other (store (zeros 3072) 1 full) 3 full 1 (omega arith) (omega (arith, first-size)) full-length (λ z. omega arith)
-    ∙ store-same (zeros 3072) 1 full (omega arith) (omega (arith, length-zeros 3072)) full-length) in
-    let second : filled (slot skipping-log 2) ≡ false =
-    ap filled (skipped-slot 2 (λ z. omega arith) (λ z. omega arith)) ∙ (unfold slot zeros in refl) in
-    let third : filled (slot skipping-log 3) ≡ true =
-    ap filled (store-same (store (zeros 3072) 1 full) 3 full (omega arith) (omega (arith, first-size)) full-length) in
-    let fourth : filled (slot skipping-log 4) ≡ false =
-    ap filled (skipped-slot 4 (λ z. omega arith) (λ z. omega arith)) ∙ (unfold slot zeros in refl) in
-    rw (first, second, third, fourth)
-
-skipping-size : length skipping-log ≡ 3072
-unfolding skipping-log
-skipping-size = length-store (store (zeros 3072) 1 full) 3 full (omega arith) (omega (arith, first-size)) full-length ∙ first-size
-
-pub item-3-met : Item3 skipping out
-unfolding skipping out
-item-3-met =
-    record {
-      callable =
-          record {
-            valid =
-                valid-of (skipping .replica) skipping-log (record {
-                  setup =
-                      record {
-                        id-below = omega arith;
-                        f-least = omega arith;
-                        f-most = omega arith;
-                        timeout-least = omega arith;
-                        timeout-most = omega arith;
-                        last-least = omega arith;
-                        last-most = omega arith;
-                        size = skipping-size;
-                      };
-                  round-least = omega arith;
-                  round-most = omega arith;
-                  timer-most = omega arith;
-                  tip-below = omega arith;
-                  tip-height = omega arith;
-                  committed-most = omega arith;
-                  committed-height-most = omega arith;
-                  committed-height = omega arith;
-                  waits = unfold leads leader in refl;
-                });
-            lent = refl;
-            running = omega arith;
-            room = omega (arith, length-zeros 1024);
-          };
-      f = refl;
-      awaited = refl;
-      chain = skipping-chain;
-      due = refl;
-      certifies = unfold certified count bit setBit in refl;
-    }
 
 -- a block at height 2 on block 1
 on-1 : (log : List ℕ) (n : ℕ) → Holds log n → 1 ≤ n → n ≤ 5 → (x : List ℕ) (r : ℕ) → 1 < r → r ≤ n + 1 → Child r 2 (blk 1) x
