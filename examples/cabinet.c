@@ -356,10 +356,20 @@ static uint32_t parting(int a, int b) {
   return 0;
 }
 
-/* Do two cards' hosts act on the same entries, now that the term is over? */
-static int same_acts(int a, int b) {
-  return parting(a, b) == 0 && cabinet.acted[a] == cabinet.acted[b] &&
-         memcmp(cabinet.acts[a], cabinet.acts[b], cabinet.acted[a] * sizeof *cabinet.acts[a]) == 0;
+/* Have two cards committed the same list? They must have when the term is over, though they may hold different blocks after it. */
+static int same_list(int a, int b) {
+  return parting(a, b) == 0 && cabinet.cards[a].record.committed_round.value == cabinet.cards[b].record.committed_round.value;
+}
+
+/* Has the card's host acted on every entry of its list, in order? */
+static int acted_on_list(int i) {
+  uint32_t count = 0;
+  for (uint32_t r = 1; r <= cabinet.cards[i].record.committed_round.value; r++) {
+    const uint8_t *block = slot(i, r);
+    if (block[0] != APOLLO_BLOCK || (block[2] == 0 && block[3] == 0)) continue;
+    if (count == cabinet.acted[i] || cabinet.acts[i][count++] != r) return 0;
+  }
+  return count == cabinet.acted[i];
 }
 
 static int report_lists(int best) {
@@ -371,8 +381,8 @@ static int report_lists(int best) {
       puts("not there");
       continue;
     }
-    printf("waits for round %u of %u, has committed %u blocks up to round %u", r->round.value, cabinet.rounds,
-           r->committed_height.value, r->committed_round.value);
+    printf("waits for round %u of %u, has committed %u blocks up to round %u, holds %u more", r->round.value, cabinet.rounds,
+           r->committed_height.value, r->committed_round.value, r->tip_height.value - r->committed_height.value);
     if (cabinet.faults[i] == DEAF)
       printf("; was %u rounds behind when it came back%s", cabinet.behind[i], cabinet.late[i] ? ", the term being over" : "");
     if (cabinet.faults[i] == LOST) printf("; was %u rounds behind when it began again, to follow", cabinet.behind[i]);
@@ -382,8 +392,12 @@ static int report_lists(int best) {
         printf("LISTS DIFFER: cards %d and %d part at round %u\n", j, i, parting(i, j));
         good = 0;
       }
-    if (keeps_rules(i) && good && !(card_is_over(&cabinet.cards[i]) && same_acts(i, best))) {
+    if (keeps_rules(i) && good && !(card_is_over(&cabinet.cards[i]) && same_list(i, best))) {
       printf("NOT CAUGHT UP: card %d\n", i);
+      good = 0;
+    }
+    if (keeps_rules(i) && good && !acted_on_list(i)) {
+      printf("NOT ACTED ON: the list of card %d\n", i);
       good = 0;
     }
   }

@@ -38,13 +38,6 @@ static void make_blame(uint32_t round, int signer, uint8_t frame[APOLLO_FRAME]) 
   apollo_digest(frame, 480, frame + 480);
 }
 
-/* At the end of a term one card may hold block T and another have passed over round T, and then they have committed up to different
- * rounds. Up to T - 2 f all have committed the same, so what stands later counts for nothing and is proposed in the next term. */
-static uint32_t last_useful(const card *c) {
-  uint32_t tail = 2u * c->setup.f;
-  return c->setup.rounds > tail ? c->setup.rounds - tail : 0;
-}
-
 /* ---- sending */
 
 static void send_block(const card *c, int to, uint32_t round) {
@@ -108,25 +101,25 @@ static proposal *next_proposal(card *c) {
 }
 
 /* What the next call may propose. Nothing while the card is behind: it may then come to lead a round that the others passed over long
- * ago. Nothing in the term's last rounds. */
+ * ago. Nothing for the term's last f rounds, which are not committed: it is proposed in the next term. */
 static proposal *lend(card *c) {
   uint32_t turns = (uint32_t)(c->setup.id + cards(c) - leader_of(c, waited(c))) % (uint32_t)cards(c);
-  return is_behind(c) || waited(c) + turns > last_useful(c) ? NULL : next_proposal(c);
+  return is_behind(c) || waited(c) + turns + c->setup.f > c->setup.rounds ? NULL : next_proposal(c);
 }
 
-/* Hands on what was committed since the last call. An own entry leaves the line when its block is among that; where the slot does not
- * hold that block, it was passed over for good, and the entry is proposed again. */
+/* Hands on what was committed since the last call, whichever it was: blames and ticks commit too. An own entry leaves the line when its
+ * block is among that; where the slot does not hold that block, it was passed over for good, and the entry is proposed again. */
 static void act(card *c) {
   size_t left = 0;
   for (; c->acted < committed(c); c->acted++) {
     const uint8_t *block = slot(c, c->acted + 1);
     size_t len = (size_t)block[2] << 8 | block[3];
-    if (block[0] == APOLLO_BLOCK && len > 0 && c->acted < last_useful(c)) host_act(c->setup.id, c->acted + 1, block + 44, len);
+    if (block[0] == APOLLO_BLOCK && len > 0) host_act(c->setup.id, c->acted + 1, block + 44, len);
   }
   for (size_t i = 0; i < c->lined; i++) {
     proposal *p = &c->line[i];
     int decided = p->round > 0 && p->round <= committed(c);
-    if (decided && p->round <= last_useful(c) && same(digest_of(slot(c, p->round)), p->digest)) continue;
+    if (decided && same(digest_of(slot(c, p->round)), p->digest)) continue;
     if (decided) {
       p->round = 0;
       c->again++;

@@ -1,5 +1,6 @@
-/* The smallest host: three cards in one process, f = 1, a term of nine rounds. Card 1 falls silent after its first turn: the others
- * blame it, pass over the rounds that it leads, and commit the same list, which is printed.
+/* The smallest host: three cards in one process, f = 1, a term of eight rounds. Card 1 falls silent after its first turn: the others
+ * blame it, pass over the rounds that it leads, and commit the same list, which is printed. Round 8, the last, is one of these: the
+ * entry of round 7 is committed by its blames.
  * A real host runs one card: it signs and sends what `after` hands round, checks the signature of what `turn` hands in, and hands in
  * the blames of a round as one set (card.c). */
 #include "apollo.h"
@@ -7,7 +8,7 @@
 #include <stdio.h>
 #include <string.h>
 
-enum { CARDS = 3, F = 1, T = 9, QUEUE = 16 };
+enum { CARDS = 3, F = 1, T = 8, QUEUE = 16 };
 
 typedef struct {
   apollo_replica record; /* record, log and masks: a card's state */

@@ -81,14 +81,18 @@
  *     once, an empty one too. That round is 1 for open, R + 1 for a blame, a set or a tick, the last frame's + 1 for a branch. A host
  *     that wants to wait for an entry withholds the branch, at most until w ticks after the card came to R. Ticks go on: w is in the
  *     timeout (Clock).
- *   - Lend an empty entry for a round above T - 2f, and while the card is behind (f + 1 cards have signed frames of rounds above
- *     R + 1): it may come to lead a round that the others passed over long ago.
+ *   - Lend an empty entry for a round above T - f, which the term does not commit, and while the card is behind (f + 1 cards have
+ *     signed frames of rounds above R + 1): it may come to lead a round that the others passed over long ago.
  *   - The entry was used if the call emitted a block, and is on the list for good when that block's round is at most the committed
  *     round and its slot holds the block. Where the slot does not, the block was passed over: lend the entry again, never before. It
  *     then comes after later ones: where order matters, lend a card's next entry when the last is on the list.
- *   - Act on the entries of committed rounds up to T - 2f, and take all others into the next term, whose entries come after. At
- *     R = T + 1 the committed round is T - 2f or above, so that all is decided; how far above differs from card to card. Choose T well
- *     above 2f: with less it is opened too, but no entry counts, and T - 2f wraps round in unsigned C.
+ *   - A block is committed once R is more than f rounds above its own: each of the f rounds after it has its block, or else f + 1
+ *     blames. So any taken call that moves R may commit, a blame, a set and a tick as well as a branch, though no block came with it:
+ *     look at the committed round after every call, and act on the new entries in their order.
+ *   - Cards that wait for the same round have committed the same list, while the premises hold. At R = T + 1 it has all blocks up to
+ *     round T - f, also where the last rounds were passed over, and grows no more: act on all of it, and take all other entries into
+ *     the next term, whose entries come after. Choose T well above f: with T up to f it is opened too, but no entry counts, and with T
+ *     below f T - f wraps round in unsigned C.
  *
  * Clock
  *   - Call apollo_tick at a steady pace, after everything that has come was handed in. Missed ticks are not made up. No tick at the
@@ -117,7 +121,7 @@ extern "C" {
 
 /* Header and archive belong together: a host starts only where apollo_version() == APOLLO_VERSION. The number grows with every change
  * of a declaration here, or of what a call does. */
-#define APOLLO_VERSION 2u
+#define APOLLO_VERSION 3u
 uint32_t apollo_version(void);
 
 enum {
@@ -184,8 +188,9 @@ typedef struct {
   apollo_ticks timer;             /* ticks left: the whole timeout again on each new round */
   apollo_round tip_round;         /* the newest block held, 0 for none */
   apollo_height tip_height;
-  apollo_round committed_round;   /* the newest block f rounds or more below tip_round, 0 for none. This card will never undo it, nor
-                                   * will any other while the premises hold */
+  apollo_round committed_round;   /* the newest block of round R - 1 - f or below, 0 for none: renewed by every call in which R grows,
+                                   * with a new block or without. This card will never undo it, nor will any other while the
+                                   * premises hold */
   apollo_height committed_height;
 } apollo_replica;
 
@@ -208,7 +213,7 @@ typedef struct {
   size_t count; /* frames copied to the start of the out buffer, at least 1 when taken */
 } apollo_fetched;
 
-/* Opens a card: zeroes log and masks and waits for round 1, or proposes at once if it leads round 1.
+/* Opens a card: zeroes log and masks and waits for round 1, or proposes at once if it leads round 1. Nothing is committed yet.
  * log_len is 512 * T, masks_len is T, out_len at least 1,024, here and below. entry: what the card proposes if it comes to lead, 0 to
  * 400 bytes.
  * Slot r of the log, for the block of round r, begins at log[512 * (r - 1)] and is filled if that byte is 1. The filled slots are one
@@ -219,31 +224,33 @@ apollo_answer apollo_open(uint8_t id, uint8_t f, apollo_ticks timeout, apollo_ro
                           uint16_t *masks, size_t masks_len, const uint8_t *entry, size_t entry_len, uint8_t *out, size_t out_len);
 
 /* Hands in a branch: 1 to T block frames end to end, each the child of the one before. Taken, it replaces what the log held above its
- * parent. The card then waits for the next round, or proposes if it leads it, with the lent entry.
+ * parent. The card then waits for the next round, or proposes if it leads it, with the lent entry, and waits for the one after. The
+ * committed round is renewed once, by the R that the call ends with.
  * Refuses 2 to 6, then 7, 8, 9 frame by frame, 10, 11, 13, 12. */
 apollo_answer apollo_branch(apollo_replica replica, uint8_t *log, size_t log_len, const uint16_t *masks, size_t masks_len,
                             const uint8_t *frames, size_t frames_len, const uint8_t *entry, size_t entry_len, uint8_t *out,
                             size_t out_len);
 
-/* Hands in one blame frame. With f + 1 blames the round waited for is passed over, and the next one entered as above. A blame for an
- * earlier round sets its bit and nothing else: a branch that skips that round needs f + 1 of them.
+/* Hands in one blame frame. With f + 1 blames the round waited for is passed over, the next one entered and the committed round renewed
+ * as above: a block that waited for this round is committed, whether the card now proposes or not. A blame for an earlier round sets
+ * its bit and nothing else: a branch that skips that round needs f + 1 of them.
  * Refuses 2 to 8, 14, 10. */
 apollo_answer apollo_blame(apollo_replica replica, uint8_t *log, size_t log_len, uint16_t *masks, size_t masks_len,
                            const uint8_t *frame, size_t frame_len, const uint8_t *entry, size_t entry_len, uint8_t *out,
                            size_t out_len);
 
 /* Hands in a set of blames: 1 to 15 blame frames of one round end to end, in any order, no signer twice. All their bits are set, or
- * none; bits that stand are passed over. The rest is as with one blame, once for the set: with f + 1 blames or more R grows by 1 and
- * the next round is entered. A set of one is answered as apollo_blame answers that frame, and leaves the same. The masks have the bits
- * alone: the host keeps the signatures, and a set answered 14 until R has come.
+ * none; bits that stand are passed over. The rest is as with one blame, once for the set: with f + 1 blames or more R grows by 1, the
+ * next round is entered and the committed round renewed. A set of one is answered as apollo_blame answers that frame, and leaves the
+ * same. The masks have the bits alone: the host keeps the signatures, and a set answered 14 until R has come.
  * Refuses 2 to 6, then 7, 8 frame by frame, 16, 14, 10. */
 apollo_answer apollo_blames(apollo_replica replica, uint8_t *log, size_t log_len, uint16_t *masks, size_t masks_len,
                             const uint8_t *frames, size_t frames_len, const uint8_t *entry, size_t entry_len, uint8_t *out,
                             size_t out_len);
 
 /* One tick of the clock. The tick that brings the timer to 0 emits the card's blame for the round waited for; if that is the last of
- * f + 1, the round is passed over as above. Else the card waits on, and still takes the round's block. With no ticks left nothing
- * happens.
+ * f + 1, the round is passed over as by a blame, and may commit a block as well. Else the card waits on, and still takes the round's
+ * block. With no ticks left nothing happens.
  * Refuses 2 to 5. */
 apollo_answer apollo_tick(apollo_replica replica, uint8_t *log, size_t log_len, uint16_t *masks, size_t masks_len,
                           const uint8_t *entry, size_t entry_len, uint8_t *out, size_t out_len);

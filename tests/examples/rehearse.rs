@@ -1,5 +1,5 @@
 //! The program rehearse over the model: the same commands, the same lines. For the expected output
-//! of examples/rehearsal.txt and of random lists.
+//! of the rehearsals in examples/ and of random lists.
 
 use std::collections::VecDeque;
 use std::io::{self, BufRead, Write};

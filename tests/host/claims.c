@@ -1,5 +1,6 @@
 /* What the header tells a host's engineer beyond each call is so: slots, masks and leaders; which frames may be needed again; what an
- * old term's frames do; what a blame is, and a set of them. Three cards, f = 1. Exits with 0 if all is so. */
+ * old term's frames do; what a blame is, and a set of them; which calls commit, and what. Three cards, f = 1. Exits with 0 if all is
+ * so. */
 #include "apollo.h"
 #include "expect.h"
 
@@ -218,8 +219,8 @@ static void set_of_one(void) {
   EXPECT(alike(&two, frame, sizeof frame, 0, sizeof out) == APOLLO_BAD_DIGEST);
 }
 
-/* 0 is no block. The timer is full on each new round. A block is taken after the own blame of its round. What is f rounds below the
- * newest block is committed. A term of 2 f rounds is opened. */
+/* 0 is no block. The timer is full on each new round. A block is taken after the own blame of its round. Block 1 is committed when R is
+ * 3. A term of f rounds is opened. */
 static void what_calls_leave(void) {
   uint8_t first[APOLLO_FRAME], second[APOLLO_FRAME];
   open_card(&zero, 0, "A");
@@ -233,8 +234,70 @@ static void what_calls_leave(void) {
   EXPECT(tick(&two).number == APOLLO_TAKEN && tick(&two).frames == 1 && two.record.timer.value == 0 && two.record.round.value == 1);
   EXPECT(branch(&two, first, 1).number == APOLLO_TAKEN && two.record.round.value == 2 && two.record.timer.value == 2);
   EXPECT(branch(&zero, second, 1).number == APOLLO_TAKEN && zero.record.committed_round.value == 1);
-  EXPECT(apollo_open(0, 1, (apollo_ticks){2}, (apollo_round){2}, zero.log, 2 * APOLLO_FRAME, zero.masks, 2, NULL, 0, out, sizeof out)
+  EXPECT(apollo_open(0, 1, (apollo_ticks){2}, (apollo_round){1}, zero.log, APOLLO_FRAME, zero.masks, 1, NULL, 0, out, sizeof out)
              .number == APOLLO_TAKEN);
+}
+
+/* Does the card wait for this round, with these rounds of its newest and its newest committed block? */
+static int stands(const card *c, uint32_t round, uint32_t tip, uint32_t committed) {
+  const apollo_replica *r = &c->record;
+  return r->round.value == round && r->tip_round.value == tip && r->committed_round.value == committed;
+}
+
+/* Card 0 holds block 1 alone and waits for round 2, so that the limit R - 1 - f is 0. */
+static void wait_for_second(void) {
+  open_card(&zero, 0, "A");
+  EXPECT(stands(&zero, 2, 1, 0));
+}
+
+/* f + 1 blames of round 2 make R 3 and the limit 1: block 1 is committed by a blame, by a set and by a tick, with no block after it. The
+ * first of the blames, and one more when the round is passed, commit nothing. */
+static void commit_by_blames(void) {
+  wait_for_second();
+  EXPECT(blame(&zero, 2, 1).number == APOLLO_TAKEN && stands(&zero, 2, 1, 0));
+  EXPECT(apollo_read(zero.record, zero.log, LOG, (apollo_height){1}).number == APOLLO_ABSENT);
+  EXPECT(blame(&zero, 2, 2).frames == 0 && stands(&zero, 3, 1, 1) && zero.record.committed_height.value == 1);
+  apollo_part p = apollo_read(zero.record, zero.log, LOG, (apollo_height){1});
+  EXPECT(p.number == APOLLO_TAKEN && p.length == 1 && zero.log[p.start] == 'A');
+  wait_for_second();
+  EXPECT(hand_in_set(&zero, 2, 6).frames == 0 && stands(&zero, 3, 1, 1) && zero.record.committed_height.value == 1);
+  wait_for_second();
+  EXPECT(blame(&zero, 2, 2).number == APOLLO_TAKEN && tick(&zero).frames == 0 && stands(&zero, 2, 1, 0));
+  EXPECT(tick(&zero).frames == 1 && out[0] == APOLLO_BLAME && stands(&zero, 3, 1, 1) && zero.record.committed_height.value == 1);
+  zero.record.committed_round.value = zero.record.committed_height.value = 0; /* to see that it stays so while R does */
+  EXPECT(blame(&zero, 2, 1).number == APOLLO_TAKEN && blame(&zero, 3, 1).number == APOLLO_TAKEN && stands(&zero, 3, 1, 0));
+  EXPECT(tick(&zero).number == APOLLO_TAKEN && stands(&zero, 3, 1, 0));
+  EXPECT(hand_in_set(&zero, 3, 4).frames == 1 && stands(&zero, 5, 4, 1)); /* its own block 4; the limit is 3, 2 and 3 are empty */
+}
+
+/* One turn, rounds first to first + 2, of cards 0 and 1, who do not hear card 2 and blame its round. Card 0's block comes in `a` and its
+ * next one goes there. Card 2 hears them, and its own blocks are for nobody. */
+static void turn_without_two(uint8_t first, uint8_t a[APOLLO_FRAME]) {
+  uint8_t b[APOLLO_FRAME];
+  EXPECT(branch(&one, a, 1).frames == 1 && stands(&one, first + 2u, first + 1u, first));
+  memcpy(b, out, APOLLO_FRAME);
+  EXPECT(branch(&zero, b, 1).number == APOLLO_TAKEN && stands(&zero, first + 2u, first + 1u, first));
+  EXPECT(branch(&two, a, 1).number == APOLLO_TAKEN && branch(&two, b, 1).frames == 1);
+  EXPECT(stands(&two, first + 3u, first + 2u, first + 1u));
+  EXPECT(hand_in_set(&two, first + 2, 3).number == (first + 2 < T ? APOLLO_TAKEN : APOLLO_ROUNDS_OVER));
+  EXPECT(hand_in_set(&one, first + 2, 3).frames == 0 && stands(&one, first + 3u, first + 1u, first + 1u));
+  int more = first + 3 <= T;
+  EXPECT(hand_in_set(&zero, first + 2, 3).frames == more);
+  EXPECT(more ? stands(&zero, first + 4u, first + 3u, first + 1u) : stands(&zero, first + 3u, first + 1u, first + 1u));
+  memcpy(a, out, APOLLO_FRAME);
+}
+
+/* At R = T + 1 cards 0 and 1 have passed over round 9 and card 2 holds a block of it: all have committed what is up to T - f = 8. */
+static void end_of_term(void) {
+  uint8_t block[APOLLO_FRAME];
+  open_card(&one, 1, "");
+  open_card(&two, 2, "");
+  open_card(&zero, 0, "A");
+  memcpy(block, out, APOLLO_FRAME);
+  for (uint8_t first = 1; first <= T; first += 3) turn_without_two(first, block);
+  EXPECT(stands(&zero, T + 1, 8, 8) && stands(&one, T + 1, 8, 8) && stands(&two, T + 1, 9, 8));
+  EXPECT(memcmp(zero.log, one.log, LOG) == 0 && memcmp(zero.log, two.log, 8 * APOLLO_FRAME) == 0);
+  EXPECT(zero.record.committed_height.value == 6 && tick(&zero).number == APOLLO_ROUNDS_OVER);
 }
 
 /* A first frame whose parent is in the log is loose if its height is wrong; so is one on the genesis. */
@@ -294,6 +357,8 @@ int main(void) {
   bad_sets();
   set_of_one();
   what_calls_leave();
+  commit_by_blames();
+  end_of_term();
   false_height();
   skipped_round();
   terms_and_lag();

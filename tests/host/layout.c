@@ -80,7 +80,7 @@ static void filled(void) {
 }
 
 int main(void) {
-  EXPECT(apollo_version() == APOLLO_VERSION && APOLLO_VERSION == 2u);
+  EXPECT(apollo_version() == APOLLO_VERSION && APOLLO_VERSION == 3u);
   sizes();
   echoed();
   filled();

@@ -1,9 +1,9 @@
 //! A term without faults, on the library: every card sound, every frame delivered at once, and no clock needed.
 
+use crate::card::Card;
 use beside::ffi::Archive;
-use beside::frame::SIZE;
 use beside::library::Library;
-use beside::model::{Answer, Lent, Record, Setup, LEAST_OUT, NOBODY};
+use beside::model::{Answer, Lent, Record, Setup, NOBODY};
 use std::collections::VecDeque;
 
 /// What a term took.
@@ -16,12 +16,6 @@ pub struct Counts {
     pub sent: usize,
     /// Copies that the cards relayed to the next leader.
     pub relayed: usize,
-}
-
-struct Card {
-    record: Record,
-    log: Vec<u8>,
-    masks: Vec<u16>,
 }
 
 /// A frame under way.
@@ -41,20 +35,11 @@ const ENTRY: [u8; 100] = [7; 100];
 impl Cabinet {
     /// One call at a card, and the sending of what it emitted.
     fn call(&mut self, at: usize, call: impl Fn(Record, Lent) -> Answer) -> Answer {
-        let mut out = [0; LEAST_OUT];
-        let card = &mut self.cards[at];
-        let lent = Lent {
-            log: &mut card.log,
-            masks: &mut card.masks,
-            entry: &ENTRY,
-            out: &mut out,
-        };
-        let answer = call(card.record, lent);
-        card.record = answer.record;
-        for frame in out[..usize::from(answer.frames) * SIZE].chunks_exact(SIZE) {
+        let (answer, frames) = self.cards[at].call(&ENTRY, call);
+        for frame in frames {
             self.counts.emitted += 1;
             for to in (0..self.cards.len()).filter(|&to| to != at) {
-                self.send(frame, to);
+                self.send(&frame, to);
                 self.counts.sent += 1;
             }
         }
@@ -85,15 +70,9 @@ impl Cabinet {
 }
 
 pub fn run(f: u8, term: u32) -> Counts {
-    let size = term as usize;
-    let card = || Card {
-        record: Record::default(),
-        log: vec![0; size * SIZE],
-        masks: vec![0; size],
-    };
     let n = 2 * f + 1;
     let mut cabinet = Cabinet {
-        cards: (0..n).map(|_| card()).collect(),
+        cards: (0..n).map(|_| Card::closed(term)).collect(),
         cables: VecDeque::new(),
         counts: Counts::default(),
     };

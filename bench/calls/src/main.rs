@@ -1,13 +1,18 @@
 //! The calls of the library beside the Rust implementation of `tests`: medians of passes in which both sides, their digests,
 //! memset and memcpy run in turn, on the same buffers. Before a case is timed, either side makes its call three times over on a
-//! copy of the state, and every result and byte must be alike. Then terms without faults, counted.
+//! copy of the state, and every result and byte must be alike. Then what is counted: terms without faults, and how long an entry
+//! waits where cards are dead. `calls counts` prints these alone.
 
+mod card;
 mod case;
+mod dead_leaders;
 mod fault_free;
 mod side;
+mod waits;
 
 use case::{cases, Call, Case};
 use side::Outcome;
+use std::env::args;
 use std::io::{stderr, IsTerminal};
 
 const TERMS: [u32; 2] = [64, 4096];
@@ -222,10 +227,24 @@ fn fault_free() -> Vec<Vec<String>> {
     rows
 }
 
-fn main() {
-    eprintln!("calls, {PASSES} passes");
-    println!("Beside Rust: its time over ours, above 1 ours is faster. The rest: a call less its digests.");
-    calls();
-    println!("\nA term without faults. For each committed block: rounds, frames emitted, copies of them sent, and copies relayed.");
+fn counts() {
+    println!("A term without faults. For each committed block: rounds, frames emitted, copies of them sent, and copies relayed.");
     print(&fault_free());
+    let tables = waits::tables();
+    println!("\nAn entry of round r, some cards being dead: rounds after r / timeouts until every living card has committed it;");
+    println!("before F-2: until every living card has a block of round r + f or later, for which commit waited then.");
+    println!("This library commits by {}.", tables.rule);
+    print(&tables.places);
+    println!("\nThe same where round r + f is the last of the term and its leader dead.");
+    print(&tables.ends);
+}
+
+fn main() {
+    if args().nth(1).as_deref() != Some("counts") {
+        eprintln!("calls, {PASSES} passes");
+        println!("Beside Rust: its time over ours, above 1 ours is faster. The rest: a call less its digests.");
+        calls();
+        println!();
+    }
+    counts();
 }

@@ -1,0 +1,40 @@
+//! One card on the library, for terms that are counted and not timed.
+
+use beside::frame::SIZE;
+use beside::model::{Answer, Lent, Record, LEAST_OUT};
+
+pub struct Card {
+    pub record: Record,
+    pub log: Vec<u8>,
+    masks: Vec<u16>,
+}
+
+impl Card {
+    /// A card that is not opened yet.
+    pub fn closed(term: u32) -> Card {
+        Card {
+            record: Record::default(),
+            log: vec![0; term as usize * SIZE],
+            masks: vec![0; term as usize],
+        }
+    }
+
+    /// One call, lent this entry: its answer, and the frames that it emitted.
+    pub fn call(
+        &mut self,
+        entry: &[u8],
+        call: impl FnOnce(Record, Lent) -> Answer,
+    ) -> (Answer, Vec<Vec<u8>>) {
+        let mut out = [0; LEAST_OUT];
+        let lent = Lent {
+            log: &mut self.log,
+            masks: &mut self.masks,
+            entry,
+            out: &mut out,
+        };
+        let answer = call(self.record, lent);
+        self.record = answer.record;
+        let emitted = out[..usize::from(answer.frames) * SIZE].chunks_exact(SIZE);
+        (answer, emitted.map(<[u8]>::to_vec).collect())
+    }
+}
