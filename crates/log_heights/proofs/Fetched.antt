@@ -12,9 +12,8 @@ use lib.Seq.{take-all, take-length, take-append-le, take-at, drop-append-add, dr
 use Rattle.apollo.specs.Frame.{height}
 use Rattle.apollo.specs.Log.{slot, filled, store, chain}
 use Rattle.apollo.specs.Fetch.{above}
-use Rattle.log.specs.Slots.{slotPart}
+use Rattle.frame.proofs.Frames.{frame-part}
 use Rattle.log_heights.specs.Fetch.{isTall}
-use Rattle.log.proofs.Search.{slot-part}
 
 above-append : (h : ℕ) (xs ys : List (List ℕ)) → above h (xs ++ ys) ≡ above h xs ++ above h ys
 unfolding above
@@ -36,20 +35,23 @@ unfolding flatten
 flatten-append [] ys = refl
 flatten-append (x ∷ xs) ys = rw (flatten-append xs ys) (sym (append-assoc x (flatten xs) (flatten ys)))
 
--- slot r of a log, stored in slot k + 1 of the out buffer
-pub slot-size : (log : List ℕ) (r : ℕ) → 0 < r → 512 * r ≤ length log → length (slotPart log r) ≡ 512
-slot-size log r g h = simp (length-take, length-drop) (omega arith)
+-- the slot above round r as the code lends it
+abbrev lent : (log : List ℕ) (r : ℕ) → List ℕ
+lent log r = take (512 * r + 512 - 512 * r) (drop (512 * r) log)
 
-pub slot-copied : (log out y x : List ℕ) (r k : ℕ) → 0 < r → x ≡ slotPart log r → y ≡ store out (k + 1) x
-    → y ≡ store out (k + 1) (slot log r)
-slot-copied log out y x r k g e d = d ∙ ap (store out (k + 1)) (e ∙ slot-part log r g)
+lent-slot : (log : List ℕ) (r : ℕ) → lent log r ≡ slot log (suc r)
+unfolding slot
+lent-slot log r = frame-part log (512 * r)
+
+pub lent-size : (log : List ℕ) (r : ℕ) → 512 * (r + 1) ≤ length log → length (lent log r) ≡ 512
+lent-size log r g = simp (length-take, length-drop) (omega arith)
 
 module _ (log : List ℕ) (h : ℕ) where
   -- the frames that fetch copies up to round r
   abbrev pub upTo : (r : ℕ) → List (List ℕ)
   upTo r = above h (chain log r)
 
-  up-more : (r : ℕ) → upTo (suc r) ≡ upTo r ++ cond (isTall log h (suc r)) (slot log (suc r) ∷ []) []
+  up-more : (r : ℕ) → upTo (suc r) ≡ upTo r ++ cond (isTall (slot log (suc r)) h) (slot log (suc r) ∷ []) []
   unfolding chain isTall
   up-more r =
       above-append h (chain log r) (cond (filled (slot log (suc r))) (slot log (suc r) ∷ []) [])
@@ -62,14 +64,10 @@ module _ (log : List ℕ) (h : ℕ) where
       rw e (le-refl _, take-length (upTo r))
   up-first r (suc d) =
       let e : r + suc d ≡ suc (r + d) = omega arith in
-      let q : List (List ℕ) = cond (isTall log h (suc (r + d))) (slot log (suc (r + d)) ∷ []) [] in
+      let q : List (List ℕ) = cond (isTall (slot log (suc (r + d))) h) (slot log (suc (r + d)) ∷ []) [] in
       let ih : (length (upTo r) ≤ length (upTo (r + d))) × (take (length (upTo r)) (upTo (r + d)) ≡ upTo r) = up-first r d in
       let l : length (upTo (r + d) ++ q) ≡ length (upTo (r + d)) + length q = length-append (upTo (r + d)) q in
       rw (e, up-more (r + d)) (omega arith, take-append-le (length (upTo r)) (upTo (r + d)) q (ih .0) ∙ ih .1)
-
-  slot-length : (r : ℕ) → 512 * (r + 1) ≤ length log → length (slot log (suc r)) ≡ 512
-  unfolding slot
-  slot-length r g = simp (length-take, length-drop) (omega arith)
 
   -- after round r: k frames copied, all those up to it
   pub record Copied (o : List ℕ) (r k : ℕ) (out : List ℕ) : Type 0 where
@@ -84,7 +82,7 @@ module _ (log : List ℕ) (h : ℕ) where
 
   module _ (o : List ℕ) (r k : ℕ) (out : List ℕ) (c : Copied o r k out) where
     -- a slot that is not among them, and one that is
-    copied-over : isTall log h (suc r) ≡ false → Copied o (suc r) k out
+    copied-over : isTall (slot log (suc r)) h ≡ false → Copied o (suc r) k out
     copied-over f =
         let e : upTo (suc r) ≡ upTo r = up-more r ∙ (rw (f, append-nil)) in
         record {
@@ -94,7 +92,7 @@ module _ (log : List ℕ) (h : ℕ) where
           bytes = rw e (c .bytes);
         }
 
-    copied-one : isTall log h (suc r) ≡ true → 512 * (k + 1) ≤ length o → length (slot log (suc r)) ≡ 512
+    copied-one : isTall (slot log (suc r)) h ≡ true → 512 * (k + 1) ≤ length o → length (slot log (suc r)) ≡ 512
         → Copied o (suc r) (k + 1) (store out (k + 1) (slot log (suc r)))
     unfolding store flatten
     copied-one t g l =
@@ -116,15 +114,16 @@ module _ (log : List ℕ) (h : ℕ) where
         }
 
     pub copied-more : (k′ : ℕ) (out′ : List ℕ) → 512 * (k + 1) ≤ length o → 512 * (r + 1) ≤ length log
-        → k′ ≡ cond (isTall log h (r + 1)) (k + 1) k → out′ ≡ cond (isTall log h (r + 1)) (store out (k + 1) (slot log (r + 1))) out
+        → k′ ≡ cond (isTall (lent log r) h) (k + 1) k → out′ ≡ cond (isTall (lent log r) h) (store out (k + 1) (lent log r)) out
         → Copied o (r + 1) k′ out′
     copied-more k′ out′ g l d e =
-        rw add-one (by (isTall log h (suc r)) refl (rw add-one at d) (rw add-one at e))
+        let s : length (slot log (suc r)) ≡ 512 = rw (lent-slot log r) at (lent-size log r l) in
+        rw add-one (by s (isTall (slot log (suc r)) h) refl (rw (lent-slot log r) at d) (rw (lent-slot log r) at e))
       where
-        by : (b : Bool) → isTall log h (suc r) ≡ b → k′ ≡ cond b (k + 1) k → out′ ≡ cond b (store out (k + 1) (slot log (suc r))) out
-            → Copied o (suc r) k′ out′
-        by true t p q = rw (p, q) (copied-one t g (slot-length r l))
-        by false t p q = rw (p, q) (copied-over t)
+        by : length (slot log (suc r)) ≡ 512 → (b : Bool) → isTall (slot log (suc r)) h ≡ b → k′ ≡ cond b (k + 1) k
+            → out′ ≡ cond b (store out (k + 1) (slot log (suc r))) out → Copied o (suc r) k′ out′
+        by s true t p q = rw (p, q) (copied-one t g s)
+        by s false t p q = rw (p, q) (copied-over t)
 
     -- all are copied, or all that fit
     pub copied-all : (t : ℕ) → t ≡ r → (k ≡ min (length (upTo t)) (length o / 512)) × (out ≡ flatten (take k (upTo t)) ++ drop (512 * k) o)

@@ -11,21 +11,19 @@ use borrow.Author.Tests.{eq-eqb, ne-eqb}
 use Rattle.apollo.specs.Frame.{kind, height, entryLength}
 use Rattle.apollo.specs.Log.{slot}
 use Rattle.apollo.specs.Read.{readable, lowest}
-use Rattle.log.specs.Slots.{slotPart}
-use Rattle.log.proofs.Search.{slot-is}
 use Rattle.frame.proofs.Frames.{frame-part}
 use Rattle.log_heights.specs.Fetch.{isTall}
 use Rattle.log_heights.specs.Read.{isReadable}
 
-module _ (log x : List ℕ) (r : ℕ) (g : 0 < r) (e : x ≡ slotPart log r) where
-  module _ (k : ℕ) (d : k ≡ kind x) where
-    pub tall-unfilled : (h : ℕ) → (k ≡ 1 → ⊥) → false ≡ isTall log h r
-    unfolding isTall
-    tall-unfilled h n = rw (slot-is log x r g e, ← d, ne-eqb k 1 n)
+-- a slot tested for fetch
+module _ (x : List ℕ) (h k : ℕ) (d : k ≡ kind x) where
+  pub not-tall : (k ≡ 1 → ⊥) → false ≡ isTall x h
+  unfolding isTall
+  not-tall n = rw (← d, ne-eqb k 1 n)
 
-    pub tall-filled : (h y : ℕ) → k ≡ 1 → y ≡ height x → ltb h y ≡ isTall log h r
-    unfolding isTall
-    tall-filled h y o q = rw (slot-is log x r g e, ← d, eq-eqb k 1 o, q)
+  pub tall : (y : ℕ) → k ≡ 1 → y ≡ height x → ltb h y ≡ isTall x h
+  unfolding isTall
+  tall y o q = rw (← d, eq-eqb k 1 o, q)
 
 -- a slot tested for read
 module _ (x : List ℕ) (h k : ℕ) (d : k ≡ kind x) where

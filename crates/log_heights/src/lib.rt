@@ -41,34 +41,32 @@ pub fn lowest(log: &[u8], h: u32, committed: u32) -> u32
     0
 }
 
-// Slot r is filled, with a height above h.
-fn is_tall(log: &[u8], h: u32, r: u32) -> bool
-    requires { ⌜ 0 < r ⌝ }
-    ensures { λ b. ⌜ b ≡ isTall (now (log .entry)) h r ⌝ }
+// Slot x is filled, with a height above h.
+fn is_tall(x: &[u8], h: u32) -> bool
+    ensures { λ b. ⌜ b ≡ isTall (now (x .entry)) h ⌝ }
 {
-    let x = log::slot(log, r);
     if frame::kind(x) != 1 {
         return false;
     }
     h < frame::height(x)
 }
 
-// Slot r is copied after the first k frames of out if its height is above h; how many frames out has then.
-fn fetch_slot(log: &[u8], h: u32, r: u32, out: &mut [u8], k: u32) -> u32
-    requires { ⌜ (0 < r) × (512 * r ≤ length (now log)) × (k < r) × (512 * (k + 1) ≤ length (now out)) ⌝ }
-    ensures { λ q. ⌜ (q ≡ cond (isTall (now (log .entry)) h r) (k + 1) k) × (q ≤ k + 1) ⌝ }
+// Slot x is copied after the first k frames of out if its height is above h; how many frames out has then.
+fn fetch_slot(x: &[u8], h: u32, out: &mut [u8], k: u32) -> u32
+    requires { ⌜ (length (now x) ≡ 512) × (k < 4294967295) × (512 * (k + 1) ≤ length (now out)) ⌝ }
+    ensures { λ q. ⌜ (q ≡ cond (isTall (now (x .entry)) h) (k + 1) k) × (q ≤ k + 1) ⌝ }
     ensures { λ _. ⌜ now (out .exit)
-        ≡ cond (isTall (now (log .entry)) h r) (Log.store (now (out .entry)) (k + 1) (Log.slot (now (log .entry)) r))
-        (now (out .entry)) ⌝ }
+        ≡ cond (isTall (now (x .entry)) h) (Log.store (now (out .entry)) (k + 1) (now (x .entry))) (now (out .entry)) ⌝ }
 {
-    if !is_tall(log, h, r) {
+    if !is_tall(x, h) {
         return k;
     }
-    log::store(out, k + 1, log::slot(log, r));
+    log::store(out, k + 1, x);
     k + 1
 }
 
-// The chain frames of height above h are copied to out, in rising round, as many as fit; how many.
+// The chain frames of height above h are copied to out, in rising round, as many as fit; how many. A slot is cut out in 512
+// bytes, and not by `log::slot`, so that the compiler knows how long the copy is.
 pub fn fetch_frames(log: &[u8], h: u32, last_round: u32, out: &mut [u8]) -> usize
     requires { ⌜ 512 * «last_round» ≤ length (now log) ⌝ }
     ensures { λ k. ⌜ k ≡ min (length (above h (Log.chain (now (log .entry)) «last_round»))) (length (now (out .entry)) / 512) ⌝ }
@@ -81,8 +79,10 @@ pub fn fetch_frames(log: &[u8], h: u32, last_round: u32, out: &mut [u8]) -> usiz
         if room <= k as usize {
             return k as usize;
         }
+        let a = 512 * (r as usize);
+        let e = a + 512;
+        k = fetch_slot(&log[a..e], h, out, k);
         r += 1;
-        k = fetch_slot(log, h, r, out, k);
     }
     k as usize
 }

@@ -2,16 +2,15 @@
 // call prints its answer and the digest of what it was lent. The head of tests/src/emit.rs has the format. A line that is
 // none of these is told on standard error and passed over. The lists and what they have to print are those of the Rust
 // implementation: cd tests && cargo run --release -- emit ../crates/mixed/stdin ../crates/mixed/stdout 1 2000
-mod input;
-mod print;
-
 use apollo::Answer;
 use apollo::Height;
 use apollo::Replica;
 use apollo::Round;
 use apollo::Ticks;
-use input::Input;
-use input::Task;
+use mixed_lines::input;
+use mixed_lines::input::Input;
+use mixed_lines::input::Task;
+use mixed_lines::print;
 ghost use mathlib.Core.Path.{_≡_};
 ghost use Prim.Native.Nat.{_<_};
 ghost use lib.ListN.{length};

@@ -4,7 +4,7 @@ use Prim.Native.Nat.{_≤_, _-_}
 use native.Mathlib.Omega.{arith}
 use lib.ListN.{length}
 use borrow.Author.Needs.{needs}
-use Rattle.log_heights.proofs.Fetched.{Copied, copied-none, copied-more, copied-all, copied-full}
+use Rattle.log_heights.proofs.Fetched.{lent-size, Copied, copied-none, copied-more, copied-all, copied-full}
 use Rattle.log_heights.proofs.fetch_frames.Statement.{statement}
 use Rattle.log_heights.proofs.fetch_frames.Tie as tie
 
@@ -18,13 +18,29 @@ loop-holds : tie.Need-loop-holds Inv-loop μ-loop
 loop-holds c = (search needs, search needs, refl, copied-none _ _ _)
 
 returns : tie.Need-returns Inv-loop μ-loop
-returns c = copied-full (c .before .before .before .before .before .args .log .now) (c .before .before .before .before .before .args .h) (c .before .before .before .before .before .args .out .now) (c .before .before .loop .r) (c .before .before .loop .k) (c .before .before .loop .out) (c .before .before .loop .inv .3) (c .before .before .before .before .before .args .last-round) (omega arith) (c .if1 .taken)
+returns c =
+    let l = c .before .before in
+    let a = l .before .before .before .args in
+    copied-full (a .log .now) (a .h) (a .out .now) (l .loop .r) (l .loop .k) (l .loop .out) (l .loop .inv .3) (a .last-round) (omega arith) (c .if1 .taken)
+
+fetch-slot-requires : tie.Need-fetch-slot-requires Inv-loop μ-loop
+fetch-slot-requires c κs =
+    let l = c .before .before .before .before in
+    (lent-size (l .before .before .before .args .log .now) (l .loop .r) (omega arith), omega arith, omega arith)
 
 loop-again : tie.Need-loop-again Inv-loop μ-loop
-loop-again c = (search needs, search needs, search needs, copied-more (c .before .before .before .before .before .before .before .before .before .args .log .now) (c .before .before .before .before .before .before .before .before .before .args .h) (c .before .before .before .before .before .before .before .before .before .args .out .now) (c .before .before .before .before .before .before .loop .r) (c .before .before .before .before .before .before .loop .k) (c .before .before .before .before .before .before .loop .out) (c .before .before .before .before .before .before .loop .inv .3) _ _ (omega arith) (omega arith) (c .before .before .fetch-slot .ensures .0 .0) (c .before .before .fetch-slot .ensures .1))
+loop-again c =
+    let f = c .before .before in
+    let l = f .before .before .before .before .before in
+    let a = l .before .before .before .args in
+    let e = f .fetch-slot .ensures in
+    (search needs, search needs, search needs, copied-more (a .log .now) (a .h) (a .out .now) (l .loop .r) (l .loop .k) (l .loop .out) (l .loop .inv .3) _ _ (omega arith) (omega arith) (e .0 .0) (e .1))
 
 returns-2 : tie.Need-returns-2 Inv-loop μ-loop
-returns-2 c = copied-all (c .before .before .before .before .args .log .now) (c .before .before .before .before .args .h) (c .before .before .before .before .args .out .now) (c .before .loop .r) (c .before .loop .k) (c .before .loop .out) (c .before .loop .inv .3) (c .before .before .before .before .args .last-round) (omega arith)
+returns-2 c =
+    let l = c .before in
+    let a = l .before .before .before .args in
+    copied-all (a .log .now) (a .h) (a .out .now) (l .loop .r) (l .loop .k) (l .loop .out) (l .loop .inv .3) (a .last-round) (omega arith)
 
 pub fetch-frames-spec : {M : Type 1} → statement M
 fetch-frames-spec =
@@ -38,7 +54,13 @@ fetch-frames-spec =
     (λ c. search needs)
     returns
     (λ c. search needs)
-    (λ c κs. search needs)
+    (λ c. search needs)
+    (λ c. search needs)
+    (λ c. search needs)
+    (λ c. search needs)
+    (λ c. search needs)
+    fetch-slot-requires
+    (λ c. search needs)
     (λ c. search needs)
     loop-again
     (λ c. search needs)

@@ -1,24 +1,21 @@
--- `mixed::print::pairs` is safe and ends. The measure is what is left of the masks. Assumes nothing.
+-- `mixed_lines::print::hex` is safe and ends. The measure is what is left of the digest. Assumes nothing.
 use Prim.Native.Nat.{_-_}
 use borrow.Author.Needs.{needs}
-use Rattle.mixed.proofs.print.pairs.Statement.{statement}
-use Rattle.mixed.proofs.print.pairs.Tie as tie
+use Rattle.mixed_lines.proofs.print.hex.Statement.{statement}
+use Rattle.mixed_lines.proofs.print.hex.Tie as tie
 
 abbrev Inv-loop : tie.InvT-loop
-Inv-loop masks count bytes₀ n i₀ bytes i = Unit {0}
+Inv-loop d digits₀ i₀ digits i = Unit {0}
 
 abbrev μ-loop : tie.MeasureT-loop
-μ-loop masks count bytes₀ n i₀ bytes i = n - i
+μ-loop d digits₀ i₀ digits i = 32 - i
 
-pub pairs-spec : {M : Type 1} → statement M
-pairs-spec =
+pub hex-spec : {M : Type 1} → statement M
+hex-spec =
     tie.close
     (tie.spec
     Inv-loop
     μ-loop
-    (λ c κs. search needs)
-    (λ c. search needs)
-    (λ c. search needs)
     (λ c. search needs)
     (λ c. search needs)
     (λ c κs. search needs)
@@ -27,6 +24,7 @@ pairs-spec =
     (λ c. search needs)
     (λ c. search needs)
     (λ c κs. search needs)
+    (λ c. search needs)
     (λ c. search needs)
     (λ c. search needs)
     (λ c. search needs)

@@ -1,7 +1,7 @@
--- `mixed::input::read_line` is safe and ends. The measure is the number of turns left. Assumes nothing.
+-- `mixed_lines::input::read_line` is safe and ends. The measure is the number of turns left. Assumes nothing.
 use borrow.Author.Needs.{needs}
-use Rattle.mixed.proofs.input.read_line.Statement.{statement}
-use Rattle.mixed.proofs.input.read_line.Tie as tie
+use Rattle.mixed_lines.proofs.input.read_line.Statement.{statement}
+use Rattle.mixed_lines.proofs.input.read_line.Tie as tie
 
 abbrev Inv-loop : tie.InvT-loop
 Inv-loop input buf₀ bytes₀ reader₀ line₀ turns₀ buf bytes reader line turns = Unit {0}

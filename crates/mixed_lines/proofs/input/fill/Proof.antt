@@ -1,8 +1,8 @@
--- `mixed::input::fill` is safe and ends. The measure is what is left of the piece. Assumes nothing.
+-- `mixed_lines::input::fill` is safe and ends. The measure is what is left of the piece. Assumes nothing.
 use Prim.Native.Nat.{_-_}
 use borrow.Author.Needs.{needs}
-use Rattle.mixed.proofs.input.fill.Statement.{statement}
-use Rattle.mixed.proofs.input.fill.Tie as tie
+use Rattle.mixed_lines.proofs.input.fill.Statement.{statement}
+use Rattle.mixed_lines.proofs.input.fill.Tie as tie
 
 abbrev Inv-loop : tie.InvT-loop
 Inv-loop bytes₀ l i₀ e bytes i = Unit {0}
