@@ -61,7 +61,11 @@ pub struct Case {
 impl Case {
     /// Whether the time beyond the digests is worth a figure of its own.
     pub fn has_rest(&self) -> bool {
-        self.zeroed.is_some() || matches!(self.call, Call::Blames | Call::BlameEach)
+        let blames = matches!(
+            self.call,
+            Call::Blame { .. } | Call::Blames | Call::BlameEach
+        );
+        self.zeroed.is_some() || blames
     }
 }
 
@@ -148,6 +152,23 @@ fn blame_that_sets_a_bit(term: u32) -> Case {
     case
 }
 
+/// The last blame that the round lacks; the card does not lead the next round.
+fn blame_that_passes(term: u32) -> Case {
+    let mut case = case(
+        "blame that certifies",
+        Call::Blame { mask: 0 },
+        term,
+        term / 2,
+    );
+    let Record { own, round, .. } = case.record;
+    let signer = |i: u8| (own + 1 + i) % (2 * F + 1);
+    let mask = (1..=F).map(|i| 1 << signer(i)).sum();
+    case.call = Call::Blame { mask };
+    case.frames = frame::blame(signer(0), round).to_vec();
+    case.digests = 1;
+    case
+}
+
 /// The last blame that the round lacks; the card leads the next round, and proposes.
 fn blame_that_certifies(term: u32) -> Case {
     let (round, proposer) = (term / 2 + 1, leader(term / 2 + 2, F));
@@ -202,6 +223,7 @@ pub fn cases(term: u32) -> Vec<Case> {
         case("tick", Call::Tick, term, term / 2),
         tick_that_blames(term),
         blame_that_sets_a_bit(term),
+        blame_that_passes(term),
         blame_that_certifies(term),
         set("blames of f + 1, f = 7", Call::Blames, term),
         set("the same by blame, one by one", Call::BlameEach, term),
