@@ -5,7 +5,7 @@ use apollo::Setup;
 use apollo::Verdict;
 ghost use mathlib.Core.Path.{_≡_};
 ghost use mathlib.Core.Bool.{_&&_, not};
-ghost use Prim.Native.Nat.{_≤_, _<_};
+ghost use Prim.Native.Nat.{_*_, _≤_, _<_};
 ghost use lib.Dec.{eqb};
 ghost use lib.ListN.{length};
 ghost use Rattle.sha256.specs.Fips.{sha256};
@@ -38,7 +38,7 @@ fn fault(s: Setup, x: &[u8]) -> u8
 
 // 7 and 8 of the frames, lowest first.
 fn judge_each(s: Setup, frames: &[u8]) -> Verdict
-    requires { ⌜ length (now frames) ≤ 7680 ⌝ }
+    requires { ⌜ length (now frames) ≤ 512 * 15 ⌝ }
     ensures { λ v. ⌜ v ≡ Judging.judgedEach sha256 (blameForm s) 0 (framesOf (now (frames .entry))) ⌝ }
 {
     let n = frames.len() / 512;
@@ -141,7 +141,7 @@ fn judge_together(r: Replica, masks: &[u16], frames: &[u8]) -> Verdict
 
 // 7 and 8 frame by frame, and what follows them.
 fn judge_frames(r: Replica, masks: &[u16], frames: &[u8]) -> Verdict
-    requires { ⌜ (r .f ≤ 7) × (length (now frames) ≤ 7680) ⌝ }
+    requires { ⌜ (r .f ≤ 7) × (length (now frames) ≤ 512 * 15) ⌝ }
     ensures { λ v. ⌜ v ≡ Set.judgedFrames r (now (masks .entry)) (now (frames .entry)) ⌝ }
 {
     let each = judge_each(record::setup(r), frames);
