@@ -108,7 +108,7 @@ fn noted(t: Table, l: Task) -> Table {
     }
     next.lines = std::num::wrapping_add_u64(t.lines, 1);
     if l.letter == 0 {
-        print::no_command(next.lines);
+        text::no_command(next.lines);
     }
     recorded(next, l)
 }

@@ -1,8 +1,6 @@
 // Lines of text, each written at once. One that could not be written is told, and false is the answer.
 use apollo::Answer;
 use apollo::Fetched;
-use libc::STDERR_FILENO;
-use libc::STDOUT_FILENO;
 ghost use Prim.Native.Nat.{_≤_};
 
 fn glyph(d: u8) -> u8 {
@@ -31,11 +29,7 @@ fn row(ns: &[u64], d: [u8; 32]) -> bool {
     let digits = hex(d);
     let a = 1 - cut(ns.len(), 1); // a space only after numbers
     let n = text::put_row(&mut line, 0, ns, &digits[a..66]);
-    let is_written = io::write_all(STDOUT_FILENO, &line[0..n]);
-    if !is_written {
-        os::fail(b"standard output");
-    }
-    is_written
+    text::print(&line[0..n])
 }
 
 // Prints the digest of some bytes.
@@ -148,13 +142,4 @@ pub fn fetched(x: Fetched, log: &[u8], out: &[u8]) -> bool {
     let ns = [x.number as u64, x.count as u64];
     let masks = [0u16; 0];
     row(&ns, lent_digest(log, &masks, 0, out))
-}
-
-// Tells that a line of the input is no command.
-pub fn no_command(number: u64) {
-    let mut line = [0u8; 64];
-    slices::copy(&mut line[..5], b"line ");
-    let ns = [number];
-    let n = text::put_row(&mut line, 5, &ns, b": no command\n");
-    io::write_all(STDERR_FILENO, &line[0..n]);
 }

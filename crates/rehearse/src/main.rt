@@ -109,7 +109,7 @@ fn noted(t: Table, input: Input, c: Step) -> Table {
     }
     next.lines = std::num::wrapping_add_u64(t.lines, 1);
     if 2 < input::target(l) {
-        print::no_command(next.lines);
+        text::no_command(next.lines);
     }
     let i = c.i;
     if i < 3 {

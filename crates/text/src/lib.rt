@@ -1,5 +1,7 @@
-// Text: a row of numbers put into a lent buffer, and the bytes of standard input one by one.
+// Text: a row of numbers put into a lent buffer, the bytes of standard input one by one, and lines written, each at once.
+use libc::STDERR_FILENO;
 use libc::STDIN_FILENO;
+use libc::STDOUT_FILENO;
 ghost use mathlib.Core.Path.{_≡_};
 ghost use Prim.Native.Nat.{_≤_, min};
 ghost use lib.ListN.{length};
@@ -106,4 +108,22 @@ pub fn next(r: Reader, buf: &mut [u8; 4096]) -> Reader
     fresh.at = 0;
     fresh.end = fill(buf);
     take(fresh, buf)
+}
+
+// Writes a line to standard output. One that could not be written is told, and false is the answer.
+pub fn print(line: &[u8]) -> bool {
+    let is_written = io::write_all(STDOUT_FILENO, line);
+    if !is_written {
+        os::fail(b"standard output");
+    }
+    is_written
+}
+
+// Tells that a line of the input is no command.
+pub fn no_command(number: u64) {
+    let mut line = [0u8; 64];
+    let ns = [number];
+    let a = put_bytes(&mut line, 0, b"line ");
+    let n = put_row(&mut line, a, &ns, b": no command\n");
+    io::write_all(STDERR_FILENO, &line[0..n]);
 }
