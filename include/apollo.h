@@ -249,20 +249,20 @@ apollo_answer apollo_blames(apollo_replica replica, uint8_t *log, size_t log_len
                             size_t out_len);
 
 /* One tick of the clock. The tick that brings the timer to 0 emits the card's blame for the round waited for; if that is the last of
- * f + 1, the round is passed over as by a blame, and may commit a block as well. Else the card waits on, and still takes the round's
- * block. With no ticks left nothing happens.
+ * f + 1, the round is passed over as by a blame, and a block may be committed with it. Else the card waits on, and still takes the
+ * round's block. With no ticks left nothing happens.
  * Refuses 2 to 5. */
 apollo_answer apollo_tick(apollo_replica replica, uint8_t *log, size_t log_len, uint16_t *masks, size_t masks_len,
                           const uint8_t *entry, size_t entry_len, uint8_t *out, size_t out_len);
 
-/* Shows the entry at a committed height, 1 for the oldest, as a part of the log. It walks up from slot 1: 43 ns for the newest entry of
- * a half full log with T = 64, 11 us with T = 4,096 (docs/PERFORMANCE.md). To go through a long list, read the slots.
+/* Shows the entry at a committed height, 1 for the oldest, as a part of the log. It walks up from slot 1: 36 ns for the newest entry of
+ * a full log with T = 64, 8 us with T = 4,096 (docs/PERFORMANCE.md). To go through a long list, read the slots.
  * Refuses 2, 15. */
 apollo_part apollo_read(apollo_replica replica, const uint8_t *log, size_t log_len, apollo_height height);
 
 /* Copies held blocks of a height above the given one to out, oldest first, committed or not, for a neighbour to hand in as a branch
  * (split before a skipped round whose blames it lacks). Go on from the height of the last frame copied until it answers 15. It walks
- * the whole log: 0.8 us for all of 64 slots, 157 us for all of 4,096.
+ * the whole log: 0.7 us for all of 64 slots, 128 us for all of 4,096.
  * Refuses 2, 4, 15. */
 apollo_fetched apollo_fetch(apollo_replica replica, const uint8_t *log, size_t log_len, apollo_height height, uint8_t *out,
                             size_t out_len);

@@ -1,6 +1,5 @@
 //! What every card keeps to, whoever lies, while its host lends it what its last call left: no call
-//! answers 2, its committed list only grows, and a block is committed when its round is at most
-//! R - 1 - f.
+//! answers 2, its committed list only grows, and it ends in the highest filled slot up to R - 1 - f.
 
 use crate::call::{Call, Head, What};
 use crate::frame::{self, Frame, SIZE};

@@ -153,7 +153,7 @@ impl Cabinet {
 }
 
 fn is_over(record: &Record) -> bool {
-    record.round > record.term && record.term > 0
+    record.round > record.term
 }
 
 /// Runs a case, and holds it to the paper: what it counts, and that the living cards' lists are one.

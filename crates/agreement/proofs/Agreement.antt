@@ -124,39 +124,39 @@ module _ (s : Setup) (correct : ℕ → Bool) (calls : List (ℕ × Call)) (p : 
   abbrev w : World
   w = run start calls
 
-  v : Inv s w
-  v = run-inv s calls start (p .lawful) (start-inv s)
+  invariant : Inv s w
+  invariant = run-inv s calls start (p .lawful) (start-inv s)
 
-  h : Honest s correct (w .past)
-  h =
+  honest : Honest s correct (w .past)
+  honest =
       record {
         mostly = p .mostly;
         authentic = run-authentic s correct calls start (p .lawful) (p .unforged) (start-inv s) (start-authentic s correct);
         patient = p .patient;
         distinct = p .distinct;
-        tidy = v .tidy;
+        tidy = invariant .tidy;
       }
 
   -- of two replicas, the second one's R not the lower
   module _ (i j : ℕ) (c d : State) (ec : w .states i ≡ some c) (ed : w .states j ≡ some d) (l : c .replica .round .0 ≤ d .replica .round .0) where
     same-slots : (q : ℕ) → 1 ≤ q → q ≤ commitLimit (c .replica) → slot (c .log) q ≡ slot (d .log) q
-    same-slots = same-limit s correct (w .past) h i j c d (v .good i c ec) (v .good j d ed) l
+    same-slots = same-limit s correct (w .past) honest i j c d (invariant .good i c ec) (invariant .good j d ed) l
 
     further : c .replica .«committed_round» .0 ≤ d .replica .«committed_round» .0
     further =
-        let r : Renewed (c .replica) (c .log) = v .rests i c ec .renewed in
-        let t : Renewed (d .replica) (d .log) = v .rests j d ed .renewed in
+        let r : Renewed (c .replica) (c .log) = invariant .rests i c ec .renewed in
+        let t : Renewed (d .replica) (d .log) = invariant .rests j d ed .renewed in
         omega (
           arith,
           r .committed-is,
           t .committed-is,
           highest-grows (c .log) (d .log) (commitLimit (c .replica)) (commitLimit (d .replica))
-              (limit-grows s (w .past) i c (v .good i c ec) j d (v .good j d ed) l)
+              (limit-grows s (w .past) i c (invariant .good i c ec) j d (invariant .good j d ed) l)
               (λ q o m. sym (same-slots q o (omega (arith, highest-le (c .log) (commitLimit (c .replica)))))),
         )
 
     same-committed : (q : ℕ) → 1 ≤ q → q ≤ c .replica .«committed_round» .0 → slot (c .log) q ≡ slot (d .log) q
-    same-committed q o m = same-slots q o (omega (arith, committed-low (v .rests i c ec .renewed)))
+    same-committed q o m = same-slots q o (omega (arith, committed-low (invariant .rests i c ec .renewed)))
 
     begins-by : Begins (committed c) (committed d)
     begins-by = begins c d further same-committed
@@ -182,12 +182,12 @@ module _ (s : Setup) (correct : ℕ → Bool) (calls : List (ℕ × Call)) (p : 
 
 pub agreement : Agreement
 agreement s correct calls p =
-    let v : Inv s (run start calls) = v s correct calls p in
-    let h : Honest s correct (run start calls .past) = h s correct calls p in
+    let inv : Inv s (run start calls) = invariant s correct calls p in
+    let h : Honest s correct (run start calls .past) = honest s correct calls p in
     record {
       prefixes = prefixes s correct calls p;
-      kept = λ a. let r = v .reverting a in no-revert s correct (run start calls .past) h (r .0) (r .1) (r .2) (r .3);
-      stands = λ i j x c q ci e k m. emitted-stands s correct (run start calls .past) h i j x c q (v .good j c m) ci e k;
+      kept = λ a. let r = inv .reverting a in no-revert s correct (run start calls .past) h (r .0) (r .1) (r .2) (r .3);
+      stands = λ i j x c q ci e k m. emitted-stands s correct (run start calls .past) h i j x c q (inv .good j c m) ci e k;
     }
 
 pub by-round : ByRound
