@@ -1,5 +1,6 @@
 //! The three claims about sound cards, checked call by call on the library's buffers, and what
-//! committing by R adds to them: sound cards that wait for one round have committed the same.
+//! committing by R adds to them: sound cards that wait for one round have committed the same, and R
+//! is at most 2f + 1 above the committed round.
 //!
 //! The premises are judged from the calls themselves, so a list with calls left out is judged
 //! afresh: at most f cards that are not sound, no forged frame, and no sound card that blamed a
@@ -234,9 +235,15 @@ impl Claims {
         Ok(())
     }
 
-    /// A card has committed all frames of the longest list that its R allows.
+    /// A card has committed all frames of the longest list that its R allows, and R is at most
+    /// 2f + 1 above the last of its own.
     fn check_limit(&self, card: usize, side: &Side) -> Result<(), String> {
         let (round, committed) = (side.record.round, side.record.committed_round);
+        if committed + 2 * u32::from(self.f) + 1 < round {
+            return Err(format!(
+                "claim: card {card} waits for round {round} and has committed up to {committed} only"
+            ));
+        }
         let held = self
             .agreed
             .partition_point(|agreed| frame::round(agreed) <= committed);

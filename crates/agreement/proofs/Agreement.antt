@@ -18,14 +18,14 @@ use Rattle.apollo.specs.Outcome.{Outcome}
 use Rattle.agreement.specs.Run.{Call, opening, act, handed, emitted, In, Seen, World, start, framesIn, hand, after, opened, answer, callAt, step, run}
 use Rattle.apollo.specs.Calls.{openCall}
 use Rattle.agreement.specs.Premises.{Each, Lawful, Unforged, Premises}
-use Rattle.agreement.specs.Claim.{committed, Begins, Agreement, ByRound, NeverInvalid, OnlyGrows}
+use Rattle.agreement.specs.Claim.{committed, Begins, Agreement, ByRound, Near, NeverInvalid, OnlyGrows}
 use Rattle.agreement.proofs.Tests.{and-true, by-cond}
 use Rattle.agreement.proofs.Slots.{chain-slots, chain-more, highest-le, highest-grows}
 use Rattle.agreement.proofs.Past.{Grows, hand-grows, Given, hand-back}
 use Rattle.agreement.proofs.Good.{Renewed, committed-low, Extends, limit-grows}
 use Rattle.agreement.proofs.Valid.{valid}
 use Rattle.agreement.proofs.World.{Inv, Stepped, note-grows, note-handed, step-stepped, start-inv, run-inv}
-use Rattle.agreement.proofs.Honest.{Honest, same-limit, no-revert, emitted-stands}
+use Rattle.agreement.proofs.Honest.{Honest, same-limit, committed-near, no-revert, emitted-stands}
 
 -- a list begins another with which its replica shares the slots up to the committed round
 begins : (c d : State) → c .replica .«committed_round» .0 ≤ d .replica .«committed_round» .0
@@ -192,6 +192,11 @@ agreement s correct calls p =
 
 pub by-round : ByRound
 by-round s correct calls p i j c d ec ed = (begins-by s correct calls p i j c d ec ed, level-by s correct calls p i j c d ec ed)
+
+pub near : Near
+near s correct calls p i c e =
+    committed-near s correct (run start calls .past) (honest s correct calls p) i c (invariant s correct calls p .good i c e)
+    (invariant s correct calls p .rests i c e .renewed)
 
 pub never-invalid : NeverInvalid
 never-invalid s calls l =

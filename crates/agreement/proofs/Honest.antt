@@ -1,11 +1,12 @@
 -- The last lemma: two logs are the same up to a round that both have passed by f. Assumes the premises, as facts of the past.
-use Prim.Native.Nat.{ℕ, suc, _+_, _≤_, _<_}
-use mathlib.Core.Path.{_≡_, sym, ap, _∙_, subst}
-use mathlib.Core.Logic.{_⊎_, inl, inr}
+use Prim.Native.Nat.{ℕ, suc, _+_, _-_, _*_, _≤_, _<_}
+use mathlib.Core.Path.{_≡_, refl, sym, ap, _∙_, subst}
+use mathlib.Core.Logic.{_⊎_, inl, inr, ⊎-elim}
 use mathlib.Core.List.{List}
 use mathlib.Core.Bool.{Bool, true, false, not}
 use native.Mathlib.Omega.{arith}
-use borrow.Author.Tests.{leb-true}
+use lib.Dec.{leb}
+use borrow.Author.Tests.{leb-true, leb-false}
 use Rattle.apollo.specs.declared.Setup.{Setup}
 use Rattle.apollo.specs.Setup.{replicas, leader}
 use Rattle.apollo.specs.Frame.{kind, signer, round, digest}
@@ -15,10 +16,10 @@ use Rattle.apollo.specs.Enter.{State, commitLimit}
 use Rattle.agreement.specs.Run.{Event, emitted, In, Seen}
 use Rattle.agreement.proofs.Tests.{clash, either}
 use Rattle.agreement.proofs.Leaders.{leader-low, correct-mark, correct-round}
-use Rattle.agreement.proofs.Slots.{take-slots}
+use Rattle.agreement.proofs.Slots.{take-slots, highest-max}
 use Rattle.agreement.proofs.Chain.{filled-kind, within, agree}
 use Rattle.agreement.proofs.Stored.{Fact, Linked}
-use Rattle.agreement.proofs.Good.{Blamed, committed-low, Good, good-certified, limit-low}
+use Rattle.agreement.proofs.Good.{Blamed, Renewed, committed-low, Good, good-certified, limit-low}
 use Rattle.agreement.proofs.Effects.{Tidy}
 use Rattle.agreement.proofs.Outcomes.{Reverts}
 
@@ -90,6 +91,32 @@ module _ (s : Setup) (correct : ℕ → Bool) (past : List Event) (h : Honest s 
       let low : n + s .f < c .replica .round .0 = limit-low s past i c g n (omega arith) (omega arith) in
       same-up-to (c .masks) (d .masks) (c .log) (d .log) _ _ _ _ (g .stored .chain) (k .stored .chain) (good-passed i c g) (good-passed j d k) n
       (omega arith) low (omega (arith, low)) q m
+
+  -- one of the f + 1 rounds up to the limit of commit is filled
+  pub committed-near : (i : ℕ) (c : State) → Good s past i c → Renewed (c .replica) (c .log)
+      → c .replica .round .0 ≤ c .replica .«committed_round» .0 + 2 * s .f + 1
+  unfolding commitLimit
+  committed-near i c g r = go (leb (c .replica .round .0) (2 * s .f + 1)) refl
+    where
+      n : ℕ
+      n = c .replica .round .0 - 1 - s .f - s .f
+
+      go : (b : Bool) → leb (c .replica .round .0) (2 * s .f + 1) ≡ b
+          → c .replica .round .0 ≤ c .replica .«committed_round» .0 + 2 * s .f + 1
+      go true e = omega (arith, leb-true (c .replica .round .0) (2 * s .f + 1) e)
+      go false e =
+          let far : 2 * s .f + 1 < c .replica .round .0 = leb-false _ _ e in
+          let q : (m : ℕ) × (n ≤ m) × (m ≤ n + s .f) × (correct (leader s m) ≡ true) = correct-round s correct (h .mostly) n (omega arith) in
+          let full : filled (slot (c .log) (q .0)) ≡ true =
+          ⊎-elim (λ z. z) (λ z. absurd (clash (q .3) (good-passed i c g (q .0) (omega (arith, q .1)) (omega (arith, q .2)) z)))
+          (either (filled (slot (c .log) (q .0)))) in
+          omega (
+            arith,
+            q .1,
+            r .committed-is,
+            g .fixed .f-is,
+            highest-max (c .log) (commitLimit (c .replica)) (q .0) full (omega (arith, q .2, g .fixed .f-is)),
+          )
 
   -- a branch that passed 13 keeps what was committed
   pub no-revert : (i : ℕ) (c : State) → Good s past i c → Reverts s past c → ⊥

@@ -71,7 +71,7 @@ highest-filled b zero = inl refl
 highest-filled b (suc r) =
     by-cond (λ k. (k ≡ 0) ⊎ (filled (slot b k) ≡ true)) (filled (slot b (suc r))) (λ e. inr e) (λ _. highest-filled b r)
 
-highest-max : (b : List ℕ) (r q : ℕ) → filled (slot b q) ≡ true → q ≤ r → q ≤ highest b r
+pub highest-max : (b : List ℕ) (r q : ℕ) → filled (slot b q) ≡ true → q ≤ r → q ≤ highest b r
 unfolding highest
 highest-max b zero q e l = omega arith
 highest-max b (suc r) q e l =

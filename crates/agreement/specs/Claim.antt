@@ -1,5 +1,5 @@
--- Demand 3's claim about a whole list of calls, and four facts beyond it.
-use Prim.Native.Nat.{ℕ, _≤_}
+-- Demand 3's claim about a whole list of calls, and five facts beyond it.
+use Prim.Native.Nat.{ℕ, _+_, _*_, _≤_}
 use mathlib.Core.Path.{_≡_}
 use mathlib.Core.Logic.{_⊎_}
 use mathlib.Core.Option.{some}
@@ -46,6 +46,12 @@ ByRound =
     → run start calls .states i ≡ some c → run start calls .states j ≡ some d
     → (c .replica .round .0 ≤ d .replica .round .0 → Begins (committed c) (committed d))
     × (c .replica .round .0 ≡ d .replica .round .0 → committed c ≡ committed d)
+
+-- and R is at most 2f + 1 above the committed round
+abbrev pub Near : Type 0
+Near =
+    (s : Setup) (correct : ℕ → Bool) (calls : List (ℕ × Call)) → Premises s correct calls → (i : ℕ) (c : State)
+    → run start calls .states i ≡ some c → c .replica .round .0 ≤ c .replica .«committed_round» .0 + 2 * s .f + 1
 
 -- Beyond demand 3, with no premise about honesty or names: no state meets refusal 2, of these calls or of read and fetch
 pub record Valid (w : World) : Type 0 where
