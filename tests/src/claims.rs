@@ -239,11 +239,6 @@ impl Claims {
     /// 2f + 1 above the last of its own.
     fn check_limit(&self, card: usize, side: &Side) -> Result<(), String> {
         let (round, committed) = (side.record.round, side.record.committed_round);
-        if committed + 2 * u32::from(self.f) + 1 < round {
-            return Err(format!(
-                "claim: card {card} waits for round {round} and has committed up to {committed} only"
-            ));
-        }
         let held = self
             .agreed
             .partition_point(|agreed| frame::round(agreed) <= committed);
@@ -251,6 +246,9 @@ impl Claims {
             Some(next) if next + u32::from(self.f) < round => Err(format!(
                 "claim: card {card} waits for round {round} and has not committed round {next}, \
                  as another has"
+            )),
+            _ if committed + 2 * u32::from(self.f) + 1 < round => Err(format!(
+                "claim: card {card} waits for round {round} and has committed up to {committed} only"
             )),
             _ => Ok(()),
         }

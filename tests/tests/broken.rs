@@ -1057,7 +1057,8 @@ fn claims_find_slips_on_both_sides() {
 /// The claims about sound cards find these by themselves.
 #[test]
 fn claims_about_sound_cards_find_slips_on_both_sides() {
-    let slips: [(&str, Machine, &str); 5] = [
+    let slips: [(&str, Machine, &str); 6] = [
+        ("commits nothing", commits_nothing, "only"),
         (
             "commits one round early",
             commits_one_round_early,
