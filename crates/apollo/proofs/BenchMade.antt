@@ -153,8 +153,12 @@ up-to id n k =
 abbrev pub record-of : (id n : ℕ) → Replica
 record-of id n = up-to id n (n - 1)
 
+-- the state that enters R, before it commits, and after
+abbrev entering : (id n k : ℕ) (log masks : List ℕ) → State
+entering id n k log masks = record { replica = up-to id n k; log = log; masks = masks }
+
 abbrev pub state : (id n : ℕ) (log masks : List ℕ) → State
-state id n log masks = record { replica = record-of id n; log = log; masks = masks }
+state id n log masks = entering id n (n - 1) log masks
 
 unfoldable pub out : List ℕ
 out = zeros 1024
@@ -182,8 +186,7 @@ module _ (log : List ℕ) (n : ℕ) (holds : Holds log n) (most : n ≤ 6) where
       ap₂ (withCommitted (up-to id n k)) a b
 
   -- so entering commits
-  pub enters : (id k : ℕ) (masks : List ℕ)
-      → entered (record { replica = up-to id n k; log = log; masks = masks }) ≡ state id n log masks
+  enters : (id k : ℕ) (masks : List ℕ) → entered (entering id n k log masks) ≡ state id n log masks
   unfolding entered
   enters id k masks = ap (λ r. record { replica = r; log = log; masks = masks }) (renewed id k)
 
@@ -219,10 +222,6 @@ module _ (log : List ℕ) (n : ℕ) (holds : Holds log n) (most : n ≤ 6) where
         running = omega arith;
         room = omega (arith, length-zeros 1024);
       }
-
--- the state that enters R, before it commits
-abbrev entering : (id n k : ℕ) (log masks : List ℕ) → State
-entering id n k log masks = record { replica = up-to id n k; log = log; masks = masks }
 
 -- what entering leaves, by whether the replica leads
 entered-waits : (id n k : ℕ) (log masks : List ℕ) → n ≤ 6 → Holds log n → leads (record-of id n) ≡ false
