@@ -1,5 +1,5 @@
 -- Document 01, "A card": the log (book) of slots, the chain (line), and where a branch attaches.
-use Prim.Native.Nat.{ℕ, zero, suc, _-_, _*_}
+use Prim.Native.Nat.{ℕ, zero, suc, _+_, _-_, _*_}
 use mathlib.Core.List.{List, [], _∷_, _++_}
 use mathlib.Core.Option.{Option, none, some}
 use mathlib.Core.Bool.{Bool, _&&_, cond}
@@ -33,6 +33,11 @@ clearAbove log r = take (512 * r) log ++ zeros (length log - 512 * r)
 unfoldable pub highest : (log : List ℕ) (r : ℕ) → ℕ
 highest log zero = zero
 highest log (suc r) = cond (filled (slot log (suc r))) (suc r) (highest log r)
+
+-- F-3: how many slots the search for it "read". None found: those from round r to round 1, so 0 when no round is allowed; else those from
+-- round r to the one found, both counted
+unfoldable pub slotsRead : (log : List ℕ) (r : ℕ) → ℕ
+slotsRead log r = cond (eqb (highest log r) 0) r (r + 1 - highest log r)
 
 -- the chain (line) up to round r
 unfoldable pub chain : (log : List ℕ) (r : ℕ) → List (List ℕ)

@@ -16,6 +16,6 @@ fn commit_limit(r: Replica) -> u32
 pub fn commit(r: Replica, log: &[u8]) -> Replica
     ensures { λ q. ⌜ q ≡ commit r (now (log .entry)) ⌝ }
 {
-    let round = log::highest(log, commit_limit(r));
+    let round = log::highest(log, commit_limit(r)).round;
     record::with_committed(r, round, log::slot_height(log, round))
 }

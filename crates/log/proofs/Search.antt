@@ -1,13 +1,13 @@
--- Slots read in place, and the search downward for the highest filled. Assumes nothing.
+-- Slots read in place, and the search downward for the highest filled with what it reads. Assumes nothing.
 use mathlib.Core.Path.{_≡_, refl, sym, _∙_}
 use mathlib.Core.Bool.{true, false}
 use mathlib.Core.List.{List}
-use Prim.Native.Nat.{ℕ, zero, suc, _-_, _≤_, _<_}
+use Prim.Native.Nat.{ℕ, zero, suc, _+_, _-_, _≤_, _<_}
 use native.Mathlib.Omega.{arith}
-use lib.Dec.{eqb}
+use lib.Dec.{eqb, eqb·suc-zero}
 use Rattle.apollo.specs.Bytes.{zeros, number4}
 use Rattle.apollo.specs.Frame.{kind, height}
-use Rattle.apollo.specs.Log.{genesis, slot, filled, highest}
+use Rattle.apollo.specs.Log.{genesis, slot, filled, highest, slotsRead}
 use Rattle.log.specs.Slots.{slotPart}
 
 -- the genesis is not filled, and its height is 0
@@ -50,7 +50,22 @@ highest-below log (suc r) h e =
     let z : suc r - 1 ≡ r = omega arith in
     rw (← e, z)
 
-pub highest-none : (log : List ℕ) (r : ℕ) → r ≤ 0 → 0 ≡ highest log r
+pub highest-none : (log : List ℕ) (r : ℕ) → r ≤ 0 → r ≡ highest log r
 unfolding highest
 highest-none log zero h = refl
 highest-none log (suc r) h = absurd (omega arith)
+
+-- the slots read on the way down to slot r, which is the one found, or to none
+pub read-found : (log : List ℕ) (limit r n : ℕ) → 0 < r → n + r ≡ limit + 1 → r ≡ highest log limit → n ≡ slotsRead log limit
+unfolding slotsRead
+read-found log limit zero n h e x = absurd (omega arith)
+read-found log limit (suc r) n h e x =
+    let d : n ≡ limit + 1 - suc r = omega arith in
+    rw (← x, eqb·suc-zero r) d
+
+pub read-none : (log : List ℕ) (limit r n : ℕ) → r ≤ 0 → n + r ≡ limit → r ≡ highest log limit → n ≡ slotsRead log limit
+unfolding slotsRead
+read-none log limit zero n h e x =
+    let d : n ≡ limit = omega arith in
+    rw (← x) d
+read-none log limit (suc r) n h e x = absurd (omega arith)

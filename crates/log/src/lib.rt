@@ -8,6 +8,13 @@ ghost use Rattle.apollo.specs.Log as Log;
 ghost use Rattle.apollo.specs.Branch as Branch;
 ghost use Rattle.log.specs.Slots.{slotPart, Slotted};
 
+// What a search of the log gives.
+#[repr(C)]
+pub struct Found {
+    pub round: u32, // of the slot found, 0 if none
+    pub slots_read: u32,
+}
+
 // The slots above round r are zeroed.
 fn clear_above(log: &mut [u8], r: u32)
     ensures { λ _. ⌜ now (log .exit) ≡ Log.clearAbove (now (log .entry)) r ⌝ }
@@ -88,16 +95,18 @@ pub fn slot_height(log: &[u8], r: u32) -> u32
     frame::height(slot(log, r))
 }
 
-// The highest filled slot up to the limit, 0 if none.
-pub fn highest(log: &[u8], limit: u32) -> u32
-    ensures { λ r. ⌜ r ≡ Log.highest (now (log .entry)) limit ⌝ }
+// The highest filled slot up to the limit, from there downwards, and how many slots were read.
+pub fn highest(log: &[u8], limit: u32) -> Found
+    ensures { λ s. ⌜ (s .round ≡ Log.highest (now (log .entry)) limit) × (s .«slots_read» ≡ Log.slotsRead (now (log .entry)) limit) ⌝ }
 {
-    let mut r = limit;
-    while 0 < r {
-        if is_filled(log, r) {
-            return r;
+    let mut round = limit;
+    let mut slots_read = 0;
+    while 0 < round {
+        slots_read += 1;
+        if is_filled(log, round) {
+            return Found { round, slots_read };
         }
-        r -= 1;
+        round -= 1;
     }
-    0
+    Found { round, slots_read }
 }

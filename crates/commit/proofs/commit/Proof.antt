@@ -6,7 +6,7 @@ use Rattle.commit.proofs.commit.Tie as tie
 
 returns : tie.Need-returns
 returns c =
-    renewed _ _ (c .before .before .before .commit-limit .ensures) (c .before .before .highest .ensures) (c .before .slot-height .ensures)
+    renewed _ _ (c .before .before .before .commit-limit .ensures) (c .before .before .highest .ensures .0) (c .before .slot-height .ensures)
     (c .with-committed .ensures)
 
 pub commit-spec : {M : Type 1} → statement M

@@ -1,29 +1,36 @@
--- `log::highest` meets its contract. The loop's invariant: no slot above `r` up to the limit is filled. Assumes nothing.
+-- `log::highest` meets its contract. The loop's invariant: no slot above `round` up to the limit is filled, and each was read. Assumes nothing.
 use mathlib.Core.Path.{_≡_, refl, sym, _∙_}
-use Prim.Native.Nat.{_≤_}
+use Prim.Native.Nat.{_+_}
 use borrow.Author.Needs.{needs}
 use Rattle.apollo.specs.Log as Log
-use Rattle.log.proofs.Search.{highest-here, highest-below, highest-none}
+use Rattle.log.proofs.Search.{highest-here, highest-below, highest-none, read-found, read-none}
 use Rattle.log.proofs.highest.Statement.{statement}
 use Rattle.log.proofs.highest.Tie as tie
 
 abbrev Inv-loop : tie.InvT-loop
-Inv-loop log limit r₀ r = (r ≤ limit) × (Log.highest log r ≡ Log.highest log limit)
+Inv-loop log limit round₀ slots-read₀ round slots-read = (slots-read + round ≡ limit) × (Log.highest log round ≡ Log.highest log limit)
 
 abbrev μ-loop : tie.MeasureT-loop
-μ-loop log limit r₀ r = r
-
-loop-holds : tie.Need-loop-holds Inv-loop μ-loop
-loop-holds c = (search needs, refl)
+μ-loop log limit round₀ slots-read₀ round slots-read = round
 
 returns : tie.Need-returns Inv-loop μ-loop
-returns c = highest-here (c .before .before .before .before .before .args .log .now) (c .before .before .before .loop .r) (c .before .before .loop-test .taken) (sym (c .if1 .taken) ∙ c .before .is-filled .ensures) ∙ c .before .before .before .loop .inv .1
+returns c =
+    let found =
+    highest-here _ _ (c .before .before .loop-test .taken) (sym (c .if1 .taken) ∙ c .before .is-filled .ensures)
+    ∙ c .before .before .before .loop .inv .1 in
+    (found, read-found _ _ _ _ (c .before .before .loop-test .taken) (search needs) found)
 
 loop-again : tie.Need-loop-again Inv-loop μ-loop
-loop-again c = (search needs, highest-below (c .before .before .before .before .before .args .log .now) (c .before .before .before .loop .r) (c .before .before .loop-test .taken) (sym (c .if1 .left) ∙ c .before .is-filled .ensures) ∙ c .before .before .before .loop .inv .1)
+loop-again c = (
+  search needs,
+  highest-below _ _ (c .before .before .loop-test .taken) (sym (c .if1 .left) ∙ c .before .is-filled .ensures)
+      ∙ c .before .before .before .loop .inv .1,
+)
 
 returns-2 : tie.Need-returns-2 Inv-loop μ-loop
-returns-2 c = highest-none (c .before .before .before .args .log .now) (c .before .loop .r) (c .loop-test .left) ∙ c .before .loop .inv .1
+returns-2 c =
+    let none = highest-none _ _ (c .loop-test .left) ∙ c .before .loop .inv .1 in
+    (none, read-none _ _ _ _ (c .loop-test .left) (c .before .loop .inv .0) none)
 
 pub highest-spec : {M : Type 1} → statement M
 highest-spec =
@@ -31,7 +38,8 @@ highest-spec =
     (tie.spec
     Inv-loop
     μ-loop
-    loop-holds
+    (λ c. (search needs, refl))
+    (λ c. search needs)
     (λ c κs. search needs)
     returns
     (λ c. search needs)
