@@ -14,7 +14,7 @@ use Rattle.apollo.specs.Masks.{certified}
 use Rattle.apollo.specs.Enter.{State, commitLimit}
 use Rattle.agreement.specs.Run.{Call, World, start, run}
 use Rattle.agreement.specs.Premises.{Each, Lawful}
-use Rattle.agreement.proofs.Tests.{by-cond, cond-true, either}
+use Rattle.agreement.proofs.Tests.{clash, either, by-cond}
 use Rattle.agreement.proofs.Slots.{highest-le, highest-max}
 use Rattle.agreement.proofs.Good.{Good, good-certified, limit-low}
 use Rattle.agreement.proofs.World.{Inv, start-inv, run-inv}
@@ -32,13 +32,13 @@ read-le log r =
 skipped-run : (s : Setup) (masks : List ℕ) (q r : ℕ) → ((k : ℕ) → q < k → k ≤ r → certified s masks k ≡ true) → r ≤ q + skipped s masks r
 unfolding skipped
 skipped-run s masks q zero h = omega arith
-skipped-run s masks q (suc r) h = go (leb (suc r) q) refl (skipped-run s masks q r (λ k a b. h k a (omega arith)))
+skipped-run s masks q (suc r) h =
+    by-cond (λ n. suc r ≤ q + n) (certified s masks (suc r))
+    (λ _. omega (arith, skipped-run s masks q r (λ k a b. h k a (omega arith)))) (λ u. go u (leb (suc r) q) refl)
   where
-    go : (b : Bool) → leb (suc r) q ≡ b → r ≤ q + skipped s masks r → suc r ≤ q + skipped s masks (suc r)
-    go true e below = omega (arith, leb-true (suc r) q e)
-    go false e below =
-        let k : skipped s masks (suc r) ≡ skipped s masks r + 1 = cond-true _ _ (h (suc r) (leb-false (suc r) q e) (omega arith)) in
-        omega (arith, k)
+    go : certified s masks (suc r) ≡ false → (b : Bool) → leb (suc r) q ≡ b → suc r ≤ q + 0
+    go u true e = omega (arith, leb-true (suc r) q e)
+    go u false e = absurd (clash (h (suc r) (leb-false (suc r) q e) (omega arith)) u)
 
 -- a replica in the world of a lawful list
 module _ (s : Setup) (calls : List (ℕ × Call)) (l : Each (Lawful s) start calls) (i : ℕ) (c : State) (e : run start calls .states i ≡ some c) where
@@ -76,4 +76,4 @@ reads-skipped s calls l i c e =
     omega (arith, read-le (c .log) (limit s calls l i c e), skipped-run s (c .masks) _ _ (above s calls l i c e))
 
 pub reads-few : ReadsFew
-reads-few s correct calls p i c e = few s calls (p .lawful) i c e (near s correct calls p i c e)
+reads-few s correct calls p i c e = omega (arith, few s calls (p .lawful) i c e (near s correct calls p i c e))
