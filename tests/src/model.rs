@@ -1,4 +1,5 @@
-//! One card's step machine: open, branch, blame, blames, tick, read and fetch.
+//! One card's step machine: open, branch, blame, blames, tick, read and fetch; and the search for the
+//! last committed slot.
 //!
 //! Each call first judges everything it was handed and writes nothing until all of it has passed.
 
@@ -78,6 +79,14 @@ pub struct Fetched {
     pub count: usize,
 }
 
+/// The result of the search.
+#[derive(Clone, Copy, Debug, PartialEq, Eq)]
+pub struct Search {
+    /// The round of the slot found, 0 for none.
+    pub round: u32,
+    pub slots_read: u32,
+}
+
 /// Why a call was refused.
 #[derive(Clone, Copy, Debug, PartialEq, Eq)]
 pub struct Refusal {
@@ -129,15 +138,46 @@ pub fn line_above(log: &[u8], height: u32) -> impl Iterator<Item = &Frame> {
         .filter(move |slot| frame::filled(slot) && frame::height(slot) > height)
 }
 
+/// The highest round that R allows to be committed, R - 1 - f; 0 if it allows none.
+pub fn limit(round: u32, f: u8) -> u32 {
+    round.saturating_sub(1 + u32::from(f))
+}
+
+/// The highest filled slot up to a round. The search comes down from that round and ends at the
+/// first filled slot, which it counts among those read; a round above the last slot counts as one
+/// read that is not filled.
+pub fn search(log: &[u8], limit: u32) -> Search {
+    let mut allowed = slots(log).iter().take(limit as usize);
+    match allowed.rposition(frame::filled) {
+        None => Search {
+            round: 0,
+            slots_read: limit,
+        },
+        Some(index) => Search {
+            round: index as u32 + 1,
+            slots_read: limit - index as u32,
+        },
+    }
+}
+
+/// The round of the same slot by a walk up from round 1, which reads every slot allowed.
+pub fn walk_up(log: &[u8], limit: u32) -> u32 {
+    let mut found = 0;
+    for (slot, round) in slots(log).iter().take(limit as usize).zip(1..) {
+        if frame::filled(slot) {
+            found = round;
+        }
+    }
+    found
+}
+
 /// Round and height that R commits: those of the highest filled slot up to R - 1 - f, wherever the
 /// tip is, or of the genesis.
 pub fn committed(log: &[u8], round: u32, f: u8) -> (u32, u32) {
-    let limit = round.saturating_sub(1 + u32::from(f));
-    let book = slots(log);
-    let found = book.iter().take(limit as usize).rposition(frame::filled);
-    found.map_or((0, 0), |index| {
-        (index as u32 + 1, frame::height(&book[index]))
-    })
+    match search(log, limit(round, f)).round {
+        0 => (0, 0),
+        found => (found, frame::height(slot(log, found))),
+    }
 }
 
 fn all_zero(bytes: &[u8]) -> bool {
