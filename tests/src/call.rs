@@ -91,6 +91,16 @@ impl Call {
         }
     }
 
+    /// A number from the call's own bytes, the same in every list that has the call.
+    pub fn mark(&self) -> u64 {
+        let frames = self.handed().iter().rev();
+        let bytes = self.entry.iter().take(8).chain(frames.take(8));
+        let start = (self.card + self.out_len + self.log_len) as u64;
+        bytes.fold(start, |mark, byte| {
+            mark.wrapping_mul(0x100_0000_01b3) ^ u64::from(*byte)
+        })
+    }
+
     /// The bytes lent for frames.
     pub fn handed(&self) -> &[u8] {
         match &self.what {

@@ -1,6 +1,6 @@
 //! The three claims about sound cards, checked call by call on the library's buffers, and what
-//! committing by R adds to them: sound cards that wait for one round have committed the same, and R
-//! is at most 2f + 1 above the committed round.
+//! committing by R adds to them: sound cards that wait for one round have committed the same, R is at
+//! most 2f + 1 above the committed round, and the search for it reads at most f + 1 slots.
 //!
 //! The premises are judged from the calls themselves, so a list with calls left out is judged
 //! afresh: at most f cards that are not sound, no forged frame, and no sound card that blamed a
@@ -10,7 +10,7 @@ use std::collections::HashSet;
 
 use crate::call::{Call, Head, What};
 use crate::frame::{self, Frame, Name};
-use crate::model::{cards, leader, slots, Answer};
+use crate::model::{cards, leader, slots, Answer, Search};
 use crate::rules::Rules;
 use crate::runner::{Outcome, Side};
 
@@ -120,16 +120,18 @@ impl Claims {
             && frame::check_is_right(frame)
     }
 
-    /// Checks the claims after a call at a card; the sides and the out buffer are the library's.
+    /// Checks the claims after a call at a card; the sides, the out buffer and the search of the
+    /// card's book up to R - 1 - f are the library's.
     pub fn after(
         &mut self,
         call: &Call,
         outcome: &Outcome,
         sides: &[Side],
         out: &[u8],
+        search: Search,
     ) -> Result<Due, String> {
         if let Some(rules) = &mut self.rules {
-            rules.after(call, outcome, &sides[call.card])?;
+            rules.after(call, outcome, &sides[call.card], search)?;
         }
         if self.broken.is_some() || !self.is_sound(call.card) {
             return Ok(Due::default());
@@ -155,6 +157,7 @@ impl Claims {
         for (card, side) in cards {
             self.check_limit(card, side)?;
         }
+        self.check_search(call.card, search)?;
         self.due = true;
         self.checked += 1;
         Ok(self.tips(call.card, sides))
@@ -252,6 +255,17 @@ impl Claims {
             )),
             _ => Ok(()),
         }
+    }
+
+    /// One of f + 1 rounds in a row has a sound leader, whose block stands in every line.
+    fn check_search(&self, card: usize, search: Search) -> Result<(), String> {
+        let read = search.slots_read;
+        if read <= u32::from(self.f) + 1 {
+            return Ok(());
+        }
+        Err(format!(
+            "claim: the search of card {card} read {read} slots, more than f + 1"
+        ))
     }
 
     /// The third claim for a new block at a card that was checked before.

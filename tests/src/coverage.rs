@@ -1,4 +1,4 @@
-//! How often each refusal of each call and each way of taking was reached.
+//! How often each refusal of each call, each way of taking and each way of a search was reached.
 
 use std::collections::BTreeMap;
 
@@ -7,8 +7,8 @@ use crate::changes;
 use crate::claims::Due;
 use crate::frame::{self, Frame, SIZE};
 use crate::model::{attaching, cards, committed, shown, slots};
-use crate::model::{Answer, Fetched, Part, Record, MOST_BLAMES};
-use crate::runner::{Outcome, Side};
+use crate::model::{Answer, Fetched, Part, Record, Search, MOST_BLAMES};
+use crate::runner::{Outcome, Searched, Side};
 
 /// Refusals that each call can give.
 const REFUSALS: &[(&str, &[u8])] = &[
@@ -118,6 +118,15 @@ const WAYS: &[Row] = &[
     ("fetch", "all frames"),
     ("fetch", "a part of the frames"),
     ("digest", "made"),
+    ("search", "no round allowed"),
+    ("search", "found at the limit"),
+    ("search", "found, 1 round skipped"),
+    ("search", "found, 2 or more rounds skipped"),
+    ("search", "none filled"),
+    ("search", "limit above the log"),
+    ("search", "f + 1 slots read"),
+    ("search", "kind 2 passed over"),
+    ("search", "another kind passed over"),
 ];
 
 /// Rows of a call that have to be reached while the claims are due, too, and their group.
@@ -187,6 +196,18 @@ const CLAIMED: &[(&str, &str, &[&str])] = &[
             "commits, no block stored",
             "commits, block put out",
             "commits at R = T + 1",
+        ],
+    ),
+    (
+        "search",
+        "claims, search",
+        &[
+            "no round allowed",
+            "found at the limit",
+            "found, 1 round skipped",
+            "found, 2 or more rounds skipped",
+            "none filled",
+            "f + 1 slots read",
         ],
     ),
 ];
@@ -325,6 +346,7 @@ impl Coverage {
             }
         }
         rows.extend(WAYS.iter().filter(|row| row.0 == "digest"));
+        rows.extend(WAYS.iter().filter(|row| row.0 == "search"));
         rows.extend(changes::rows());
         for &(_, group, claimed) in CLAIMED {
             rows.extend(claimed.iter().map(|row| (group, *row)));
@@ -660,6 +682,45 @@ impl Coverage {
             0 => self.add("fetch", "a part of the frames"),
             number => self.refusal(call, number),
         }
+    }
+
+    /// Counts the searches after a call at a card; the claims are about the first.
+    pub fn searches(&mut self, searched: &[Searched], side: &Side) {
+        for searched in searched {
+            self.search(searched, side);
+            self.due = false;
+        }
+    }
+
+    fn search(&mut self, searched: &Searched, side: &Side) {
+        let Searched { slots, limit, .. } = *searched;
+        let Search { round, slots_read } = searched.answer;
+        let (found, skipped) = (round > 0, limit - round);
+        let top = slots.min(limit as usize);
+        let passed_over = || (round + 1..=top as u32).map(|round| frame::kind(side.slot(round)));
+        self.add_all(
+            "search",
+            &[
+                (limit == 0, "no round allowed"),
+                (found && skipped == 0, "found at the limit"),
+                (found && skipped == 1, "found, 1 round skipped"),
+                (found && skipped > 1, "found, 2 or more rounds skipped"),
+                (limit > 0 && !found, "none filled"),
+                (limit as usize > slots, "limit above the log"),
+                (
+                    slots_read == u32::from(side.record.f) + 1,
+                    "f + 1 slots read",
+                ),
+                (
+                    passed_over().any(|kind| kind == frame::BLAME),
+                    "kind 2 passed over",
+                ),
+                (
+                    passed_over().any(|kind| kind > frame::BLAME),
+                    "another kind passed over",
+                ),
+            ],
+        );
     }
 
     pub fn rows(&self) -> &[Row] {

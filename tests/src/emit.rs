@@ -98,9 +98,10 @@ impl Trial {
     fn new(seed: u64) -> Trial {
         let (mut emitted, mut coverage) = (Emitted::default(), Coverage::new());
         emitted.list(seed, u64::MAX, &mut coverage);
-        let counts = coverage
-            .rows()
-            .iter()
+        // The program that reads the list makes no searches.
+        let rows = coverage.rows().iter();
+        let counts = rows
+            .filter(|row| !row.0.ends_with("search"))
             .map(|row| (*row, coverage.count(row)));
         Trial {
             seed,

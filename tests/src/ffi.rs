@@ -1,10 +1,11 @@
-//! The C interface of the library: its structs and functions, and the archive behind `Library`.
+//! The C interface of the library: its structs and functions, and the archives behind `Library`. The
+//! search has an archive of its own, which no host links.
 
 use crate::model::Record;
 #[cfg(apollo_lib)]
 use crate::{
     library::Library,
-    model::{Answer, Fetched, Lent, Part, Setup},
+    model::{Answer, Fetched, Lent, Part, Search, Setup},
 };
 
 #[repr(C)]
@@ -63,6 +64,13 @@ pub struct ApolloPart {
 pub struct ApolloFetched {
     pub number: u8,
     pub count: usize,
+}
+
+#[repr(C)]
+#[derive(Clone, Copy, Debug, PartialEq, Eq)]
+pub struct ApolloSearch {
+    pub round: u32,
+    pub slots_read: u32,
 }
 
 extern "C" {
@@ -152,6 +160,8 @@ extern "C" {
     ) -> ApolloFetched;
 
     pub fn apollo_digest(bytes: *const u8, len: usize, digest: *mut u8);
+
+    pub fn apollo_search(log: *const u8, log_len: usize, limit: u32) -> ApolloSearch;
 }
 
 impl From<Record> for ApolloReplica {
@@ -191,7 +201,7 @@ impl From<ApolloReplica> for Record {
     }
 }
 
-/// The linked archive. It keeps nothing between calls.
+/// The linked archives. They keep nothing between calls.
 #[cfg(apollo_lib)]
 pub struct Archive;
 
@@ -329,6 +339,14 @@ impl Library for Archive {
         unsafe { apollo_digest(bytes.as_ptr(), bytes.len(), digest.as_mut_ptr()) };
         digest
     }
+
+    fn search(&self, log: &[u8], limit: u32) -> Search {
+        let search = unsafe { apollo_search(log.as_ptr(), log.len(), limit) };
+        Search {
+            round: search.round,
+            slots_read: search.slots_read,
+        }
+    }
 }
 
 #[cfg(test)]
@@ -352,6 +370,8 @@ mod tests {
         assert_eq!(offset_of!(ApolloPart, start), 8);
         assert_eq!(size_of::<ApolloFetched>(), 16);
         assert_eq!(offset_of!(ApolloFetched, count), 8);
+        assert_eq!(size_of::<ApolloSearch>(), 8);
+        assert_eq!(offset_of!(ApolloSearch, slots_read), 4);
     }
 
     #[test]

@@ -1,6 +1,6 @@
-//! What is compared: anything that offers the eight functions.
+//! What is compared: anything that offers the eight functions of a host, and the search by itself.
 
-use crate::model::{self, Answer, Fetched, Lent, Part, Record, Setup};
+use crate::model::{self, Answer, Fetched, Lent, Part, Record, Search, Setup};
 use crate::sha256;
 
 pub trait Library {
@@ -12,6 +12,8 @@ pub trait Library {
     fn read(&self, record: Record, log: &[u8], height: u32) -> Part;
     fn fetch(&self, record: Record, log: &[u8], height: u32, out: &mut [u8]) -> Fetched;
     fn digest(&self, bytes: &[u8]) -> [u8; 32];
+    /// Asked of whole slots, and of any limit.
+    fn search(&self, log: &[u8], limit: u32) -> Search;
 }
 
 /// The model in the library's place.
@@ -49,9 +51,13 @@ impl Library for Model {
     fn digest(&self, bytes: &[u8]) -> [u8; 32] {
         sha256::digest(bytes)
     }
+
+    fn search(&self, log: &[u8], limit: u32) -> Search {
+        model::search(log, limit)
+    }
 }
 
-/// The library under test: the archive if it is linked, else the model.
+/// The library under test: the archives if they are linked, else the model.
 pub fn under_test() -> Box<dyn Library> {
     #[cfg(apollo_lib)]
     return Box::new(crate::ffi::Archive);

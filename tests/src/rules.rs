@@ -1,9 +1,11 @@
 //! What every card keeps to, whoever lies, while its host lends it what its last call left: no call
 //! answers 2, its committed list only grows, and it ends in the highest filled slot up to R - 1 - f.
+//! The search finds that slot, and reads at most one slot more than there are shown rounds in a row
+//! from R - 1 - f down.
 
 use crate::call::{Call, Head, What};
 use crate::frame::{self, Frame, SIZE};
-use crate::model::slots;
+use crate::model::{limit, shown, slots, Search};
 use crate::runner::{Outcome, Side};
 
 pub struct Rules {
@@ -25,8 +27,14 @@ impl Rules {
         self.lists[card] = None;
     }
 
-    /// Checks them after a call at a card; the side is the library's.
-    pub fn after(&mut self, call: &Call, outcome: &Outcome, side: &Side) -> Result<(), String> {
+    /// Checks them after a call at a card; the side and the search are the library's.
+    pub fn after(
+        &mut self,
+        call: &Call,
+        outcome: &Outcome,
+        side: &Side,
+        search: Search,
+    ) -> Result<(), String> {
         let taken = outcome.answer().is_some_and(|answer| answer.number == 0);
         match &call.what {
             What::Open(setup) if taken => {
@@ -51,6 +59,9 @@ impl Rules {
                 "claim: card {card} has committed another slot than its R gives"
             ));
         }
+        if taken {
+            check_search(call.card, side, search)?;
+        }
         Ok(())
     }
 }
@@ -72,4 +83,27 @@ fn is_by_rule(side: &Side) -> bool {
     let last = (1..=record.term).take_while(allowed).filter(filled).last();
     let height = last.map_or(0, |round| frame::height(side.slot(round)));
     (record.committed_round, record.committed_height) == (last.unwrap_or(0), height)
+}
+
+/// Every round below R is shown or has a filled slot, so the search passes over shown rounds alone.
+fn check_search(card: usize, side: &Side, search: Search) -> Result<(), String> {
+    let record = &side.record;
+    let Search { round, slots_read } = search;
+    if round != record.committed_round {
+        let committed = record.committed_round;
+        return Err(format!(
+            "claim: the search of card {card} found round {round}, committed is round {committed}"
+        ));
+    }
+    let masks = side.masks.part(record.term as usize);
+    let shown = |round: &u32| shown(masks[*round as usize - 1], record.f);
+    let rounds = (1..=limit(record.round, record.f)).rev();
+    let in_a_row = rounds.take_while(shown).count() as u32;
+    if slots_read > in_a_row + 1 {
+        return Err(format!(
+            "claim: the search of card {card} read {slots_read} slots, with {in_a_row} shown rounds \
+             in a row from R - 1 - f down"
+        ));
+    }
+    Ok(())
 }

@@ -5,12 +5,16 @@ use crate::claims::Claims;
 use crate::coverage::{Before, Coverage};
 use crate::frame::{Frame, SIZE};
 use crate::library::{Library, Model};
-use crate::model::{self, Answer, Fetched, Lent, Part, Record};
+use crate::model::{self, Answer, Fetched, Lent, Part, Record, Search};
+use crate::rng::Rng;
+use crate::show::Filled;
 
 /// Cells around a lent buffer that nobody may write; odd, so that bytes lie at odd addresses.
 const GUARD: usize = 65;
 /// Room for buffers that are too long.
 const SLACK: usize = 1024;
+/// How far above T a search begins at most.
+const ABOVE: u32 = 3;
 
 /// A lent buffer between two guards.
 #[derive(Clone)]
@@ -125,6 +129,15 @@ impl Outcome {
     }
 }
 
+/// What a search on the library came to.
+#[derive(Clone, Copy, Debug)]
+pub struct Searched {
+    /// How many slots of the book it was lent.
+    pub slots: usize,
+    pub limit: u32,
+    pub answer: Search,
+}
+
 /// What a blame by itself came to.
 struct Alone {
     answer: Answer,
@@ -159,6 +172,8 @@ pub struct Runner<'l> {
     /// Fills the out buffers before a call, and what is added to it each time.
     fill: u8,
     stride: u8,
+    /// T.
+    term: u32,
     pub claims: Claims,
     pub calls: u64,
 }
@@ -168,7 +183,7 @@ impl<'l> Runner<'l> {
         Runner::beside(library, &Model, head)
     }
 
-    /// Another reference than the model for open, branch, blame, blames and tick.
+    /// Another reference than the model for open, branch, blame, blames, tick and the search.
     pub fn beside(library: &'l dyn Library, reference: &'l dyn Library, head: &Head) -> Self {
         let sides = || (0..head.cards).map(|_| Side::new(head.term)).collect();
         let out = || Buffer::new(SIZE * head.term as usize + 4 * SLACK, 0, 0x5a);
@@ -183,6 +198,7 @@ impl<'l> Runner<'l> {
             handed: Vec::new(),
             fill: 0,
             stride: 37,
+            term: head.term,
             claims: Claims::new(head),
             calls: 0,
         }
@@ -228,10 +244,16 @@ impl<'l> Runner<'l> {
             What::Fetch(height) => self.fetch(call, *height)?,
             _ => self.machine(call)?,
         };
+        let searched = self.searches(call);
         self.compare(call)?;
+        let searched = searched?;
         let out = self.tried_out.part(call.out_len);
-        let due = self.claims.after(call, &outcome, &self.tried, out)?;
+        let search = searched[0].answer;
+        let due = self
+            .claims
+            .after(call, &outcome, &self.tried, out, search)?;
         coverage.call(call, &before, &outcome, due);
+        coverage.searches(&searched, &self.tried[call.card]);
         Ok(outcome)
     }
 
@@ -314,6 +336,39 @@ impl<'l> Runner<'l> {
         let digest = self.library.digest(bytes);
         same("digest", digest, crate::sha256::digest(bytes))?;
         Ok(Outcome::Digest)
+    }
+
+    /// After a call: the card's book up to R - 1 - f, and what it was lent of it up to another
+    /// round, at times one above the book.
+    fn searches(&self, call: &Call) -> Result<[Searched; 2], String> {
+        let (term, record) = (self.term, &self.tried[call.card].record);
+        let own = model::limit(record.round, record.f).min(term + ABOVE);
+        let mut rng = Rng::new(call.mark());
+        let other = match rng.below(4) {
+            0 => 0,
+            1 => term,
+            _ => rng.within(0, term + ABOVE),
+        };
+        let first = self.search(call.card, term as usize, own)?;
+        let second = self.search(call.card, call.log_len / SIZE, other)?;
+        Ok([first, second])
+    }
+
+    fn search(&self, card: usize, slots: usize, limit: u32) -> Result<Searched, String> {
+        let log = self.tried[card].log.part(SIZE * slots);
+        let answer = self.library.search(log, limit);
+        let log = self.model[card].log.part(SIZE * slots);
+        let expected = self.reference.search(log, limit);
+        if answer != expected {
+            let book = format!("{slots} slots, filled {}", Filled(log));
+            let what = format!("search in {book}, limit {limit},");
+            same(&what, answer, expected)?;
+        }
+        Ok(Searched {
+            slots,
+            limit,
+            answer,
+        })
     }
 
     /// Every byte of every buffer after a call.

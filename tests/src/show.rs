@@ -128,6 +128,33 @@ impl fmt::Display for Words<'_> {
     }
 }
 
+/// The rounds of the filled slots of a book, those in a row by their ends; many are cut.
+pub struct Filled<'a>(pub &'a [u8]);
+
+/// How many runs of rounds are shown.
+const RUNS: usize = 24;
+
+impl fmt::Display for Filled<'_> {
+    fn fmt(&self, f: &mut fmt::Formatter) -> fmt::Result {
+        let mut round = 0;
+        let mut runs = Vec::new();
+        for run in slots(self.0).chunk_by(|a, b| frame::filled(a) == frame::filled(b)) {
+            let (first, last) = (round + 1, round + run.len());
+            round = last;
+            match frame::filled(&run[0]) {
+                false => {}
+                true if first == last => runs.push(format!("{first}")),
+                true => runs.push(format!("{first} to {last}")),
+            }
+        }
+        match runs.len() {
+            0 => write!(f, "none"),
+            1..=RUNS => write!(f, "{}", runs.join(", ")),
+            _ => write!(f, "{}, ...", runs[..RUNS].join(", ")),
+        }
+    }
+}
+
 /// Bytes in hex, a long run cut.
 pub fn hex(bytes: &[u8]) -> String {
     let shown = &bytes[..bytes.len().min(32)];

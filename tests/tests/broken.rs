@@ -1,12 +1,13 @@
 //! Libraries with a slip in them: the lists have to find each, and shrink what they found.
 
+use beside::call::{Call, Head, List, State, Step, What};
 use beside::coverage::Coverage;
-use beside::drive::{replay, run, run_on, shrink};
+use beside::drive::{replay, run, run_on, shrink, Failure};
 use beside::frame::{self, Frame, SIZE};
 use beside::library::Library;
 use beside::lists::{Maker, Sizes};
 use beside::model::{self, attaching, leader, shown, slots, Answer, Fetched, Lent, Part};
-use beside::model::{Record, Setup};
+use beside::model::{Record, Search, Setup};
 use beside::runner::Runner;
 use beside::sha256;
 
@@ -32,12 +33,14 @@ impl Ask<'_> {
 type Machine = fn(&Ask, Lent) -> Answer;
 type Read = fn(Record, &[u8], u32) -> Part;
 type Fetch = fn(Record, &[u8], u32, &mut [u8]) -> Fetched;
+type Find = fn(&[u8], u32) -> Search;
 
 /// The model with some of its calls replaced.
 struct Broken {
     machine: Machine,
     read: Read,
     fetch: Fetch,
+    search: Find,
 }
 
 impl Broken {
@@ -46,6 +49,7 @@ impl Broken {
             machine,
             read: model::read,
             fetch: model::fetch,
+            search: model::search,
         }
     }
 
@@ -59,6 +63,13 @@ impl Broken {
     fn fetch(fetch: Fetch) -> Broken {
         Broken {
             fetch,
+            ..Broken::machine(honest)
+        }
+    }
+
+    fn search(search: Find) -> Broken {
+        Broken {
+            search,
             ..Broken::machine(honest)
         }
     }
@@ -95,6 +106,10 @@ impl Library for Broken {
 
     fn digest(&self, bytes: &[u8]) -> [u8; 32] {
         sha256::digest(bytes)
+    }
+
+    fn search(&self, log: &[u8], limit: u32) -> Search {
+        (self.search)(log, limit)
     }
 }
 
@@ -882,6 +897,69 @@ fn fetch_one(record: Record, log: &[u8], height: u32, out: &mut [u8]) -> Fetched
     model::fetch_at_most(1, record, log, height, out)
 }
 
+/// The right round with another count.
+fn recount(log: &[u8], limit: u32, count: impl Fn(Search) -> u32) -> Search {
+    let right = model::search(log, limit);
+    Search {
+        slots_read: count(right),
+        ..right
+    }
+}
+
+fn counts_one_slot_more(log: &[u8], limit: u32) -> Search {
+    recount(log, limit, |right| right.slots_read + u32::from(limit > 0))
+}
+
+fn leaves_out_the_one_found(log: &[u8], limit: u32) -> Search {
+    recount(log, limit, |right| {
+        right.slots_read - u32::from(right.round > 0)
+    })
+}
+
+fn counts_where_none_is_allowed(log: &[u8], limit: u32) -> Search {
+    recount(log, limit, |right| right.slots_read.max(1))
+}
+
+fn counts_slots_of_the_log_alone(log: &[u8], limit: u32) -> Search {
+    let above = limit.saturating_sub(slots(log).len() as u32);
+    recount(log, limit, |right| right.slots_read - above)
+}
+
+/// Goes on below the one found, and gives the last filled slot that it met.
+fn gives_the_lowest(log: &[u8], limit: u32) -> Search {
+    let mut allowed = slots(log).iter().take(limit as usize);
+    let lowest = allowed.position(frame::filled);
+    Search {
+        round: lowest.map_or(0, |index| index as u32 + 1),
+        slots_read: limit,
+    }
+}
+
+fn counts_down_to_round_1(log: &[u8], limit: u32) -> Search {
+    recount(log, limit, |_| limit)
+}
+
+/// The walk up from round 1 reads the slots that there are.
+fn walks_up(log: &[u8], limit: u32) -> Search {
+    Search {
+        round: model::walk_up(log, limit),
+        slots_read: limit.min(slots(log).len() as u32),
+    }
+}
+
+fn begins_one_below(log: &[u8], limit: u32) -> Search {
+    model::search(log, limit.saturating_sub(1))
+}
+
+/// Takes a slot with any first byte but 0 for a filled one.
+fn takes_any_kind(log: &[u8], limit: u32) -> Search {
+    let mut log = log.to_vec();
+    for slot in log.as_chunks_mut::<SIZE>().0 {
+        slot[0] = slot[0].min(frame::BLOCK);
+    }
+    model::search(&log, limit)
+}
+
 /// Slips and worthless cards that the paper names.
 fn named_slips() -> Vec<(&'static str, Broken)> {
     let machine = Broken::machine;
@@ -981,13 +1059,97 @@ fn commit_slips() -> Vec<(&'static str, Broken)> {
     slips.into_iter().map(broken).collect()
 }
 
+/// A slip of the search: its name, a limit, and what it gives for that in the book of `told_by`.
+type SearchSlip = (&'static str, Find, u32, (u32, u32));
+
+const SEARCH_SLIPS: [SearchSlip; 9] = [
+    ("one slot more", counts_one_slot_more, 4, (3, 3)),
+    ("found one not counted", leaves_out_the_one_found, 4, (3, 1)),
+    (
+        "counts with no round allowed",
+        counts_where_none_is_allowed,
+        0,
+        (0, 1),
+    ),
+    (
+        "counts slots of the log alone",
+        counts_slots_of_the_log_alone,
+        8,
+        (3, 4),
+    ),
+    ("gives the lowest", gives_the_lowest, 4, (1, 4)),
+    ("counts down to round 1", counts_down_to_round_1, 4, (3, 4)),
+    ("walks up from round 1", walks_up, 4, (3, 4)),
+    ("begins one below", begins_one_below, 4, (3, 1)),
+    ("takes any kind", takes_any_kind, 4, (4, 1)),
+];
+
+/// What a search gives up to a limit in a book of six slots, 1 and 3 filled and 4 of kind 2: the message of one call.
+fn told_by(search: Find, limit: u32) -> String {
+    let mut log = vec![0; SIZE * 6];
+    for (round, kind) in [(1, 1), (3, 1), (4, 2)] {
+        log[SIZE * (round - 1)] = kind;
+    }
+    let record = Record {
+        f: 1,
+        term: 6,
+        round: limit + 2,
+        ..Record::default()
+    };
+    let head = Head {
+        f: 1,
+        term: 6,
+        cards: 1,
+        sound: 0,
+    };
+    let masks = vec![0; 6];
+    let state = State { record, log, masks };
+    let steps = vec![
+        Step::Write(0, state),
+        Step::Call(Call::new(&head, 0, What::Tick)),
+    ];
+    let told = replay(&Broken::search(search), &List { head, steps });
+    told.expect_err("a slip").1
+}
+
+#[test]
+fn slips_of_the_search_are_told() {
+    let right = [(0, (0, 0)), (4, (3, 2)), (8, (3, 6))];
+    for (name, search, limit, found) in SEARCH_SLIPS {
+        let (_, expected) = right.iter().find(|case| case.0 == limit).expect("a limit");
+        let words = |(round, read)| format!("Search {{ round: {round}, slots_read: {read} }}");
+        let message = format!(
+            "search in 6 slots, filled 1, 3, limit {limit}, differs:\n  library {}\n  model   {}",
+            words(found),
+            words(*expected)
+        );
+        assert_eq!(told_by(search, limit), message, "{name}");
+    }
+}
+
+/// The first list that finds a slip.
+fn find(name: &str, library: &Broken) -> Box<Failure> {
+    let list = |seed| run(library, seed, Sizes::All, &mut Coverage::new()).err();
+    let found = (1..=300).find_map(list);
+    found.unwrap_or_else(|| panic!("not found: {name}"))
+}
+
+#[test]
+fn lists_find_slips_of_the_search_by_it() {
+    for (name, search, ..) in SEARCH_SLIPS {
+        let message = find(name, &Broken::search(search)).message;
+        println!("{name}: {message}");
+        assert!(message.starts_with("search in "), "{name}: {message}");
+    }
+}
+
 #[test]
 fn every_slip_is_found_and_shrunk() {
     let slips = named_slips().into_iter().chain(other_slips());
-    for (name, library) in slips.chain(set_slips()).chain(commit_slips()) {
-        let mut coverage = Coverage::new();
-        let found = (1..=300).find_map(|seed| run(&library, seed, Sizes::All, &mut coverage).err());
-        let failure = found.unwrap_or_else(|| panic!("not found: {name}"));
+    let slips = slips.chain(set_slips()).chain(commit_slips());
+    let searches = SEARCH_SLIPS.map(|(name, search, ..)| (name, Broken::search(search)));
+    for (name, library) in slips.chain(searches) {
+        let failure = find(name, &library);
         let short = shrink(&library, &failure);
         let steps = short.list.steps.len();
         println!(
@@ -1011,11 +1173,10 @@ fn a_fetch_of_fewer_frames_passes() {
 }
 
 /// Finds a slip that is on both sides, where only the claims can, with a part of what they say.
-fn claims_find(name: &str, machine: Machine, rules: bool, part: &str) {
-    let library = Broken::machine(machine);
+fn claims_find(name: &str, library: &Broken, rules: bool, part: &str) {
     let found = (1..=600).find_map(|seed| {
         let maker = Maker::new(seed, Sizes::All);
-        let mut runner = Runner::beside(&library, &library, &maker.head().clone());
+        let mut runner = Runner::beside(library, library, &maker.head().clone());
         if !rules {
             runner.claims.rules = None;
         }
@@ -1050,7 +1211,43 @@ fn claims_find_slips_on_both_sides() {
         ),
     ];
     for (name, machine, part) in slips {
-        claims_find(name, machine, true, part);
+        claims_find(name, &Broken::machine(machine), true, part);
+    }
+}
+
+#[test]
+fn claims_find_slips_of_the_search_on_both_sides() {
+    let slips: [(&str, Find, &str); 5] = [
+        (
+            "one slot more",
+            counts_one_slot_more,
+            "shown rounds in a row",
+        ),
+        (
+            "counts down to round 1",
+            counts_down_to_round_1,
+            "shown rounds in a row",
+        ),
+        ("walks up from round 1", walks_up, "shown rounds in a row"),
+        ("gives the lowest", gives_the_lowest, "committed is round"),
+        ("begins one below", begins_one_below, "committed is round"),
+    ];
+    for (name, search, part) in slips {
+        claims_find(name, &Broken::search(search), true, part);
+    }
+}
+
+/// The claim that the search reads at most f + 1 slots finds these by itself.
+#[test]
+fn claims_about_sound_cards_find_slips_of_the_search_on_both_sides() {
+    let slips: [(&str, Find); 4] = [
+        ("one slot more", counts_one_slot_more),
+        ("counts down to round 1", counts_down_to_round_1),
+        ("walks up from round 1", walks_up),
+        ("gives the lowest", gives_the_lowest),
+    ];
+    for (name, search) in slips {
+        claims_find(name, &Broken::search(search), false, "more than f + 1");
     }
 }
 
@@ -1074,6 +1271,6 @@ fn claims_about_sound_cards_find_slips_on_both_sides() {
         ),
     ];
     for (name, machine, part) in slips {
-        claims_find(name, machine, false, part);
+        claims_find(name, &Broken::machine(machine), false, part);
     }
 }

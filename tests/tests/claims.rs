@@ -1,11 +1,12 @@
-//! Which frames the premises of the claims count: those of a buffer that is not cut, whatever the call answers.
+//! Which frames the premises of the claims count: those of a buffer that is not cut, whatever the call answers. And when the
+//! claims about the search are due.
 
-use beside::call::{Call, Head, Step, What};
+use beside::call::{Call, Head, State, Step, What};
 use beside::coverage::Coverage;
-use beside::frame::{blame, Frame, SIZE};
-use beside::library::Model;
-use beside::model::Setup;
-use beside::runner::Runner;
+use beside::frame::{blame, block, name, Frame, GENESIS, SIZE};
+use beside::library::{Library, Model};
+use beside::model::{self, Answer, Fetched, Lent, Part, Record, Search, Setup};
+use beside::runner::{Runner, Side};
 
 const HEAD: Head = Head {
     f: 1,
@@ -80,4 +81,184 @@ fn a_wrong_check_forges_nothing() {
     let mut frames = [blame(2, 1), blame(3, 1)];
     frames[0][511] ^= 1;
     assert_eq!(hand_in(set(&frames, 2 * SIZE), 1024), (None, 7));
+}
+
+/// The model with another search.
+struct With(fn(&[u8], u32) -> Search);
+
+impl Library for With {
+    fn open(&self, setup: Setup, lent: Lent) -> Answer {
+        model::open(setup, lent)
+    }
+
+    fn branch(&self, record: Record, frames: &[u8], lent: Lent) -> Answer {
+        model::branch(record, frames, lent)
+    }
+
+    fn blame(&self, record: Record, frame: &[u8], lent: Lent) -> Answer {
+        model::blame(record, frame, lent)
+    }
+
+    fn blames(&self, record: Record, frames: &[u8], lent: Lent) -> Answer {
+        model::blames(record, frames, lent)
+    }
+
+    fn tick(&self, record: Record, lent: Lent) -> Answer {
+        model::tick(record, lent)
+    }
+
+    fn read(&self, record: Record, log: &[u8], height: u32) -> Part {
+        model::read(record, log, height)
+    }
+
+    fn fetch(&self, record: Record, log: &[u8], height: u32, out: &mut [u8]) -> Fetched {
+        model::fetch(record, log, height, out)
+    }
+
+    fn digest(&self, bytes: &[u8]) -> [u8; 32] {
+        Model.digest(bytes)
+    }
+
+    fn search(&self, log: &[u8], limit: u32) -> Search {
+        (self.0)(log, limit)
+    }
+}
+
+const RIGHT: With = With(model::search);
+
+const ONE_SLOT_MORE: With = With(|log, limit| {
+    let search = model::search(log, limit);
+    Search {
+        slots_read: search.slots_read + 1,
+        ..search
+    }
+});
+
+const NONE_FOUND: With = With(|log, limit| Search {
+    round: 0,
+    ..model::search(log, limit)
+});
+
+fn head(sound: u16) -> Head {
+    Head {
+        f: 1,
+        term: 8,
+        cards: 3,
+        sound,
+    }
+}
+
+/// Card 0 is dead: the others blame rounds 1 and 4, and put out blocks for rounds 2, 3 and 5.
+fn beside_a_dead_card() -> Vec<Call> {
+    let open = |own| {
+        What::Open(Setup {
+            own,
+            f: 1,
+            wait: 1,
+            term: 8,
+        })
+    };
+    let hear = |signer, round| What::Blame(blame(signer, round).to_vec());
+    let second = block(1, 2, 1, &GENESIS, b"");
+    let third = block(2, 3, 2, name(&second), b"");
+    let calls = [
+        (1, open(1)),
+        (2, open(2)),
+        (1, What::Tick),
+        (2, What::Tick),
+        (1, hear(2, 1)),
+        (2, hear(1, 1)),
+        (2, What::Branch(second.to_vec())),
+        (1, What::Branch(third.to_vec())),
+        (1, What::Tick),
+        (2, What::Tick),
+        (1, hear(2, 4)),
+    ];
+    let call = |(card, what)| Call::new(&head(0), card, what);
+    calls.into_iter().map(call).collect()
+}
+
+/// Makes these calls with one library on both sides; the call that failed and what was told.
+fn told(library: &With, sound: u16, rules: bool) -> Result<Vec<Side>, (usize, String)> {
+    let mut runner = Runner::beside(library, library, &head(sound));
+    if !rules {
+        runner.claims.rules = None;
+    }
+    for (index, call) in beside_a_dead_card().into_iter().enumerate() {
+        let step = runner.step(&Step::Call(call), &mut Coverage::new());
+        step.map_err(|message| (index, message))?;
+    }
+    Ok(runner.sides().to_vec())
+}
+
+#[test]
+fn the_search_reads_f_and_1_slots_beside_a_dead_card() {
+    let sides = told(&RIGHT, 0b110, true).expect("the model is itself");
+    let expected = Search {
+        round: 3,
+        slots_read: 2,
+    };
+    assert_eq!(sides[1].record.round, 6);
+    assert_eq!(
+        model::search(sides[1].log.part(SIZE * 8), 6 - 1 - 1),
+        expected
+    );
+}
+
+#[test]
+fn more_slots_are_told_while_the_premises_hold() {
+    let message = "claim: the search of card 1 read 3 slots, more than f + 1";
+    let told = told(&ONE_SLOT_MORE, 0b110, false).map(|_| ());
+    assert_eq!(told, Err((10, message.into())));
+}
+
+/// A sound card's round was blamed; too few cards are sound.
+#[test]
+fn more_slots_are_not_told_where_a_premise_fails() {
+    for sound in [0b111, 0b010] {
+        assert!(told(&ONE_SLOT_MORE, sound, false).is_ok());
+    }
+}
+
+#[test]
+fn slots_beyond_the_shown_rounds_are_told_whoever_is_sound() {
+    let message = "claim: the search of card 2 read 2 slots, with 0 shown rounds in a row from R - 1 - f down";
+    for sound in [0b110, 0b111, 0b010, 0] {
+        let told = told(&ONE_SLOT_MORE, sound, true).map(|_| ());
+        assert_eq!(told, Err((6, message.into())));
+    }
+}
+
+#[test]
+fn another_round_than_the_committed_one_is_told() {
+    let message = "claim: the search of card 2 found round 0, committed is round 2";
+    let told = told(&NONE_FOUND, 0, true).map(|_| ());
+    assert_eq!(told, Err((6, message.into())));
+}
+
+/// The host writes card 2's state as it is: from there on nothing is due for it.
+#[test]
+fn nothing_is_told_of_a_card_whose_host_wrote_its_state() {
+    let mut runner = Runner::beside(&ONE_SLOT_MORE, &ONE_SLOT_MORE, &head(0));
+    for (index, call) in beside_a_dead_card().into_iter().enumerate() {
+        if index == 6 {
+            let side = &runner.sides()[2];
+            let state = State {
+                record: side.record,
+                log: side.log.part(SIZE * 8).to_vec(),
+                masks: side.masks.part(8).to_vec(),
+            };
+            let written = runner.step(&Step::Write(2, state), &mut Coverage::new());
+            assert!(written.is_ok());
+        }
+        let step = runner.step(&Step::Call(call), &mut Coverage::new());
+        match index {
+            7 => {
+                let message = step.expect_err("due for card 1");
+                assert!(message.starts_with("claim: the search of card 1 read 2 slots"));
+                return;
+            }
+            _ => assert!(step.is_ok()),
+        }
+    }
 }
