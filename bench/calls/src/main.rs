@@ -1,12 +1,14 @@
 //! The calls of the library beside the Rust implementation of `tests`: medians of passes in which both sides, their digests,
 //! memset and memcpy run in turn, on the same buffers. Before a case is timed, either side makes its call three times over on a
-//! copy of the state, and every result and byte must be alike. Then what is counted: terms without faults, and how long an entry
-//! waits where cards are dead. `calls counts` prints these alone.
+//! copy of the state, and every result and byte must be alike. Then the search for the last committed slot by itself, which
+//! `calls searches` prints alone. Then what is counted: terms without faults, and how long an entry waits where cards are dead.
+//! `calls counts` prints these alone.
 
 mod card;
 mod case;
 mod dead_leaders;
 mod fault_free;
+mod searches;
 mod side;
 mod waits;
 
@@ -14,6 +16,7 @@ use case::{cases, Call, Case};
 use side::Outcome;
 use std::env::args;
 use std::io::{stderr, IsTerminal};
+use std::process::ExitCode;
 
 const TERMS: [u32; 2] = [64, 4096];
 const PASSES: usize = 101;
@@ -206,6 +209,11 @@ fn one_by_one(measured: &[(Case, Times)]) {
     }
 }
 
+fn searches() {
+    println!("The search for the last committed slot, from round T - f down, f = 2. Over ours: a time over ours, above 1 ours is faster.");
+    print(&searches::table());
+}
+
 fn fault_free() -> Vec<Vec<String>> {
     let mut rows = vec![head("n, T, committed, rounds, emitted, sent, relayed")];
     for (term, f) in TERMS
@@ -239,12 +247,27 @@ fn counts() {
     print(&tables.ends);
 }
 
-fn main() {
-    if args().nth(1).as_deref() != Some("counts") {
-        eprintln!("calls, {PASSES} passes");
-        println!("Beside Rust: its time over ours, above 1 ours is faster. The rest: a call less its digests.");
-        calls();
-        println!();
-    }
+fn all() {
+    eprintln!("calls, {PASSES} passes");
+    println!("Beside Rust: its time over ours, above 1 ours is faster. The rest: a call less its digests.");
+    calls();
+    println!();
+    searches();
+    println!();
     counts();
+}
+
+fn main() -> ExitCode {
+    let arguments: Vec<String> = args().skip(1).collect();
+    let words: Vec<&str> = arguments.iter().map(String::as_str).collect();
+    match words[..] {
+        [] => all(),
+        ["searches"] => searches(),
+        ["counts"] => counts(),
+        _ => {
+            eprintln!("calls [searches | counts]");
+            return ExitCode::from(2);
+        }
+    }
+    ExitCode::SUCCESS
 }

@@ -17,7 +17,7 @@ pub enum Outcome {
 }
 
 /// Seconds per run over `times` runs, after one that is not timed; and what the last run gave.
-fn timed<T>(times: usize, mut run: impl FnMut() -> T) -> (f64, T) {
+pub fn timed<T>(times: usize, mut run: impl FnMut() -> T) -> (f64, T) {
     let mut last = run();
     let began = Instant::now();
     for _ in 0..times {

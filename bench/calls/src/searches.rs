@@ -1,0 +1,123 @@
+//! The search for the last committed slot by itself, beside two of the Rust implementation: its walk up from round 1, which
+//! reads every slot allowed, and its own search downward. Before a case is timed, all three must find the same slot, and both
+//! searches read as many.
+
+use crate::side::timed;
+use crate::{head, median, ratio, time, BATCH, PASSES, TERMS};
+use beside::ffi::{self, ApolloSearch};
+use beside::frame::{self, GENESIS, SIZE};
+use beside::model::{self, leader, Search};
+use std::hint::black_box;
+
+const F: u8 = 2;
+/// Runs from which the size of a batch is reckoned.
+const TRIAL: usize = 100;
+
+struct Case {
+    name: &'static str,
+    term: u32,
+    log: Vec<u8>,
+    /// The highest round allowed when the term is over: T - f.
+    limit: u32,
+}
+
+/// A term's book with blocks in the rounds that are not skipped.
+fn case(name: &'static str, term: u32, skipped: impl Fn(u32) -> bool) -> Case {
+    let (mut parent, mut height) = (GENESIS, 0);
+    let mut log = vec![0; term as usize * SIZE];
+    for (slot, round) in log.as_chunks_mut().0.iter_mut().zip(1..=term) {
+        if !skipped(round) {
+            height += 1;
+            frame::write_block(slot, leader(round, F), round, height, &parent, &[]);
+            parent = *frame::name(slot);
+        }
+    }
+    Case {
+        name,
+        term,
+        log,
+        limit: term - u32::from(F),
+    }
+}
+
+fn cases(term: u32) -> [Case; 4] {
+    let limit = term - u32::from(F);
+    [
+        case("no round skipped", term, |_| false),
+        case("every second round skipped", term, |round| {
+            round % 2 == limit % 2
+        }),
+        case("upper half skipped", term, |round| round > term / 2),
+        case("none filled", term, |_| true),
+    ]
+}
+
+impl Case {
+    fn input(&self) -> (&[u8], u32) {
+        (black_box(&self.log[..]), black_box(self.limit))
+    }
+
+    fn ours(&self, times: usize) -> (f64, Search) {
+        let (seconds, search) = timed(times, || {
+            let (log, limit) = self.input();
+            // Safety: the pointer comes from a slice with its length.
+            unsafe { ffi::apollo_search(log.as_ptr(), log.len(), limit) }
+        });
+        let ApolloSearch { round, slots_read } = search;
+        (seconds, Search { round, slots_read })
+    }
+
+    fn up(&self, times: usize) -> (f64, u32) {
+        timed(times, || {
+            let (log, limit) = self.input();
+            model::walk_up(log, limit)
+        })
+    }
+
+    fn down(&self, times: usize) -> (f64, Search) {
+        timed(times, || {
+            let (log, limit) = self.input();
+            model::search(log, limit)
+        })
+    }
+
+    /// All three agree, or the program ends. The slots read, and how many runs make a batch.
+    fn compare(&self) -> (u32, usize) {
+        let (once, ours) = self.ours(TRIAL);
+        assert_eq!(ours, self.down(1).1, "{}: ours, Rust's", self.name);
+        assert_eq!(ours.round, self.up(1).1, "{}: walk up", self.name);
+        let batch = (BATCH / once) as usize;
+        (ours.slots_read, batch.clamp(1, 100_000))
+    }
+
+    fn row(&self) -> Vec<String> {
+        let (slots_read, batch) = self.compare();
+        let (mut ours, mut up, mut down) = (Vec::new(), Vec::new(), Vec::new());
+        for _ in 0..PASSES {
+            ours.push(self.ours(batch).0);
+            up.push(self.up(batch).0);
+            down.push(self.down(batch).0);
+        }
+        let (ours, up, down) = (median(&ours), median(&up), median(&down));
+        vec![
+            self.name.into(),
+            self.term.to_string(),
+            slots_read.to_string(),
+            time(ours),
+            time(up),
+            ratio(up, ours),
+            time(down),
+            ratio(down, ours),
+        ]
+    }
+}
+
+/// A row for each case and T.
+pub fn table() -> Vec<Vec<String>> {
+    let mut rows = vec![head(
+        "case, T, slots read, ours, Rust's walk up, over ours, Rust's search, over ours",
+    )];
+    let cases = TERMS.into_iter().flat_map(cases);
+    rows.extend(cases.map(|case| case.row()));
+    rows
+}
