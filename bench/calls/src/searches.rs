@@ -10,7 +10,7 @@ use beside::model::{self, leader, Search};
 use std::hint::black_box;
 
 const F: u8 = 2;
-/// Runs from which the size of a batch is reckoned.
+/// Runs by which the size of a batch is reckoned, for each of the three by itself.
 const TRIAL: usize = 100;
 
 struct Case {
@@ -81,22 +81,24 @@ impl Case {
         })
     }
 
-    /// All three agree, or the program ends. The slots read, and how many runs make a batch.
-    fn compare(&self) -> (u32, usize) {
-        let (once, ours) = self.ours(TRIAL);
-        assert_eq!(ours, self.down(1).1, "{}: ours, Rust's", self.name);
-        assert_eq!(ours.round, self.up(1).1, "{}: walk up", self.name);
-        let batch = (BATCH / once) as usize;
-        (ours.slots_read, batch.clamp(1, 100_000))
+    /// All three agree, or the program ends. The slots read, and how many runs of each make a batch.
+    fn compare(&self) -> (u32, [usize; 3]) {
+        let (our_time, ours) = self.ours(TRIAL);
+        let (up_time, up) = self.up(TRIAL);
+        let (down_time, down) = self.down(TRIAL);
+        assert_eq!(ours, down, "{}: ours, Rust's", self.name);
+        assert_eq!(ours.round, up, "{}: ours, walk up", self.name);
+        let batch = |once| ((BATCH / once) as usize).clamp(1, 100_000);
+        (ours.slots_read, [our_time, up_time, down_time].map(batch))
     }
 
     fn row(&self) -> Vec<String> {
-        let (slots_read, batch) = self.compare();
+        let (slots_read, batches) = self.compare();
         let (mut ours, mut up, mut down) = (Vec::new(), Vec::new(), Vec::new());
         for _ in 0..PASSES {
-            ours.push(self.ours(batch).0);
-            up.push(self.up(batch).0);
-            down.push(self.down(batch).0);
+            ours.push(self.ours(batches[0]).0);
+            up.push(self.up(batches[1]).0);
+            down.push(self.down(batches[2]).0);
         }
         let (ours, up, down) = (median(&ours), median(&up), median(&down));
         vec![
