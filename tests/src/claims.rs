@@ -145,10 +145,24 @@ impl Claims {
         if self.answered_12 {
             return Err("claim: a sound card answered 12".into());
         }
+        self.check_sides(call.card, block, sides)?;
+        self.check_search(call.card, search)?;
+        self.due = true;
+        self.checked += 1;
+        Ok(self.tips(call.card, sides))
+    }
+
+    /// All claims but the search's, after a call at a card that may have put out a block.
+    fn check_sides(
+        &mut self,
+        called: usize,
+        block: Option<u32>,
+        sides: &[Side],
+    ) -> Result<(), String> {
         let open = |&(card, _): &(usize, &Side)| self.is_open(card);
         let cards: Vec<_> = sides.iter().enumerate().filter(open).collect();
         for &(card, side) in &cards {
-            if card == call.card || !self.due {
+            if card == called || !self.due {
                 self.check_card(card, side)?;
             } else if let Some(round) = block {
                 self.check_block(round, card, side)?;
@@ -157,10 +171,7 @@ impl Claims {
         for (card, side) in cards {
             self.check_limit(card, side)?;
         }
-        self.check_search(call.card, search)?;
-        self.due = true;
-        self.checked += 1;
-        Ok(self.tips(call.card, sides))
+        Ok(())
     }
 
     /// How the called card's tip differs from other cards'.

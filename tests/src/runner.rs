@@ -1,4 +1,4 @@
-//! Runs calls on the library and on the model and compares every byte after each.
+//! Runs calls on the library and on the model and compares every byte after each, and two searches.
 
 use crate::call::{Call, Head, State, Step, What};
 use crate::claims::Claims;
