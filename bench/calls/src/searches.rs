@@ -119,7 +119,9 @@ pub fn table() -> Vec<Vec<String>> {
     let mut rows = vec![head(
         "case, T, slots read, ours, Rust's walk up, over ours, Rust's search, over ours",
     )];
-    let cases = TERMS.into_iter().flat_map(cases);
-    rows.extend(cases.map(|case| case.row()));
+    let cases: Vec<Case> = TERMS.into_iter().flat_map(cases).collect();
+    // Not measured: until then the processor may run below its full clock.
+    cases[0].row();
+    rows.extend(cases.iter().map(Case::row));
     rows
 }
