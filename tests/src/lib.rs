@@ -13,6 +13,7 @@ pub mod frame;
 pub mod library;
 pub mod lists;
 pub mod model;
+pub mod replaced;
 pub mod rng;
 pub mod rules;
 pub mod runner;

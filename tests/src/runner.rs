@@ -339,7 +339,7 @@ impl<'l> Runner<'l> {
     }
 
     /// After a call: the card's book up to R - 1 - f, and what it was lent of it up to another
-    /// round, at times one above the book.
+    /// round, at times a round above the book.
     fn searches(&self, call: &Call) -> Result<[Searched; 2], String> {
         let (term, record) = (self.term, &self.tried[call.card].record);
         let own = model::limit(record.round, record.f).min(term + ABOVE);

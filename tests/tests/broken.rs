@@ -4,124 +4,11 @@ use beside::call::{Call, Head, List, State, Step, What};
 use beside::coverage::Coverage;
 use beside::drive::{replay, run, run_on, shrink, Failure};
 use beside::frame::{self, Frame, SIZE};
-use beside::library::Library;
 use beside::lists::{Maker, Sizes};
 use beside::model::{self, attaching, leader, shown, slots, Answer, Fetched, Lent, Part};
-use beside::model::{Record, Search, Setup};
+use beside::model::{Record, Search};
+use beside::replaced::{honest, Ask, Find, Machine, Replaced};
 use beside::runner::Runner;
-use beside::sha256;
-
-/// A call of the machine.
-enum Ask<'a> {
-    Open(Setup),
-    Branch(Record, &'a [u8]),
-    Blame(Record, &'a [u8]),
-    Blames(Record, &'a [u8]),
-    Tick(Record),
-}
-
-impl Ask<'_> {
-    fn record(&self) -> Record {
-        match *self {
-            Ask::Open(_) => Record::default(),
-            Ask::Branch(record, _) | Ask::Blame(record, _) => record,
-            Ask::Blames(record, _) | Ask::Tick(record) => record,
-        }
-    }
-}
-
-type Machine = fn(&Ask, Lent) -> Answer;
-type Read = fn(Record, &[u8], u32) -> Part;
-type Fetch = fn(Record, &[u8], u32, &mut [u8]) -> Fetched;
-type Find = fn(&[u8], u32) -> Search;
-
-/// The model with some of its calls replaced.
-struct Broken {
-    machine: Machine,
-    read: Read,
-    fetch: Fetch,
-    search: Find,
-}
-
-impl Broken {
-    fn machine(machine: Machine) -> Broken {
-        Broken {
-            machine,
-            read: model::read,
-            fetch: model::fetch,
-            search: model::search,
-        }
-    }
-
-    fn read(read: Read) -> Broken {
-        Broken {
-            read,
-            ..Broken::machine(honest)
-        }
-    }
-
-    fn fetch(fetch: Fetch) -> Broken {
-        Broken {
-            fetch,
-            ..Broken::machine(honest)
-        }
-    }
-
-    fn search(search: Find) -> Broken {
-        Broken {
-            search,
-            ..Broken::machine(honest)
-        }
-    }
-}
-
-impl Library for Broken {
-    fn open(&self, setup: Setup, lent: Lent) -> Answer {
-        (self.machine)(&Ask::Open(setup), lent)
-    }
-
-    fn branch(&self, record: Record, frames: &[u8], lent: Lent) -> Answer {
-        (self.machine)(&Ask::Branch(record, frames), lent)
-    }
-
-    fn blame(&self, record: Record, frame: &[u8], lent: Lent) -> Answer {
-        (self.machine)(&Ask::Blame(record, frame), lent)
-    }
-
-    fn blames(&self, record: Record, frames: &[u8], lent: Lent) -> Answer {
-        (self.machine)(&Ask::Blames(record, frames), lent)
-    }
-
-    fn tick(&self, record: Record, lent: Lent) -> Answer {
-        (self.machine)(&Ask::Tick(record), lent)
-    }
-
-    fn read(&self, record: Record, log: &[u8], height: u32) -> Part {
-        (self.read)(record, log, height)
-    }
-
-    fn fetch(&self, record: Record, log: &[u8], height: u32, out: &mut [u8]) -> Fetched {
-        (self.fetch)(record, log, height, out)
-    }
-
-    fn digest(&self, bytes: &[u8]) -> [u8; 32] {
-        sha256::digest(bytes)
-    }
-
-    fn search(&self, log: &[u8], limit: u32) -> Search {
-        (self.search)(log, limit)
-    }
-}
-
-fn honest(ask: &Ask, lent: Lent) -> Answer {
-    match *ask {
-        Ask::Open(setup) => model::open(setup, lent),
-        Ask::Branch(record, frames) => model::branch(record, frames, lent),
-        Ask::Blame(record, frame) => model::blame(record, frame, lent),
-        Ask::Blames(record, frames) => model::blames(record, frames, lent),
-        Ask::Tick(record) => model::tick(record, lent),
-    }
-}
 
 /// What the model would answer, with other masks perhaps.
 fn trial(ask: &Ask, lent: &Lent, masks: &[u16]) -> Answer {
@@ -961,8 +848,8 @@ fn takes_any_kind(log: &[u8], limit: u32) -> Search {
 }
 
 /// Slips and worthless cards that the paper names.
-fn named_slips() -> Vec<(&'static str, Broken)> {
-    let machine = Broken::machine;
+fn named_slips() -> Vec<(&'static str, Replaced)> {
+    let machine = Replaced::machine;
     vec![
         ("commits one round early", machine(commits_one_round_early)),
         ("commits by heights", machine(commits_by_heights)),
@@ -985,13 +872,13 @@ fn named_slips() -> Vec<(&'static str, Broken)> {
         ),
         ("term over early", machine(term_over_early)),
         ("says two, writes none", machine(says_two_writes_none)),
-        ("read absent", Broken::read(read_absent)),
-        ("fetch none", Broken::fetch(fetch_none)),
+        ("read absent", Replaced::read(read_absent)),
+        ("fetch none", Replaced::fetch(fetch_none)),
     ]
 }
 
-fn other_slips() -> Vec<(&'static str, Broken)> {
-    let machine = Broken::machine;
+fn other_slips() -> Vec<(&'static str, Replaced)> {
+    let machine = Replaced::machine;
     vec![
         ("writes none", machine(writes_none)),
         ("touches later bytes", machine(touches_later_bytes)),
@@ -1005,13 +892,16 @@ fn other_slips() -> Vec<(&'static str, Broken)> {
             "place of the wrong round",
             machine(place_of_the_wrong_round),
         ),
-        ("read uncommitted", Broken::read(read_uncommitted)),
-        ("fetch more than said", Broken::fetch(fetch_more_than_said)),
+        ("read uncommitted", Replaced::read(read_uncommitted)),
+        (
+            "fetch more than said",
+            Replaced::fetch(fetch_more_than_said),
+        ),
     ]
 }
 
 /// Slips of sets of blames.
-fn set_slips() -> Vec<(&'static str, Broken)> {
+fn set_slips() -> Vec<(&'static str, Replaced)> {
     let slips: [(&str, Machine); 16] = [
         ("R grows for each blame past f", grows_for_each_blame),
         ("R grows by an older round", grows_by_an_older_round),
@@ -1033,12 +923,12 @@ fn set_slips() -> Vec<(&'static str, Broken)> {
         ("6 above n frames", cuts_sets_at_n),
         ("16 frames taken", takes_16_frames),
     ];
-    let broken = |(name, machine)| (name, Broken::machine(machine));
+    let broken = |(name, machine)| (name, Replaced::machine(machine));
     slips.into_iter().map(broken).collect()
 }
 
 /// Slips of committing by R.
-fn commit_slips() -> Vec<(&'static str, Broken)> {
+fn commit_slips() -> Vec<(&'static str, Replaced)> {
     let slips: [(&str, Machine); 14] = [
         ("tip round - f", commits_by_the_tip),
         ("up to the tip", commits_up_to_the_tip),
@@ -1055,7 +945,7 @@ fn commit_slips() -> Vec<(&'static str, Broken)> {
         ("never lowered", never_lowers_the_committed_round),
         ("height left", leaves_the_committed_height),
     ];
-    let broken = |(name, machine)| (name, Broken::machine(machine));
+    let broken = |(name, machine)| (name, Replaced::machine(machine));
     slips.into_iter().map(broken).collect()
 }
 
@@ -1108,7 +998,7 @@ fn told_by(search: Find, limit: u32) -> String {
         Step::Write(0, state),
         Step::Call(Call::new(&head, 0, What::Tick)),
     ];
-    let told = replay(&Broken::search(search), &List { head, steps });
+    let told = replay(&Replaced::search(search), &List { head, steps });
     told.expect_err("a slip").1
 }
 
@@ -1128,28 +1018,26 @@ fn slips_of_the_search_are_told() {
 }
 
 /// The first list that finds a slip.
-fn find(name: &str, library: &Broken) -> Box<Failure> {
+fn find(name: &str, library: &Replaced) -> Box<Failure> {
     let list = |seed| run(library, seed, Sizes::All, &mut Coverage::new()).err();
     let found = (1..=300).find_map(list);
     found.unwrap_or_else(|| panic!("not found: {name}"))
 }
 
 #[test]
-fn lists_find_slips_of_the_search_by_it() {
-    for (name, search, ..) in SEARCH_SLIPS {
-        let message = find(name, &Broken::search(search)).message;
-        println!("{name}: {message}");
-        assert!(message.starts_with("search in "), "{name}: {message}");
-    }
-}
-
-#[test]
 fn every_slip_is_found_and_shrunk() {
     let slips = named_slips().into_iter().chain(other_slips());
     let slips = slips.chain(set_slips()).chain(commit_slips());
-    let searches = SEARCH_SLIPS.map(|(name, search, ..)| (name, Broken::search(search)));
-    for (name, library) in slips.chain(searches) {
+    let slips = slips.map(|(name, library)| (name, library, ""));
+    let searches =
+        SEARCH_SLIPS.map(|(name, search, ..)| (name, Replaced::search(search), "search in "));
+    for (name, library, told) in slips.chain(searches) {
         let failure = find(name, &library);
+        assert!(
+            failure.message.starts_with(told),
+            "{name}: {}",
+            failure.message
+        );
         let short = shrink(&library, &failure);
         let steps = short.list.steps.len();
         println!(
@@ -1165,7 +1053,7 @@ fn every_slip_is_found_and_shrunk() {
 
 #[test]
 fn a_fetch_of_fewer_frames_passes() {
-    let library = Broken::fetch(fetch_one);
+    let library = Replaced::fetch(fetch_one);
     for seed in 1..=60 {
         let result = run(&library, seed, Sizes::All, &mut Coverage::new());
         assert!(result.is_ok(), "seed {seed}");
@@ -1173,7 +1061,7 @@ fn a_fetch_of_fewer_frames_passes() {
 }
 
 /// Finds a slip that is on both sides, where only the claims can, with a part of what they say.
-fn claims_find(name: &str, library: &Broken, rules: bool, part: &str) {
+fn claims_find(name: &str, library: &Replaced, rules: bool, part: &str) {
     let found = (1..=600).find_map(|seed| {
         let maker = Maker::new(seed, Sizes::All);
         let mut runner = Runner::beside(library, library, &maker.head().clone());
@@ -1211,7 +1099,7 @@ fn claims_find_slips_on_both_sides() {
         ),
     ];
     for (name, machine, part) in slips {
-        claims_find(name, &Broken::machine(machine), true, part);
+        claims_find(name, &Replaced::machine(machine), true, part);
     }
 }
 
@@ -1233,7 +1121,7 @@ fn claims_find_slips_of_the_search_on_both_sides() {
         ("begins one below", begins_one_below, "committed is round"),
     ];
     for (name, search, part) in slips {
-        claims_find(name, &Broken::search(search), true, part);
+        claims_find(name, &Replaced::search(search), true, part);
     }
 }
 
@@ -1247,7 +1135,7 @@ fn claims_about_sound_cards_find_slips_of_the_search_on_both_sides() {
         ("gives the lowest", gives_the_lowest),
     ];
     for (name, search) in slips {
-        claims_find(name, &Broken::search(search), false, "more than f + 1");
+        claims_find(name, &Replaced::search(search), false, "more than f + 1");
     }
 }
 
@@ -1271,6 +1159,6 @@ fn claims_about_sound_cards_find_slips_on_both_sides() {
         ),
     ];
     for (name, machine, part) in slips {
-        claims_find(name, &Broken::machine(machine), false, part);
+        claims_find(name, &Replaced::machine(machine), false, part);
     }
 }

@@ -4,8 +4,9 @@
 use beside::call::{Call, Head, State, Step, What};
 use beside::coverage::Coverage;
 use beside::frame::{blame, block, name, Frame, GENESIS, SIZE};
-use beside::library::{Library, Model};
-use beside::model::{self, Answer, Fetched, Lent, Part, Record, Search, Setup};
+use beside::library::Model;
+use beside::model::{self, Search, Setup};
+use beside::replaced::{Find, Replaced};
 use beside::runner::{Runner, Side};
 
 const HEAD: Head = Head {
@@ -83,61 +84,20 @@ fn a_wrong_check_forges_nothing() {
     assert_eq!(hand_in(set(&frames, 2 * SIZE), 1024), (None, 7));
 }
 
-/// The model with another search.
-struct With(fn(&[u8], u32) -> Search);
-
-impl Library for With {
-    fn open(&self, setup: Setup, lent: Lent) -> Answer {
-        model::open(setup, lent)
-    }
-
-    fn branch(&self, record: Record, frames: &[u8], lent: Lent) -> Answer {
-        model::branch(record, frames, lent)
-    }
-
-    fn blame(&self, record: Record, frame: &[u8], lent: Lent) -> Answer {
-        model::blame(record, frame, lent)
-    }
-
-    fn blames(&self, record: Record, frames: &[u8], lent: Lent) -> Answer {
-        model::blames(record, frames, lent)
-    }
-
-    fn tick(&self, record: Record, lent: Lent) -> Answer {
-        model::tick(record, lent)
-    }
-
-    fn read(&self, record: Record, log: &[u8], height: u32) -> Part {
-        model::read(record, log, height)
-    }
-
-    fn fetch(&self, record: Record, log: &[u8], height: u32, out: &mut [u8]) -> Fetched {
-        model::fetch(record, log, height, out)
-    }
-
-    fn digest(&self, bytes: &[u8]) -> [u8; 32] {
-        Model.digest(bytes)
-    }
-
-    fn search(&self, log: &[u8], limit: u32) -> Search {
-        (self.0)(log, limit)
-    }
-}
-
-const RIGHT: With = With(model::search);
-
-const ONE_SLOT_MORE: With = With(|log, limit| {
+fn one_slot_more(log: &[u8], limit: u32) -> Search {
     let search = model::search(log, limit);
     Search {
         slots_read: search.slots_read + 1,
         ..search
     }
-});
+}
 
-const NONE_FOUND: With = With(|log, limit| Search {
-    round: 0,
-    ..model::search(log, limit)
-});
+fn none_found(log: &[u8], limit: u32) -> Search {
+    Search {
+        round: 0,
+        ..model::search(log, limit)
+    }
+}
 
 fn head(sound: u16) -> Head {
     Head {
@@ -178,9 +138,10 @@ fn beside_a_dead_card() -> Vec<Call> {
     calls.into_iter().map(call).collect()
 }
 
-/// Makes these calls with one library on both sides; the call that failed and what was told.
-fn told(library: &With, sound: u16, rules: bool) -> Result<Vec<Side>, (usize, String)> {
-    let mut runner = Runner::beside(library, library, &head(sound));
+/// Makes these calls with the same search on both sides; the call that failed and what was told.
+fn told(search: Find, sound: u16, rules: bool) -> Result<Vec<Side>, (usize, String)> {
+    let library = Replaced::search(search);
+    let mut runner = Runner::beside(&library, &library, &head(sound));
     if !rules {
         runner.claims.rules = None;
     }
@@ -193,7 +154,7 @@ fn told(library: &With, sound: u16, rules: bool) -> Result<Vec<Side>, (usize, St
 
 #[test]
 fn the_search_reads_f_and_1_slots_beside_a_dead_card() {
-    let sides = told(&RIGHT, 0b110, true).expect("the model is itself");
+    let sides = told(model::search, 0b110, true).expect("the model is itself");
     let expected = Search {
         round: 3,
         slots_read: 2,
@@ -208,7 +169,7 @@ fn the_search_reads_f_and_1_slots_beside_a_dead_card() {
 #[test]
 fn more_slots_are_told_while_the_premises_hold() {
     let message = "claim: the search of card 1 read 3 slots, more than f + 1";
-    let told = told(&ONE_SLOT_MORE, 0b110, false).map(|_| ());
+    let told = told(one_slot_more, 0b110, false).map(|_| ());
     assert_eq!(told, Err((10, message.into())));
 }
 
@@ -216,7 +177,7 @@ fn more_slots_are_told_while_the_premises_hold() {
 #[test]
 fn more_slots_are_not_told_where_a_premise_fails() {
     for sound in [0b111, 0b010] {
-        assert!(told(&ONE_SLOT_MORE, sound, false).is_ok());
+        assert!(told(one_slot_more, sound, false).is_ok());
     }
 }
 
@@ -224,7 +185,7 @@ fn more_slots_are_not_told_where_a_premise_fails() {
 fn slots_beyond_the_shown_rounds_are_told_whoever_is_sound() {
     let message = "claim: the search of card 2 read 2 slots, with 0 shown rounds in a row from R - 1 - f down";
     for sound in [0b110, 0b111, 0b010, 0] {
-        let told = told(&ONE_SLOT_MORE, sound, true).map(|_| ());
+        let told = told(one_slot_more, sound, true).map(|_| ());
         assert_eq!(told, Err((6, message.into())));
     }
 }
@@ -232,14 +193,15 @@ fn slots_beyond_the_shown_rounds_are_told_whoever_is_sound() {
 #[test]
 fn another_round_than_the_committed_one_is_told() {
     let message = "claim: the search of card 2 found round 0, committed is round 2";
-    let told = told(&NONE_FOUND, 0, true).map(|_| ());
+    let told = told(none_found, 0, true).map(|_| ());
     assert_eq!(told, Err((6, message.into())));
 }
 
 /// The host writes card 2's state as it is: from there on nothing is due for it.
 #[test]
 fn nothing_is_told_of_a_card_whose_host_wrote_its_state() {
-    let mut runner = Runner::beside(&ONE_SLOT_MORE, &ONE_SLOT_MORE, &head(0));
+    let library = Replaced::search(one_slot_more);
+    let mut runner = Runner::beside(&library, &library, &head(0));
     for (index, call) in beside_a_dead_card().into_iter().enumerate() {
         if index == 6 {
             let side = &runner.sides()[2];

@@ -1126,7 +1126,7 @@ fn the_search_finds_what_the_sheet_commits() {
     assert_eq!(at(1, &[1, 2, 3], 4), (2, 1), "case 10");
 }
 
-/// The search finds what commit does, and reads as many slots as it skips rounds, and one.
+/// The search finds what commit does, and reads one slot more than it skips rounds.
 #[test]
 fn the_search_finds_what_calls_commit() {
     let mut card = Card::made(3, 3, 9, &chain(3, &[1, 2, 4]), 5);

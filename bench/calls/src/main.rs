@@ -210,7 +210,8 @@ fn one_by_one(measured: &[(Case, Times)]) {
 }
 
 fn searches() {
-    println!("The search for the last committed slot, from round T - f down, f = 2. Over ours: a time over ours, above 1 ours is faster.");
+    let f = searches::F;
+    println!("The search for the last committed slot, from round T - f down, f = {f}. Over ours: a time over ours, above 1 ours is faster.");
     print(&searches::table());
 }
 

@@ -9,7 +9,7 @@ use beside::frame::{self, GENESIS, SIZE};
 use beside::model::{self, leader, Search};
 use std::hint::black_box;
 
-const F: u8 = 2;
+pub const F: u8 = 2;
 /// Runs by which the size of a batch is reckoned, for each of the three by itself.
 const TRIAL: usize = 100;
 
@@ -120,7 +120,7 @@ pub fn table() -> Vec<Vec<String>> {
         "case, T, slots read, ours, Rust's walk up, over ours, Rust's search, over ours",
     )];
     let cases: Vec<Case> = TERMS.into_iter().flat_map(cases).collect();
-    // Not measured: until then the processor may run below its full clock.
+    // Not shown: until then the processor may run below its full clock.
     cases[0].row();
     rows.extend(cases.iter().map(Case::row));
     rows

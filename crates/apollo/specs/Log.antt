@@ -1,4 +1,5 @@
--- Document 01, "A card": the log (book) of slots, the chain (line), and where a branch attaches.
+-- Document 01, "A card": the log (book) of slots, the chain (line), and where a branch attaches; by document 02, F-3, the slots that a
+-- search reads.
 use Prim.Native.Nat.{ℕ, zero, suc, _+_, _-_, _*_}
 use mathlib.Core.List.{List, [], _∷_, _++_}
 use mathlib.Core.Option.{Option, none, some}
@@ -34,7 +35,7 @@ unfoldable pub highest : (log : List ℕ) (r : ℕ) → ℕ
 highest log zero = zero
 highest log (suc r) = cond (filled (slot log (suc r))) (suc r) (highest log r)
 
--- F-3: how many slots the search for it "read". None found: those from round r to round 1, so 0 when no round is allowed; else those from
+-- how many slots the search for it "read" (F-3). None found: those from round r to round 1, so 0 when no round is allowed; else those from
 -- round r to the one found, both counted
 unfoldable pub slotsRead : (log : List ℕ) (r : ℕ) → ℕ
 slotsRead log r = cond (eqb (highest log r) 0) r (r + 1 - highest log r)

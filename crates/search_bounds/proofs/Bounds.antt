@@ -19,7 +19,7 @@ use Rattle.agreement.proofs.Slots.{highest-le, highest-max}
 use Rattle.agreement.proofs.Good.{Good, good-certified, limit-low}
 use Rattle.agreement.proofs.World.{Inv, start-inv, run-inv}
 use Rattle.agreement.proofs.Agreement.{near}
-use Rattle.search_bounds.specs.Bounds.{skipped, ReadsSkipped, ReadsFew}
+use Rattle.search_bounds.specs.Bounds.{certifiedRun, ReadsCertified, ReadsFew}
 
 -- the slots read stand between the limit and the one found
 read-le : (log : List ℕ) (r : ℕ) → slotsRead log r + highest log r ≤ r + 1
@@ -29,12 +29,12 @@ read-le log r =
     (λ _. omega (arith, highest-le log r))
 
 -- where every round above q up to r is certified
-skipped-run : (s : Setup) (masks : List ℕ) (q r : ℕ) → ((k : ℕ) → q < k → k ≤ r → certified s masks k ≡ true) → r ≤ q + skipped s masks r
-unfolding skipped
-skipped-run s masks q zero h = omega arith
-skipped-run s masks q (suc r) h =
+certified-run : (s : Setup) (masks : List ℕ) (q r : ℕ) → ((k : ℕ) → q < k → k ≤ r → certified s masks k ≡ true) → r ≤ q + certifiedRun s masks r
+unfolding certifiedRun
+certified-run s masks q zero h = omega arith
+certified-run s masks q (suc r) h =
     by-cond (λ n. suc r ≤ q + n) (certified s masks (suc r))
-    (λ _. omega (arith, skipped-run s masks q r (λ k a b. h k a (omega arith)))) (λ u. go u (leb (suc r) q) refl)
+    (λ _. omega (arith, certified-run s masks q r (λ k a b. h k a (omega arith)))) (λ u. go u (leb (suc r) q) refl)
   where
     go : certified s masks (suc r) ≡ false → (b : Bool) → leb (suc r) q ≡ b → suc r ≤ q + 0
     go u true e = omega (arith, leb-true (suc r) q e)
@@ -71,9 +71,9 @@ module _ (s : Setup) (calls : List (ℕ × Call)) (l : Each (Lawful s) start cal
       go false z =
           omega (arith, read-le (c .log) limit, low limit (leb-false limit 0 z) (omega arith), invariant .rests i c e .renewed .committed-is)
 
-pub reads-skipped : ReadsSkipped
-reads-skipped s calls l i c e =
-    omega (arith, read-le (c .log) (limit s calls l i c e), skipped-run s (c .masks) _ _ (above s calls l i c e))
+pub reads-certified : ReadsCertified
+reads-certified s calls l i c e =
+    omega (arith, read-le (c .log) (limit s calls l i c e), certified-run s (c .masks) _ _ (above s calls l i c e))
 
 pub reads-few : ReadsFew
 reads-few s correct calls p i c e = omega (arith, few s calls (p .lawful) i c e (near s correct calls p i c e))

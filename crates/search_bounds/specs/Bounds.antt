@@ -1,5 +1,5 @@
--- How many slots the search of a commit reads, on logs that calls made (document 02, F-3). T is in neither bound: a term of 4,096 rounds
--- costs no more than one of 64.
+-- How many slots the search of a commit reads, on logs that calls made (document 02, F-3). T is in neither bound: with as many rounds
+-- skipped, a term of 4,096 rounds costs no more than one of 64.
 use Prim.Native.Nat.{ℕ, zero, suc, _+_, _≤_}
 use mathlib.Core.Path.{_≡_}
 use mathlib.Core.Option.{some}
@@ -16,18 +16,19 @@ use Rattle.agreement.specs.Premises.{Each, Lawful, Premises}
 abbrev pub searched : State → ℕ
 searched c = slotsRead (c .log) (commitLimit (c .replica))
 
--- how many rounds in a row, from round r down, are certified (shown): a round below R that is not was not skipped
-unfoldable pub skipped : Setup → (masks : List ℕ) (r : ℕ) → ℕ
-skipped s masks zero = 0
-skipped s masks (suc r) = cond (certified s masks (suc r)) (skipped s masks r + 1) 0
+-- how many rounds in a row, from round r down, are certified (shown)
+unfoldable pub certifiedRun : Setup → (masks : List ℕ) (r : ℕ) → ℕ
+certifiedRun s masks zero = 0
+certifiedRun s masks (suc r) = cond (certified s masks (suc r)) (certifiedRun s masks r + 1) 0
 
--- Whatever anyone sent, a commit reads at most one slot more than there are rounds skipped just below its limit;
-abbrev pub ReadsSkipped : Type 0
-ReadsSkipped =
+-- Whatever anyone sent, a commit reads at most one slot more than there are certified rounds in a row from its limit down; a round up to
+-- the limit is skipped only if it is certified
+abbrev pub ReadsCertified : Type 0
+ReadsCertified =
     (s : Setup) (calls : List (ℕ × Call)) → Each (Lawful s) start calls → (i : ℕ) (c : State) → run start calls .states i ≡ some c
-    → searched c ≤ skipped s (c .masks) (commitLimit (c .replica)) + 1
+    → searched c ≤ certifiedRun s (c .masks) (commitLimit (c .replica)) + 1
 
--- and with the premises of demand 3 at most f + 1.
+-- and with the premises of demand 3 at most f + 1 slots
 abbrev pub ReadsFew : Type 0
 ReadsFew =
     (s : Setup) (correct : ℕ → Bool) (calls : List (ℕ × Call)) → Premises s correct calls → (i : ℕ) (c : State)
