@@ -12,16 +12,16 @@ use Rattle.sha256.specs.Fips.{sha256}
 use Rattle.apollo.specs.declared.Setup.{Setup}
 use Rattle.apollo.specs.Setup.{replicas}
 use Rattle.apollo.specs.Frame.{signer, checked}
-use Rattle.apollo.specs.Log.{slot, chain}
+use Rattle.apollo.specs.Log.{genesis, slot, chain}
 use Rattle.apollo.specs.Enter.{State, commitLimit}
 use Rattle.apollo.specs.Outcome.{Outcome}
 use Rattle.agreement.specs.Run.{Call, opening, act, handed, emitted, In, Seen, World, start, framesIn, hand, after, opened, answer, callAt, step, run}
 use Rattle.apollo.specs.Calls.{openCall}
 use Rattle.agreement.specs.Premises.{Each, Lawful, Unforged, Premises}
-use Rattle.agreement.specs.Claim.{committed, Begins, Agreement, ByRound, Near, NeverInvalid, OnlyGrows}
+use Rattle.agreement.specs.Claim.{committed, Begins, Agreement, Beginnings, ByRound, Near, NeverInvalid, OnlyGrows}
 use Rattle.agreement.proofs.Tests.{and-true, by-cond}
 use Rattle.agreement.proofs.Slots.{chain-slots, chain-more, highest-le, highest-grows}
-use Rattle.agreement.proofs.Past.{Grows, hand-grows, Given, hand-back}
+use Rattle.agreement.proofs.Past.{Grows, seen-grows, hand-grows, Given, hand-back}
 use Rattle.agreement.proofs.Good.{Renewed, committed-low, Extends, limit-grows}
 use Rattle.agreement.proofs.Valid.{valid}
 use Rattle.agreement.proofs.World.{Inv, Stepped, note-grows, note-handed, step-stepped, start-inv, run-inv}
@@ -230,3 +230,26 @@ only-grows s calls more l i c e =
     let r : (d : State) × (run (run start calls) more .states i ≡ some d) × Begins (committed c) (committed d) =
     run-grown s more (run start calls) (p .1) (run-inv s calls start (p .0) (start-inv s)) i c e in
     (r .0, ap (λ (u : World). u .states i) (run-append calls more start) ∙ r .1, r .2)
+
+run-grows : (es : List (ℕ × Call)) (w : World) → Grows (w .past) (run w es .past)
+unfolding run
+run-grows [] w e p = p
+run-grows (a ∷ bs) w e p = run-grows bs (step w (a .0) (a .1)) e (step-grows w (a .0) (a .1) e p)
+
+pub beginnings : Beginnings
+beginnings s correct calls more p =
+    record {
+      lawful = each-append (Lawful s) calls more start (p .lawful) .0;
+      mostly = p .mostly;
+      unforged = each-append (Unforged s correct) calls more start (p .unforged) .0;
+      distinct = λ x y a b. p .distinct x y (seen x a) (seen y b);
+      patient = λ i x c e. p .patient i x c (grows (emitted i x) e);
+    }
+  where
+    grows : Grows (run start calls .past) (run start (calls ++ more) .past)
+    grows e q =
+        subst (λ (w : World). In e (w .past)) (sym (run-append calls more start)) (run-grows more (run start calls) e q)
+
+    seen : (x : List ℕ) → (x ≡ genesis) ⊎ Seen x (run start calls .past) → (x ≡ genesis) ⊎ Seen x (run start (calls ++ more) .past)
+    seen x (inl e) = inl e
+    seen x (inr q) = inr (seen-grows (run start calls .past) (run start (calls ++ more) .past) grows x q)

@@ -1,4 +1,4 @@
--- Demand 3's claim about a whole list of calls, and five facts beyond it.
+-- Demand 3's claim about a whole list of calls, and six facts beyond it.
 use Prim.Native.Nat.{ℕ, _+_, _*_, _≤_}
 use mathlib.Core.Path.{_≡_}
 use mathlib.Core.Logic.{_⊎_}
@@ -37,6 +37,12 @@ pub record Agreed (correct : ℕ → Bool) (w : World) : Type 0 where
 abbrev pub Agreement : Type 0
 Agreement =
     (s : Setup) (correct : ℕ → Bool) (calls : List (ℕ × Call)) → Premises s correct calls → Agreed correct (run start calls)
+
+-- The claim is about the world after the last call. A beginning of a list that meets the premises meets them too, so the claim, and all
+-- that follows from the premises, held after each call
+abbrev pub Beginnings : Type 0
+Beginnings =
+    (s : Setup) (correct : ℕ → Bool) (calls more : List (ℕ × Call)) → Premises s correct (calls ++ more) → Premises s correct calls
 
 -- Beyond demand 3, with its premises: of two replicas the list of the one whose R is not the higher begins the other's, so at one R,
 -- as at the end of a term, all lists are the same

@@ -33,3 +33,16 @@ abbrev pub ReadsFew : Type 0
 ReadsFew =
     (s : Setup) (correct : ℕ → Bool) (calls : List (ℕ × Call)) → Premises s correct calls → (i : ℕ) (c : State)
     → run start calls .states i ≡ some c → searched c ≤ s .f + 1
+
+-- Neither is true with a slot less: with f = 1, in a list that meets the premises, a replica reads as many as both allow
+pub record Reached : Type 0 where
+  pub s : Setup
+  pub correct : ℕ → Bool
+  pub calls : List (ℕ × Call)
+  pub premises : Premises s correct calls
+  pub i : ℕ
+  pub c : State
+  pub left : run start calls .states i ≡ some c
+  pub f-one : s .f ≡ 1
+  pub by-masks : searched c ≡ certifiedRun s (c .masks) (commitLimit (c .replica)) + 1
+  pub by-f : searched c ≡ s .f + 1

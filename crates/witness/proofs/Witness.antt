@@ -19,10 +19,10 @@ use Rattle.apollo.specs.Calls.{blamesCall}
 use Rattle.agreement.specs.Run.{Act, branch, blame, blames, tick, Call, opening, act, Event, handed, emitted, answered, In, Seen, World, start, uncut, framesIn, emit, stateOf, answer, run}
 use Rattle.agreement.specs.Premises.{Mostly, Patient, Distinct, Premises}
 use Rattle.agreement.specs.Claim.{committed, Agreed}
-use Rattle.agreement.proofs.Agreement.{agreement}
+use Rattle.agreement.proofs.Agreement.{agreement, beginnings}
 use Rattle.witness.proofs.Frames.{d1, d3, d4, e0, b1, b3, b4, m0, m2, checked1, checked3, checked4, checked-m0, checked-m2}
 use Rattle.witness.proofs.Answers.{out, log0, all, opened-0, opened-2, first-2, blaming-0, heard-2, skipped-2, skipped-0, last-0, last-2, open-0, open-2, take-1, tick-0, hear-0, tick-2, hear-set, take-3, take-4}
-use Rattle.witness.proofs.Worlds.{given, next, Goes, stay, goes, lawful, unforged, opens, acts}
+use Rattle.witness.proofs.Worlds.{given, next, Goes, stay, then, goes, lawful, unforged, opens, acts}
 
 -- The list: f = 1, T = 4, a timeout of one tick; replica 1, the leader of round 2, is missing.
 --   0 opens and emits block 1; 2 opens; 2 takes block 1
@@ -45,10 +45,15 @@ hearingSet ms = blames ms [] out
 ticking : Act
 ticking = tick [] out
 
+pub first-six : List (ℕ × Call)
+first-six =
+    (0, openAt 0) ∷ (2, openAt 2) ∷ (2, act (taking b1)) ∷ (0, act ticking) ∷ (2, act (hearing m0)) ∷ (2, act ticking) ∷ []
+
+last-three : List (ℕ × Call)
+last-three = (0, act (hearingSet (m0 ++ m2))) ∷ (0, act (taking b3)) ∷ (2, act (taking b4)) ∷ []
+
 pub calls : List (ℕ × Call)
-calls =
-    (0, openAt 0) ∷ (2, openAt 2) ∷ (2, act (taking b1)) ∷ (0, act ticking) ∷ (2, act (hearing m0)) ∷ (2, act ticking)
-    ∷ (0, act (hearingSet (m0 ++ m2))) ∷ (0, act (taking b3)) ∷ (2, act (taking b4)) ∷ []
+calls = first-six ++ last-three
 
 -- the worlds that it goes through
 w1 : World
@@ -79,11 +84,11 @@ w9 : World
 w9 = next w8 2 (b4 ∷ []) last-2 []
 
 worlds : Unit {0}
-unfolding openAt taking hearing hearingSet ticking calls start given next emit w1 w2 w3 w4 w5 w6 w7 w8 w9
+unfolding openAt taking hearing hearingSet ticking first-six last-three calls start given next emit w1 w2 w3 w4 w5 w6 w7 w8 w9
 worlds = tt
 
 -- replicas 0 and 2 are correct
-pub setup : Setup
+unfoldable pub setup : Setup
 setup = record { f = 1; «last_round» = record { 0 = 4 } }
 
 pub correct : ℕ → Bool
@@ -93,21 +98,29 @@ correct i = not (eqb i 1)
 by : (x : List ℕ) (i : ℕ) → signer x ≡ i → emitted (signer x) x ≡ emitted i x
 by x i e = ap (λ k. emitted k x) e
 
-steps : Goes setup correct start calls w9
-unfolding worlds setup framesIn uncut answer all opened-0 opened-2 first-2 blaming-0 heard-2 skipped-2 skipped-0
-steps =
+six : Goes setup correct start first-six w6
+unfolding worlds setup framesIn uncut answer all opened-0 opened-2 first-2 blaming-0 heard-2
+six =
     opens setup correct start 0 1 log0 (zeros 4) [] opened-0 (b1 ∷ []) refl open-0 (refl, tt)
     (opens setup correct w1 2 1 log0 (zeros 4) [] opened-2 [] refl open-2 tt
     (acts setup correct w2 2 (taking b1) opened-2 first-2 (b1 ∷ []) [] refl refl (checked1, tt) (inr (inr (inl (by b1 0 refl))), tt) take-1 tt
     (acts setup correct w3 0 ticking opened-0 blaming-0 [] (m0 ∷ []) refl refl tt tt tick-0 (refl, tt)
     (acts setup correct w4 2 (hearing m0) first-2 heard-2 (m0 ∷ []) [] refl refl (checked-m0, tt) (inr (inl (by m0 0 refl)), tt) hear-0 tt
-    (acts setup correct w5 2 ticking heard-2 skipped-2 [] (m2 ∷ b3 ∷ []) refl refl tt tt tick-2 (refl, (refl, tt))
-    (acts setup correct w6 0 (hearingSet (m0 ++ m2)) blaming-0 skipped-0 (m0 ∷ m2 ∷ []) [] refl refl (checked-m0, (checked-m2, tt))
+    (acts setup correct w5 2 ticking heard-2 skipped-2 [] (m2 ∷ b3 ∷ []) refl refl tt tt tick-2 (refl, (refl, tt)) stay)))))
+
+three : Goes setup correct w6 last-three w9
+unfolding worlds setup framesIn uncut answer all blaming-0 skipped-2 skipped-0
+three =
+    acts setup correct w6 0 (hearingSet (m0 ++ m2)) blaming-0 skipped-0 (m0 ∷ m2 ∷ []) [] refl refl (checked-m0, (checked-m2, tt))
     (inr (inr (inr (inr (inr (inr (inl (by m0 0 refl))))))), (inr (inr (inl (by m2 2 refl))), tt)) hear-set tt
     (acts setup correct w7 0 (taking b3) skipped-0 last-0 (b3 ∷ []) (b4 ∷ []) refl refl (checked3, tt)
     (inr (inr (inr (inr (inl (by b3 2 refl))))), tt) take-3 (refl, tt)
     (acts setup correct w8 2 (taking b4) skipped-2 last-2 (b4 ∷ []) [] refl refl (checked4, tt) (inr (inl (by b4 0 refl)), tt) take-4 tt
-    stay))))))))
+    stay))
+
+steps : Goes setup correct start calls w9
+unfolding calls
+steps = then setup correct six three
 
 mostly : Mostly setup correct
 unfolding setup correct count
@@ -247,6 +260,15 @@ commits = (
   (last-0, ap (λ (w : World). w .states 0) (goes setup correct steps), unfold all last-0 committed chain in refl),
   (last-2, ap (λ (w : World). w .states 2) (goes setup correct steps), unfold all last-2 committed chain in refl),
 )
+
+-- The first six calls meet the premises too. They leave replica 2 waiting for round 4, with round 2 skipped.
+pub six-premises : Premises setup correct first-six
+unfolding calls
+six-premises = beginnings setup correct first-six last-three premises
+
+pub six-leave : run start first-six .states 2 ≡ some skipped-2
+unfolding worlds
+six-leave = ap (λ (w : World). w .states 2) (goes setup correct six)
 
 -- Document 02, F-2, in the seventh call: replica 0 had committed nothing, and commits block 1 by the set of blames, with which it emits
 -- nothing (`hear-set`).

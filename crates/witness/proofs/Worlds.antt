@@ -3,7 +3,7 @@ use Prim.Native.Nat.{ℕ}
 use mathlib.Core.Path.{_≡_, refl, sym, ap, ap₂, _∙_, subst}
 use mathlib.Core.Logic.{inl, inr}
 use mathlib.Core.Option.{none, some}
-use mathlib.Core.List.{List, [], _∷_}
+use mathlib.Core.List.{List, [], _∷_, _++_}
 use mathlib.Core.Bool.{Bool, true, cond}
 use lib.Dec.{eqb}
 use Rattle.sha256.specs.Fips.{sha256}
@@ -78,6 +78,11 @@ module _ (s : Setup) (correct : ℕ → Bool) where
     stay : {w : World} → Goes w [] w
     go : {w u v : World} {i : ℕ} {d : Call} {es : List (ℕ × Call)} → Lawful s w i d → Unforged s correct w i d → step w i d ≡ u
         → Goes u es v → Goes w ((i, d) ∷ es) v
+
+  -- one list after another
+  pub then : {w u v : World} {es fs : List (ℕ × Call)} → Goes w es u → Goes u fs v → Goes w (es ++ fs) v
+  then stay k = k
+  then (go l h e g) k = go l h e (then g k)
 
   pub goes : {w v : World} {es : List (ℕ × Call)} → Goes w es v → run w es ≡ v
   unfolding run
