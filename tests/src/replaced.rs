@@ -1,4 +1,4 @@
-//! The model with some of its calls replaced, to try what compares.
+//! The model with some of its functions replaced, for tests of the comparison.
 
 use crate::library::Library;
 use crate::model::{self, Answer, Fetched, Lent, Part, Record, Search, Setup};
@@ -28,7 +28,6 @@ pub type Read = fn(Record, &[u8], u32) -> Part;
 pub type Fetch = fn(Record, &[u8], u32, &mut [u8]) -> Fetched;
 pub type Find = fn(&[u8], u32) -> Search;
 
-/// The model with some of its calls replaced.
 pub struct Replaced {
     machine: Machine,
     read: Read,

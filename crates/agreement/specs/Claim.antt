@@ -39,7 +39,7 @@ Agreement =
     (s : Setup) (correct : ℕ → Bool) (calls : List (ℕ × Call)) → Premises s correct calls → Agreed correct (run start calls)
 
 -- The claim is about the world after the last call. A beginning of a list that meets the premises meets them too, so the claim, and all
--- that follows from the premises, held after each call
+-- that follows from the premises, holds after each call of the list
 abbrev pub Beginnings : Type 0
 Beginnings =
     (s : Setup) (correct : ℕ → Bool) (calls more : List (ℕ × Call)) → Premises s correct (calls ++ more) → Premises s correct calls

@@ -1,5 +1,5 @@
--- How many slots the search of a commit reads, on logs that calls made (document 02, F-3). T is in neither bound: with as many rounds
--- skipped, a term of 4,096 rounds costs no more than one of 64.
+-- How many slots the search of a commit reads, on logs that calls made (document 02, F-3). T is in neither bound: with as many
+-- certified rounds in a row it is the same for a term of 4,096 rounds as for one of 64.
 use Prim.Native.Nat.{ℕ, zero, suc, _+_, _≤_}
 use mathlib.Core.Path.{_≡_}
 use mathlib.Core.Option.{some}

@@ -1,5 +1,5 @@
 -- A list of calls that meets demand 3's premises, with SHA-256 itself, where a leader is missing, its round is blamed and skipped, one
--- replica commits by blames alone, and two commit a block above that round. Assumes nothing.
+-- replica commits by blames alone, and two commit a block above that round. Its first six calls meet them too. Assumes nothing.
 use Prim.Native.Nat.{ℕ}
 use mathlib.Core.Path.{_≡_, refl, sym, ap, _∙_, subst}
 use mathlib.Core.Logic.{_⊎_, inl, inr}
