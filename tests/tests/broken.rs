@@ -1078,87 +1078,81 @@ fn claims_find(name: &str, library: &Replaced, rules: bool, part: &str) {
 
 #[test]
 fn claims_find_slips_on_both_sides() {
-    let slips: [(&str, Machine, &str); 6] = [
-        (
-            "commits one round early",
-            commits_one_round_early,
-            "than its R gives",
-        ),
-        ("by the tip", commits_by_the_tip, "than its R gives"),
+    let (machine, search) = (Replaced::machine, Replaced::search);
+    let other = "than its R gives";
+    let many = "shown rounds in a row";
+    let slips = [
+        ("one round early", machine(commits_one_round_early), other),
+        ("by the tip", machine(commits_by_the_tip), other),
         (
             "not at R = T + 1",
-            commits_nothing_at_the_end,
-            "than its R gives",
+            machine(commits_nothing_at_the_end),
+            other,
         ),
-        ("takes stale sets", takes_stale_sets, "blames of one frame"),
-        ("undoes committed slots", undoes, "shrank"),
+        (
+            "takes stale sets",
+            machine(takes_stale_sets),
+            "blames of one frame",
+        ),
+        ("undoes committed slots", machine(undoes), "shrank"),
         (
             "waits for its own round",
-            waits_for_its_own_round,
+            machine(waits_for_its_own_round),
             "answered 2",
         ),
-    ];
-    for (name, machine, part) in slips {
-        claims_find(name, &Replaced::machine(machine), true, part);
-    }
-}
-
-#[test]
-fn claims_find_slips_of_the_search_on_both_sides() {
-    let slips: [(&str, Find, &str); 5] = [
-        (
-            "one slot more",
-            counts_one_slot_more,
-            "shown rounds in a row",
-        ),
+        ("one slot more", search(counts_one_slot_more), many),
         (
             "counts down to round 1",
-            counts_down_to_round_1,
-            "shown rounds in a row",
+            search(counts_down_to_round_1),
+            many,
         ),
-        ("walks up from round 1", walks_up, "shown rounds in a row"),
-        ("gives the lowest", gives_the_lowest, "committed is round"),
-        ("begins one below", begins_one_below, "committed is round"),
+        ("walks up", search(walks_up), many),
+        (
+            "gives the lowest",
+            search(gives_the_lowest),
+            "committed is round",
+        ),
+        (
+            "begins one below",
+            search(begins_one_below),
+            "committed is round",
+        ),
     ];
-    for (name, search, part) in slips {
-        claims_find(name, &Replaced::search(search), true, part);
-    }
-}
-
-/// The claim that the search reads at most f + 1 slots finds these by itself.
-#[test]
-fn claims_about_sound_cards_find_slips_of_the_search_on_both_sides() {
-    let slips: [(&str, Find); 4] = [
-        ("one slot more", counts_one_slot_more),
-        ("counts down to round 1", counts_down_to_round_1),
-        ("walks up from round 1", walks_up),
-        ("gives the lowest", gives_the_lowest),
-    ];
-    for (name, search) in slips {
-        claims_find(name, &Replaced::search(search), false, "more than f + 1");
+    for (name, library, part) in slips {
+        claims_find(name, &library, true, part);
     }
 }
 
 /// The claims about sound cards find these by themselves.
 #[test]
 fn claims_about_sound_cards_find_slips_on_both_sides() {
-    let slips: [(&str, Machine, &str); 6] = [
-        ("commits nothing", commits_nothing, "only"),
+    let (machine, search) = (Replaced::machine, Replaced::search);
+    let many = "more than f + 1";
+    let slips = [
+        ("commits nothing", machine(commits_nothing), "only"),
         (
-            "commits one round early",
-            commits_one_round_early,
+            "one round early",
+            machine(commits_one_round_early),
             "parts from another's",
         ),
-        ("shows a round with f", shows_with_f, ""),
-        ("takes unshown rounds", takes_unshown_rounds, ""),
-        ("by the tip", commits_by_the_tip, "as another has"),
+        ("shows a round with f", machine(shows_with_f), ""),
+        ("takes unshown rounds", machine(takes_unshown_rounds), ""),
+        ("by the tip", machine(commits_by_the_tip), "as another has"),
         (
             "not at R = T + 1",
-            commits_nothing_at_the_end,
+            machine(commits_nothing_at_the_end),
             "as another has",
         ),
+        ("one slot more", search(counts_one_slot_more), many),
+        (
+            "counts down to round 1",
+            search(counts_down_to_round_1),
+            many,
+        ),
+        ("walks up", search(walks_up), many),
+        ("gives the lowest", search(gives_the_lowest), many),
     ];
-    for (name, machine, part) in slips {
-        claims_find(name, &Replaced::machine(machine), false, part);
+    for (name, library, part) in slips {
+        claims_find(name, &library, false, part);
     }
 }

@@ -169,8 +169,8 @@ fn the_search_reads_f_and_1_slots_beside_a_dead_card() {
 #[test]
 fn more_slots_are_told_while_the_premises_hold() {
     let message = "claim: the search of card 1 read 3 slots, more than f + 1";
-    let told = told(one_slot_more, 0b110, false).map(|_| ());
-    assert_eq!(told, Err((10, message.into())));
+    let told = told(one_slot_more, 0b110, false).err();
+    assert_eq!(told, Some((10, message.into())));
 }
 
 /// A sound card's round was blamed; too few cards are sound.
@@ -185,16 +185,16 @@ fn more_slots_are_not_told_where_a_premise_fails() {
 fn slots_beyond_the_shown_rounds_are_told_whoever_is_sound() {
     let message = "claim: the search of card 2 read 2 slots, with 0 shown rounds in a row from R - 1 - f down";
     for sound in [0b110, 0b111, 0b010, 0] {
-        let told = told(one_slot_more, sound, true).map(|_| ());
-        assert_eq!(told, Err((6, message.into())));
+        let told = told(one_slot_more, sound, true).err();
+        assert_eq!(told, Some((6, message.into())));
     }
 }
 
 #[test]
 fn another_round_than_the_committed_one_is_told() {
     let message = "claim: the search of card 2 found round 0, committed is round 2";
-    let told = told(none_found, 0, true).map(|_| ());
-    assert_eq!(told, Err((6, message.into())));
+    let told = told(none_found, 0, true).err();
+    assert_eq!(told, Some((6, message.into())));
 }
 
 /// The host writes card 2's state as it is: from there on nothing is due for it.

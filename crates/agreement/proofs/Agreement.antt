@@ -191,12 +191,18 @@ agreement s correct calls p =
     }
 
 pub by-round : ByRound
-by-round s correct calls p i j c d ec ed = (begins-by s correct calls p i j c d ec ed, level-by s correct calls p i j c d ec ed)
+by-round s correct calls p i j c d ec ed = (
+  λ l. begins-by s correct calls p i j c d ec ed (omega (arith, l)),
+  λ e. level-by s correct calls p i j c d ec ed (omega (arith, e)),
+)
 
 pub near : Near
 near s correct calls p i c e =
-    committed-near s correct (run start calls .past) (honest s correct calls p) i c (invariant s correct calls p .good i c e)
-    (invariant s correct calls p .rests i c e .renewed)
+    omega (
+      arith,
+      committed-near s correct (run start calls .past) (honest s correct calls p) i c (invariant s correct calls p .good i c e)
+          (invariant s correct calls p .rests i c e .renewed),
+    )
 
 pub never-invalid : NeverInvalid
 never-invalid s calls l =

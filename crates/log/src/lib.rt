@@ -8,7 +8,7 @@ ghost use Rattle.apollo.specs.Log as Log;
 ghost use Rattle.apollo.specs.Branch as Branch;
 ghost use Rattle.log.specs.Slots.{slotPart, Slotted};
 
-// What a search of the log gives.
+// What a search of the log gives, laid out as in C.
 #[repr(C)]
 pub struct Found {
     pub round: u32, // of the slot found, 0 if none

@@ -12,7 +12,7 @@ use Rattle.apollo.specs.declared.Setup.{Setup}
 use Rattle.apollo.specs.Log.{slot, filled, highest, slotsRead}
 use Rattle.apollo.specs.Masks.{certified}
 use Rattle.apollo.specs.Enter.{State, commitLimit}
-use Rattle.agreement.specs.Run.{Call, World, start, run}
+use Rattle.agreement.specs.Run.{Call, start, run}
 use Rattle.agreement.specs.Premises.{Each, Lawful}
 use Rattle.agreement.proofs.Tests.{clash, either, by-cond}
 use Rattle.agreement.proofs.Slots.{highest-le, highest-max}
