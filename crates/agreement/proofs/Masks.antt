@@ -12,24 +12,9 @@ use borrow.Author.Tests.{eqb-true, eqb-false, leb-true, leb-false, le-leb, eq-eq
 use Rattle.apollo.specs.declared.Setup.{Setup}
 use Rattle.apollo.specs.Setup.{replicas}
 use Rattle.apollo.specs.Masks.{count, bit, setBit, mask, addBlame, certified, gap}
+use Rattle.apollo.proofs.Masks.{bit-set-other, bit-kept}
 use Rattle.agreement.proofs.Tests.{by-cond}
 use Rattle.agreement.proofs.Counts.{count-mono}
-
-bit-set-same : (i m : ℕ) → bit i (setBit i m) ≡ true
-unfolding bit setBit
-bit-set-same zero m = let e : (m / 2 * 2 + 1) % 2 ≡ 1 = omega arith in eq-eqb _ _ e
-bit-set-same (suc i) m =
-    let e : (setBit i (m / 2) * 2 + m % 2) / 2 ≡ setBit i (m / 2) = omega arith in
-    ap (bit i) e ∙ bit-set-same i (m / 2)
-
-bit-set-other : (j i m : ℕ) → j ≢ i → bit j (setBit i m) ≡ bit j m
-unfolding bit setBit
-bit-set-other zero zero m ne = absurd (ne refl)
-bit-set-other (suc j) zero m ne = let e : (m / 2 * 2 + 1) / 2 ≡ m / 2 = omega arith in ap (bit j) e
-bit-set-other zero (suc i) m ne = let e : (setBit i (m / 2) * 2 + m % 2) % 2 ≡ m % 2 = omega arith in ap (λ k. eqb k 1) e
-bit-set-other (suc j) (suc i) m ne =
-    let e : (setBit i (m / 2) * 2 + m % 2) / 2 ≡ setBit i (m / 2) = omega arith in
-    ap (bit j) e ∙ bit-set-other j i (m / 2) (λ e. ne (ap suc e))
 
 -- a bit that is set after a blame was set before, or is the blame's
 mask-other : (masks : List ℕ) (r i q : ℕ) → q - 1 ≢ r - 1 → mask (addBlame masks r i) q ≡ mask masks q
@@ -65,13 +50,6 @@ mask-set masks r i q k o p e = go (eqb q r) refl (leb (length masks) (r - 1)) re
 -- a bit that is set stays set, and a certified round stays certified
 mask-same : (masks : List ℕ) (r q : ℕ) → q - 1 ≡ r - 1 → mask masks q ≡ mask masks r
 mask-same masks r q e = ap (λ k. getD masks k 0) e
-
-bit-kept : (i k m : ℕ) → bit k m ≡ true → bit k (setBit i m) ≡ true
-bit-kept i k m e = go (eqb k i) refl
-  where
-    go : (z : Bool) → eqb k i ≡ z → bit k (setBit i m) ≡ true
-    go true z = ap (λ j. bit j (setBit i m)) (eqb-true _ _ z) ∙ bit-set-same i m
-    go false z = bit-set-other k i m (eqb-false _ _ z) ∙ e
 
 mask-kept : (masks : List ℕ) (r i q k : ℕ) → bit k (mask masks q) ≡ true → bit k (mask (addBlame masks r i) q) ≡ true
 mask-kept masks r i q k e = go (eqb (q - 1) (r - 1)) refl (leb (length masks) (r - 1)) refl

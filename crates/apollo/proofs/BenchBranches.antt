@@ -5,13 +5,14 @@ use mathlib.Core.List.{List, [], _∷_, _++_, flatten, append-assoc, append-nil}
 use mathlib.Core.Option.{none, some}
 use mathlib.Core.Bool.{Bool, true, false, _&&_, cond, true≢false}
 use native.Mathlib.Omega.{arith}
-use lib.ListN.{length, take}
+use lib.ListN.{length, getD, take}
 use lib.Dec.{eqb, leb, ltb, eqb·suc-zero}
 use borrow.Author.Tests.{lt-ltb, eq-eqb, ne-eqb, eqb-true, eqb-false}
 use Rattle.sha256.specs.Fips.{sha256}
 use Rattle.apollo.specs.declared.Replica.{Replica}
 use Rattle.apollo.specs.Bytes.{zeros}
 use Rattle.apollo.specs.declared.Setup.{Setup}
+use Rattle.apollo.specs.Rotation.{inTurn, padded}
 use Rattle.apollo.specs.Setup.{setupOf, leader, setup}
 use Rattle.apollo.specs.Frame.{round, height, linked}
 use Rattle.apollo.specs.Log.{genesis, slot, filled, store, clearAbove, attach}
@@ -21,7 +22,7 @@ use Rattle.apollo.specs.Enter.{State, Effect, commit, tipped, holding, e
 use Rattle.apollo.specs.Outcome.{refused, taken}
 use Rattle.apollo.specs.Branch.{lastOf, childOf, firstUncertified, storeAll, grown, adopting, placed}
 use Rattle.apollo.specs.Calls.{branchCall}
-use Rattle.apollo.specs.BenchSheet.{Callable, ParentIn, Item9, Item10, Held, number, place, newRound, block, blocks}
+use Rattle.apollo.specs.BenchSheet.{turn, Callable, ParentIn, Item9, Item10, Held, number, place, newRound, block, blocks}
 use Rattle.apollo.proofs.Tests.{and-true, both, cond-true, cond-false, same-of, different}
 use Rattle.apollo.proofs.Validity.{Valid, valid}
 use Rattle.apollo.proofs.Slots.{slot-length, length-store, store-same, store-other, length-clear, clear-low, clear-high, take-slots, slot-take}
@@ -108,10 +109,10 @@ module _ (log x : List ℕ) (a : ℕ) (above : a < round x) (fit : 512 * round x
   grown-between q b d = grown-other q d ∙ clear-high log a q b (omega arith)
 
 -- whether a replica leads R, from its numbers
-leads-as : (r : Replica) (R T f id : ℕ) → r .round .0 ≡ R → r .«last_round» .0 ≡ T → r .f ≡ f → r .id ≡ id
-    → leads r ≡ (leb R T && eqb ((R - 1) % (2 * f + 1)) id)
+leads-as : (r : Replica) (R T f id : ℕ) (rotation : List ℕ) → r .round .0 ≡ R → r .«last_round» .0 ≡ T → r .f ≡ f → r .id ≡ id
+    → r .rotation ≡ rotation → leads r ≡ (leb R T && eqb (getD rotation ((R - 1) % (2 * f + 1)) 0) id)
 unfolding leads leader
-leads-as r R T f id e g h k = λ i. leb (e i) (g i) && eqb ((e i - 1) % (2 * h i + 1)) (k i)
+leads-as r R T f id rotation e g h k q = λ i. leb (e i) (g i) && eqb (getD (q i) ((e i - 1) % (2 * h i + 1)) 0) (k i)
 
 -- the R that entering leaves
 entered-leads : (entry : List ℕ) (s : State) → leads (s .replica) ≡ true
@@ -126,7 +127,10 @@ entered-waits entry s e = ap (λ (m : Effect). m .state .replica .round .0) (con
 
 module _ {s : State} {x out : List ℕ} (h : Item9 s x out) (entry : List ℕ) (l : length entry ≤ 400) where
   good-9 : block (setupOf (s .replica)) x ≡ true
-  good-9 = subst (λ k. block k x ≡ true) (sym (ap₂ setup (h .f) (h .last))) (h .form)
+  good-9 =
+      let e : setupOf (s .replica) ≡ setup 1 6 (turn 1) =
+      λ i. record { f = h .f i; «last_round» = record { 0 = h .last i }; rotation = h .rotation i } in
+      subst (λ k. block k x ≡ true) (sym e) (h .form)
 
   at-9 : branchCall s x entry out ≡ placed sha256 entry out s x [] (some 1)
   at-9 = on-parent (h .callable) entry l x good-9 (h .round ∙ sym (h .awaited)) 1 (omega arith) (h .parent)
@@ -164,7 +168,8 @@ module _ {s : State} {x out : List ℕ} (h : Item9 s x out) (entry : List ℕ) (
     replica-1 e =
         let w : State = holding s (grown (s .log) 1 (x ∷ [])) (round x) (height x) in
         let led : leads (w .replica) ≡ false =
-        unfold holding tipped in leads-as (w .replica) 4 6 1 1 (ap (λ k. k + 1) (h .round)) (h .last) (h .f) e in
+        unfold holding tipped padded inTurn zeros in
+        leads-as (w .replica) 4 6 1 1 (padded (turn 1)) (ap (λ k. k + 1) (h .round)) (h .last) (h .f) e (h .rotation) in
         ap newRound taken-9 ∙ entered-waits entry w led ∙ (unfold holding tipped in ap (λ k. k + 1) (h .round))
 
     pub replica-0 : s .replica .id ≡ 0 → newRound (branchCall s x entry out) ≡ 5
@@ -172,7 +177,8 @@ module _ {s : State} {x out : List ℕ} (h : Item9 s x out) (entry : List ℕ) (
     replica-0 e =
         let w : State = holding s (grown (s .log) 1 (x ∷ [])) (round x) (height x) in
         let led : leads (w .replica) ≡ true =
-        unfold holding tipped in leads-as (w .replica) 4 6 1 0 (ap (λ k. k + 1) (h .round)) (h .last) (h .f) e in
+        unfold holding tipped padded inTurn zeros in
+        leads-as (w .replica) 4 6 1 0 (padded (turn 1)) (ap (λ k. k + 1) (h .round)) (h .last) (h .f) e (h .rotation) in
         ap newRound taken-9 ∙ entered-leads entry w led ∙ (unfold holding tipped in ap (λ k. k + 1 + 1) (h .round))
 
 pub committed-10 : {s : State} {out : List ℕ} → Item10 s out → s .replica .«committed_round» .0 ≡ 2

@@ -6,15 +6,17 @@ use mathlib.Core.Bool.{Bool, true, false, cond}
 use Rattle.apollo.specs.declared.Replica.{Replica}
 use Rattle.apollo.specs.Bytes.{number4, zeros}
 use Rattle.apollo.specs.declared.Setup.{Setup}
+use Rattle.apollo.specs.Rotation.{inTurn, padded}
 use Rattle.apollo.specs.Setup.{leader, setup}
 use Rattle.apollo.specs.Log.{genesis, slot, filled, highest}
 use Rattle.apollo.specs.Masks.{bit, count, mask, certified}
 use Rattle.apollo.specs.Enter.{commitLimit, commit}
-use Rattle.apollo.specs.BenchSheet.{chainRounds, committedRound, committedHeight}
+use Rattle.apollo.specs.BenchSheet.{turn, chainRounds, committedRound, committedHeight}
 
 pub leaders : (T : ℕ)
-    → (leader (setup 1 T) 1 ≡ 0) × (leader (setup 1 T) 3 ≡ 2) × (leader (setup 1 T) 4 ≡ 0) × (leader (setup 7 T) 16 ≡ 0)
-unfolding leader
+    → (leader (setup 1 T (turn 1)) 1 ≡ 0) × (leader (setup 1 T (turn 1)) 3 ≡ 2) × (leader (setup 1 T (turn 1)) 4 ≡ 0)
+    × (leader (setup 7 T (turn 7)) 16 ≡ 0)
+unfolding leader padded inTurn zeros
 leaders T = (refl, refl, refl, refl)
 
 -- two, three and four slots, by whether each is filled

@@ -7,12 +7,13 @@ use mathlib.Core.Option.{some}
 use mathlib.Core.Bool.{Bool, true, false, _&&_, not}
 use native.Mathlib.Numerals.{add-one}
 use native.Mathlib.Omega.{arith}
-use lib.ListN.{length, length-take, length-drop}
+use lib.ListN.{length, getD, length-take, length-drop}
 use lib.Dec.{eqb}
 use borrow.Author.Tests.{le-ltb, eq-eqb, ne-eqb, eqb-true, eqb-false}
 use Rattle.sha256.specs.Fips.{sha256}
 use Rattle.apollo.specs.declared.Replica.{Replica}
 use Rattle.apollo.specs.Bytes.{number4, zeros, same}
+use Rattle.apollo.specs.Rotation.{inTurn, padded}
 use Rattle.apollo.specs.Setup.{replicas, leader, setup, setupOf}
 use Rattle.apollo.specs.Frame.{kind, signer, round, height, parent, digest, linked, sealed, blameHead, makeBlock, makeBlame}
 use Rattle.apollo.specs.Log.{genesis, slot, filled, store, clearAbove, attach, highest}
@@ -23,9 +24,10 @@ use Rattle.apollo.specs.Outcome.{taken}
 use Rattle.apollo.specs.Branch.{lastOf, firstUncertified, storeAll, grown, adopting, placed}
 use Rattle.apollo.specs.Single.{oneBlame}
 use Rattle.apollo.specs.Calls.{openCall, branchCall, blameCall}
-use Rattle.apollo.specs.BenchSheet.{after, Callable, block, blocks}
+use Rattle.apollo.specs.BenchSheet.{turn, after, Callable, block, blocks}
 use Rattle.apollo.proofs.Single.{blame-one}
 use Rattle.apollo.proofs.Tests.{both, cond-true, cond-false, same-of}
+use Rattle.apollo.proofs.Rotation.{turn-rotation, padded-valid, turn-seat}
 use Rattle.apollo.proofs.Validity.{Valid, valid, valid-of}
 use Rattle.apollo.proofs.Slots.{length-zeros, length-store, store-same, store-other, length-clear, clear-low, take-slots}
 use Rattle.apollo.proofs.Judging.{passes, fresh-branch, attaches}
@@ -59,13 +61,13 @@ child i r h p = makeBlock sha256 i r h (digest p) []
 
 pub record Child (r h : ℕ) (p x : List ℕ) : Type 0 where
   pub whole : length x ≡ 512
-  pub good : block (setup 1 6) x ≡ true
+  pub good : block (setup 1 6 (turn 1)) x ≡ true
   pub at : round x ≡ r
   pub high : height x ≡ h
   pub full : filled x ≡ true
   pub on : linked p x ≡ true
 
-pub children : (i r h : ℕ) (p : List ℕ) → length p ≡ 512 → i ≡ leader (setup 1 6) r → 1 ≤ r → r ≤ 6 → 1 ≤ h → h ≤ r → height p + 1 ≡ h
+pub children : (i r h : ℕ) (p : List ℕ) → length p ≡ 512 → i ≡ leader (setup 1 6 (turn 1)) r → 1 ≤ r → r ≤ 6 → 1 ≤ h → h ≤ r → height p + 1 ≡ h
     → Child r h p (child i r h p)
 unfolding child linked
 children i r h p whole led one last low high next =
@@ -74,7 +76,7 @@ children i r h p whole led one last low high next =
     let e : height x ≡ h = block-height i r h (digest p) [] wide (omega arith) (omega arith) in
     record {
       whole = block-length i r h (digest p) [] wide (omega arith);
-      good = block-made i r h (digest p) [] wide (omega arith) (setup 1 6) led one last (omega arith) low high;
+      good = block-made i r h (digest p) [] wide (omega arith) (setup 1 6 (turn 1)) led one last (omega arith) low high;
       at = block-round i r h (digest p) [] wide (omega arith) (omega arith);
       high = e;
       full = eq-eqb (kind x) 1 (block-kind i r h (digest p) [] wide (omega arith));
@@ -115,7 +117,9 @@ linked-from : (k : ℕ) → k < 6 → Sized k → Child (k + 1) (k + 1) (blk k) 
 unfolding blk leader
 linked-from k low s =
     let e : height (blk k) ≡ k = s .1 in
-    let led : k % 3 ≡ (k + 1 - 1) % 3 = ap (λ n. n % 3) (let z : k ≡ k + 1 - 1 = omega arith in z) in
+    let e′ : k + 1 - 1 ≡ k = omega arith in
+    let led : k % 3 ≡ getD (padded (turn 1)) ((k + 1 - 1) % 3) 0 =
+    sym (ap (λ n. getD (padded (turn 1)) (n % 3) 0) e′ ∙ turn-seat 3 (k % 3) (omega arith) (omega arith)) in
     children (k % 3) (k + 1) (k + 1) (blk k) (s .0) led (omega arith) (omega arith) (omega arith) (omega arith) (omega arith)
 
 pub sized : (k : ℕ) → k ≤ 6 → Sized k
@@ -148,6 +152,7 @@ up-to id n k =
       «tip_height» = record { 0 = n };
       «committed_round» = record { 0 = k };
       «committed_height» = record { 0 = k };
+      rotation = padded (turn 1);
     }
 
 abbrev pub record-of : (id n : ℕ) → Replica
@@ -208,6 +213,7 @@ module _ (log : List ℕ) (n : ℕ) (holds : Holds log n) (most : n ≤ 6) where
                     last-most = omega arith;
                     size = holds .size;
                   };
+              rotation = padded-valid (setup 1 6 (turn 1)) (turn 1) (turn-rotation 3) (omega arith) refl;
               round-least = omega arith;
               round-most = omega arith;
               timer-most = omega arith;
@@ -273,19 +279,19 @@ unfolding slot blk
 no-blocks = record { size = length-zeros 3072; slots = λ k l. let z : k ≡ 0 = omega arith in rw z refl }
 
 unfoldable pub opening : (id : ℕ) → State
-opening id = after (openCall id 1 2 6 (zeros 3072) (zeros 6) [] out)
+opening id = after (openCall id 1 2 6 (turn 1) (zeros 3072) (zeros 6) [] out)
 
-opened : (id : ℕ) → validSetup (fresh id 1 2 6) (zeros 3072) ≡ true
+opened : (id : ℕ) → validSetup (fresh id 1 2 6 (turn 1)) (zeros 3072) ≡ true
     → opening id ≡ enterRound sha256 [] (state id 0 (zeros 3072) (zeros 6)) .state
 unfolding opening out taken fresh
 opened id valid =
-    ap after (open-fits id 1 2 6 (zeros 3072) (zeros 6) [] (zeros 1024) valid (unfold zeros in refl)
+    ap after (open-fits id 1 2 6 (turn 1) (zeros 3072) (zeros 6) [] (zeros 1024) valid (unfold zeros in refl) (turn-rotation 3)
     (omega (arith, length-zeros 1024)) (omega arith))
 
 pub opening-0 : Made (opening 0) 0 1 (zeros 6)
 opening-0 =
     let m : Made (enterRound sha256 [] (state 0 0 (zeros 3072) (zeros 6)) .state) 0 1 (zeros 6) =
-    entered-leads 0 0 0 (zeros 3072) (zeros 6) (omega arith) no-blocks refl (unfold leads leader in refl) in
+    entered-leads 0 0 0 (zeros 3072) (zeros 6) (omega arith) no-blocks refl (unfold leads leader padded inTurn zeros in refl) in
     record { log = m .log; is = opened 0 (unfold validSetup fresh zeros in refl) ∙ m .is; holds = m .holds }
 
 pub opening-1 : Made (opening 1) 1 0 (zeros 6)
@@ -294,7 +300,7 @@ opening-1 =
       log = zeros 3072;
       is =
           opened 1 (unfold validSetup fresh zeros in refl)
-          ∙ entered-waits 1 0 0 (zeros 3072) (zeros 6) (omega arith) no-blocks (unfold leads leader in refl);
+          ∙ entered-waits 1 0 0 (zeros 3072) (zeros 6) (omega arith) no-blocks (unfold leads leader padded inTurn zeros in refl);
       holds = no-blocks;
     }
 
@@ -351,7 +357,7 @@ module _ (id n : ℕ) (log masks : List ℕ) (l : n < 5) (h : Holds log n) (c : 
       ∙ fresh-branch c [] (omega arith) x [] (omega arith) (unfold blocks in child-x .good) (omega arith)
       ∙ ap (placed sha256 [] out (state id n log masks) x []) attached
       ∙ adopts [] out (state id n log masks) x [] n
-      (skips-none (setup 1 6) masks x n [] e ∙ (unfold firstUncertified in refl))
+      (skips-none (setup 1 6 (turn 1)) masks x n [] e ∙ (unfold firstUncertified in refl))
       (take-slots new log (n - 1) (λ q a b. grown-low log x n (omega arith) (omega (arith, h .size)) (child-x .whole) q (omega arith)))
       ∙ ap (λ s. taken (enterRound sha256 [] s) out) (ap₂ (holding (state id n log masks) new) e (child-x .high))
 

@@ -5,13 +5,14 @@ use mathlib.Core.List.{List, [], _∷_, _++_, flatten, append-nil}
 use mathlib.Core.Bool.{true, false, _&&_, not, cond}
 use native.Mathlib.Nat.{zero-mod}
 use native.Mathlib.Omega.{arith}
-use lib.ListN.{length, take, drop}
+use lib.ListN.{length, getD, take, drop}
 use lib.Seq.{take-at}
 use lib.Dec.{eqb, ltb}
 use borrow.Author.Tests.{lt-ltb, le-ltb, eq-eqb}
 use Rattle.sha256.specs.Fips.{sha256}
 use Rattle.apollo.specs.declared.Replica.{Replica}
 use Rattle.apollo.specs.Bytes.{number4, zeros}
+use Rattle.apollo.specs.Rotation.{isRotation, padded}
 use Rattle.apollo.specs.Setup.{leader, setup}
 use Rattle.apollo.specs.Frame.{round, height, digest, sealed, blockHead, makeBlock}
 use Rattle.apollo.specs.Log.{slot, genesis, store, highest}
@@ -21,8 +22,9 @@ use Rattle.apollo.specs.Outcome.{Outcome, refused, taken, guarded}
 use Rattle.apollo.specs.Open.{openWith}
 use Rattle.apollo.specs.Tick.{tickWith}
 use Rattle.apollo.specs.Calls.{openCall, tickCall}
-use Rattle.apollo.specs.BenchSheet.{after, number, newRound, block}
+use Rattle.apollo.specs.BenchSheet.{turn, after, number, newRound, block}
 use Rattle.apollo.proofs.Tests.{both, cond-true, cond-false}
+use Rattle.apollo.proofs.Rotation.{turn-rotation, turn-seat, padded-valid}
 use Rattle.apollo.proofs.Validity.{ValidSetup, valid-setup, valid-of}
 use Rattle.apollo.proofs.Slots.{length-zeros, length-store}
 use Rattle.apollo.proofs.Made.{block-length, block-made}
@@ -31,56 +33,57 @@ use Rattle.apollo.proofs.Made.{block-length, block-made}
 abbrev unopened : (log masks : List ℕ) → State
 unopened log masks = record { replica = zeroReplica; log = log; masks = masks }
 
-abbrev opened : (id f timeout T : ℕ) → State
-opened id f timeout T = record { replica = fresh id f timeout T; log = zeros (512 * T); masks = zeros T }
+abbrev opened : (id f timeout T : ℕ) (rotation : List ℕ) → State
+opened id f timeout T rotation = record { replica = fresh id f timeout T rotation; log = zeros (512 * T); masks = zeros T }
 
-module _ (id f timeout T : ℕ) (log masks entry out : List ℕ) (valid : validSetup (fresh id f timeout T) log ≡ true)
-    (lent : validMasks (fresh id f timeout T) masks ≡ true) (room : 1024 ≤ length out) where
-  opens : openCall id f timeout T log masks entry out
+module _ (id f timeout T : ℕ) (rotation log masks entry out : List ℕ) (valid : validSetup (fresh id f timeout T rotation) log ≡ true)
+    (lent : validMasks (fresh id f timeout T rotation) masks ≡ true) (turns : isRotation (2 * f + 1) rotation ≡ true)
+    (room : 1024 ≤ length out) where
+  opens : openCall id f timeout T rotation log masks entry out
       ≡ cond (ltb 400 (length entry)) (refused (unopened log masks) out 5 0)
-      (taken (enterRound sha256 entry (opened id f timeout T)) out)
-  unfolding openWith
+      (taken (enterRound sha256 entry (opened id f timeout T rotation)) out)
+  unfolding openWith fresh
   opens =
-      let r : Replica = fresh id f timeout T in
+      let r : Replica = fresh id f timeout T rotation in
       let v : not (validSetup r log && validMasks r masks) ≡ false =
       ap not (both (validSetup r log) (validMasks r masks) valid lent) in
-      cond-false _ _ v ∙ cond-false _ _ (le-ltb (length out) 1024 room)
+      cond-false _ _ v ∙ cond-false _ _ (ap not turns) ∙ cond-false _ _ (le-ltb (length out) 1024 room)
 
   pub open-fits : length entry ≤ 400
-      → openCall id f timeout T log masks entry out ≡ taken (enterRound sha256 entry (opened id f timeout T)) out
+      → openCall id f timeout T rotation log masks entry out ≡ taken (enterRound sha256 entry (opened id f timeout T rotation)) out
   open-fits l = opens ∙ cond-false _ _ (le-ltb 400 (length entry) l)
 
-  pub open-400 : length entry ≡ 400 → number (openCall id f timeout T log masks entry out) ≡ 0
+  pub open-400 : length entry ≡ 400 → number (openCall id f timeout T rotation log masks entry out) ≡ 0
   unfolding taken
   open-400 l = ap number (open-fits (omega arith))
 
-  pub open-401 : length entry ≡ 401 → number (openCall id f timeout T log masks entry out) ≡ 5
+  pub open-401 : length entry ≡ 401 → number (openCall id f timeout T rotation log masks entry out) ≡ 5
   unfolding refused
   open-401 l = ap number (opens ∙ cond-true _ _ (lt-ltb 400 (length entry) (omega arith)))
 
-module _ (f timeout : ℕ) (log masks entry out : List ℕ) (valid : validSetup (fresh 0 f timeout 1) log ≡ true)
-    (lent : validMasks (fresh 0 f timeout 1) masks ≡ true) (room : 1024 ≤ length out) (l : length entry ≤ 400) where
+module _ (f timeout : ℕ) (log masks entry out : List ℕ) (valid : validSetup (fresh 0 f timeout 1 (turn f)) log ≡ true)
+    (lent : validMasks (fresh 0 f timeout 1 (turn f)) masks ≡ true) (room : 1024 ≤ length out) (l : length entry ≤ 400) where
   new : State
-  new = opened 0 f timeout 1
+  new = opened 0 f timeout 1 (turn f)
 
   first : List ℕ
   unfolding new
   first = ownBlock sha256 entry new
 
-  leader-1 : leader (setup f 1) 1 ≡ 0
+  leader-1 : leader (setup f 1 (turn f)) 1 ≡ 0
   unfolding leader
-  leader-1 = zero-mod (2 * f + 1)
+  leader-1 = ap (λ k. getD (padded (turn f)) k 0) (zero-mod (2 * f + 1)) ∙ turn-seat (2 * f + 1) 0 (omega arith) (omega arith)
 
   -- the state that the open leaves
   left : State
   unfolding new
   left = entered (proposing sha256 entry new)
 
-  proposes : openCall 0 f timeout 1 log masks entry out ≡ taken (record { state = left; emitted = first ∷ [] }) out
+  proposes : openCall 0 f timeout 1 (turn f) log masks entry out ≡ taken (record { state = left; emitted = first ∷ [] }) out
   unfolding new first left enterRound leads fresh
   proposes =
-      open-fits 0 f timeout 1 log masks entry out valid lent room l
-      ∙ ap (λ (e : Effect). taken e out) (cond-true _ _ (eq-eqb (leader (setup f 1) 1) 0 leader-1))
+      open-fits 0 f timeout 1 (turn f) log masks entry out valid lent (turn-rotation (2 * f + 1)) room l
+      ∙ ap (λ (e : Effect). taken e out) (cond-true _ _ (eq-eqb (leader (setup f 1 (turn f)) 1) 0 leader-1))
 
   parent-length : length (digest (slot (zeros 512) 0)) ≡ 32
   unfolding slot genesis zeros
@@ -90,10 +93,10 @@ module _ (f timeout : ℕ) (log masks entry out : List ℕ) (valid : validSetup 
   unfolding new first ownBlock fresh
   first-length = block-length 0 1 (0 + 1) (digest (slot (zeros 512) 0)) entry parent-length l
 
-  first-block : block (setup f 1) first ≡ true
+  first-block : block (setup f 1 (turn f)) first ≡ true
   unfolding new first ownBlock fresh
   first-block =
-      block-made 0 1 (0 + 1) (digest (slot (zeros 512) 0)) entry parent-length l (setup f 1) (sym leader-1)
+      block-made 0 1 (0 + 1) (digest (slot (zeros 512) 0)) entry parent-length l (setup f 1 (turn f)) (sym leader-1)
       (omega arith) (omega arith) (omega arith) (omega arith) (omega arith)
 
   first-out : take 512 ((first ++ []) ++ drop 512 out) ≡ first
@@ -103,16 +106,16 @@ module _ (f timeout : ℕ) (log masks entry out : List ℕ) (valid : validSetup 
   unfolding new first ownBlock fresh number4 makeBlock sealed blockHead
   first-round = refl
 
-  pub open-emits : (number (openCall 0 f timeout 1 log masks entry out) ≡ 0)
-      × (openCall 0 f timeout 1 log masks entry out .answer .frames ≡ 1)
-      × (block (setup f 1) (take 512 (openCall 0 f timeout 1 log masks entry out .out)) ≡ true)
-      × (round (openCall 0 f timeout 1 log masks entry out .out) ≡ 1)
-      × (newRound (openCall 0 f timeout 1 log masks entry out) ≡ 2)
+  pub open-emits : (number (openCall 0 f timeout 1 (turn f) log masks entry out) ≡ 0)
+      × (openCall 0 f timeout 1 (turn f) log masks entry out .answer .frames ≡ 1)
+      × (block (setup f 1 (turn f)) (take 512 (openCall 0 f timeout 1 (turn f) log masks entry out .out)) ≡ true)
+      × (round (openCall 0 f timeout 1 (turn f) log masks entry out .out) ≡ 1)
+      × (newRound (openCall 0 f timeout 1 (turn f) log masks entry out) ≡ 2)
   unfolding taken flatten
   open-emits = (
     ap number proposes,
     ap (λ (o : Outcome). o .answer .frames) proposes,
-    ap (λ (o : Outcome). block (setup f 1) (take 512 (o .out))) proposes ∙ ap (block (setup f 1)) first-out ∙ first-block,
+    ap (λ (o : Outcome). block (setup f 1 (turn f)) (take 512 (o .out))) proposes ∙ ap (block (setup f 1 (turn f))) first-out ∙ first-block,
     ap (λ (o : Outcome). round (o .out)) proposes ∙ first-round,
     ap newRound proposes ∙ (unfold new left entered proposing holding tipped commit fresh in refl),
   )
@@ -129,7 +132,7 @@ module _ (f timeout : ℕ) (log masks entry out : List ℕ) (valid : validSetup 
   left-valid : validReplica (left .replica) (left .log) ≡ true
   unfolding new first left stored entered proposing holding tipped commit commitLimit fresh leads
   left-valid =
-      let s : ValidSetup (fresh 0 f timeout 1) log = valid-setup (fresh 0 f timeout 1) log valid in
+      let s : ValidSetup (fresh 0 f timeout 1 (turn f)) log = valid-setup (fresh 0 f timeout 1 (turn f)) log valid in
       let low : 1 ≤ f = s .f-least in
       let c : (highest stored (1 - f) ≡ 0) × (height (slot stored (highest stored (1 - f))) ≡ 0) =
       none-committed (1 - f) (omega arith) in
@@ -149,6 +152,7 @@ module _ (f timeout : ℕ) (log masks entry out : List ℕ) (valid : validSetup 
               last-most = omega arith;
               size = omega arith;
             };
+        rotation = padded-valid (setup f 1 (turn f)) (turn f) (turn-rotation (2 * f + 1)) (omega (arith, s .f-most)) refl;
         round-least = omega arith;
         round-most = omega arith;
         timer-most = omega arith;
@@ -171,7 +175,7 @@ module _ (f timeout : ℕ) (log masks entry out : List ℕ) (valid : validSetup 
       unfold new left entered proposing holding tipped commit fresh in refl in
       cond-false _ _ v ∙ cond-true _ _ over
 
-  pub then-over : (entry′ out′ : List ℕ) → number (tickCall (after (openCall 0 f timeout 1 log masks entry out)) entry′ out′) ≡ 3
+  pub then-over : (entry′ out′ : List ℕ) → number (tickCall (after (openCall 0 f timeout 1 (turn f) log masks entry out)) entry′ out′) ≡ 3
   unfolding taken refused
   then-over entry′ out′ =
       ap (λ (o : Outcome). number (tickCall (after o) entry′ out′)) proposes ∙ ap number (left-over entry′ out′)

@@ -19,13 +19,19 @@ benchSheet =
       );
       item-4 = chain-1-2-3;
       item-5 =
-          λ T masks r. (mask-3 (setup 1 T) masks r refl, mask-1 (setup 1 T) masks r refl, mask-21 (setup 2 T) masks r refl);
+          λ T rotation masks r. (
+            mask-3 (setup 1 T rotation) masks r refl,
+            mask-1 (setup 1 T rotation) masks r refl,
+            mask-21 (setup 2 T rotation) masks r refl,
+          );
       item-6 =
           λ s x xs entry out c l three fit good.
           (ends-in-2 c entry l x xs three fit good, ends-in-3 c entry l x xs three fit good);
       item-7 = (
-        λ id f timeout T log masks entry out v m room.
-            (open-400 id f timeout T log masks entry out v m room, open-401 id f timeout T log masks entry out v m room),
+        λ id f timeout T rotation log masks entry out v m turns room. (
+          open-400 id f timeout T rotation log masks entry out v m turns room,
+          open-401 id f timeout T rotation log masks entry out v m turns room,
+        ),
         λ s bytes entry out c. (
           λ l. (branch-400 c bytes entry l, blame-400 c bytes entry l, tick-400 c bytes entry l),
           λ l. (branch-401 c bytes entry l, blame-401 c bytes entry l, tick-401 c bytes entry l),

@@ -96,6 +96,7 @@ lower {s} c out′ room n l =
                   last-most = g .last-most;
                   size = g .size;
                 };
+            rotation = f .rotation;
             round-least = f .round-least;
             round-most = f .round-most;
             timer-most = l;

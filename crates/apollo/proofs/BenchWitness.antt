@@ -10,6 +10,7 @@ use lib.Dec.{ltb}
 use borrow.Author.Tests.{lt-ltb, ne-eqb}
 use Rattle.sha256.specs.Fips.{sha256}
 use Rattle.apollo.specs.Bytes.{zeros}
+use Rattle.apollo.specs.Rotation.{inTurn, padded}
 use Rattle.apollo.specs.Setup.{setupOf, leader, setup}
 use Rattle.apollo.specs.Frame.{round, height, linked, makeBlame}
 use Rattle.apollo.specs.Log.{slot, filled}
@@ -18,7 +19,7 @@ use Rattle.apollo.specs.Replica.{leads}
 use Rattle.apollo.specs.Enter.{State}
 use Rattle.apollo.specs.Branch.{childOf}
 use Rattle.apollo.specs.Calls.{branchCall, blameCall}
-use Rattle.apollo.specs.BenchSheet.{chainRounds, after, ParentIn, Item9, Item10, Held, block, blocks}
+use Rattle.apollo.specs.BenchSheet.{turn, chainRounds, after, ParentIn, Item9, Item10, Held, block, blocks}
 use Rattle.apollo.proofs.Tests.{both}
 use Rattle.apollo.proofs.Slots.{length-zeros}
 use Rattle.apollo.proofs.BenchMade.{child, Child, children, unrelated, blk, Sized, sized, next, Holds, record-of, out, slot-full, renewed, callable, Made, opening, opening-0, opening-1, branch-waits, branch-leads, hears}
@@ -38,7 +39,7 @@ on-1 log n h some-block most x r low top c =
     }
 
 -- a block for round r on block 1
-aside : (i r : ℕ) → i ≡ leader (setup 1 6) r → 2 ≤ r → r ≤ 6 → Child r 2 (blk 1) (child i r 2 (blk 1))
+aside : (i r : ℕ) → i ≡ leader (setup 1 6 (turn 1)) r → 2 ≤ r → r ≤ 6 → Child r 2 (blk 1) (child i r 2 (blk 1))
 aside i r led low most =
     let s : Sized 1 = sized 1 (omega arith) in
     let h : height (blk 1) ≡ 1 = s .1 in
@@ -67,15 +68,15 @@ pub record Met9 (s : State) (id m : ℕ) : Type 0 where
   pub low : s .replica .«committed_round» .0 ≤ 1
 
 made-0 : Made held-0 0 2 (zeros 6)
-unfolding held-0 leads leader
+unfolding held-0 leads leader padded inTurn zeros
 made-0 = branch-waits (opening 0) 0 1 (zeros 6) opening-0 (omega arith) (omega arith) (length-zeros 6) refl refl
 
 made-1 : Made held-1 1 2 (zeros 6)
-unfolding held-1 leads leader
+unfolding held-1 leads leader padded inTurn zeros
 made-1 = branch-leads (opening 1) 1 0 (zeros 6) opening-1 (omega arith) (omega arith) (length-zeros 6) refl refl refl
 
 met-9 : (s : State) (id m : ℕ) (masks : List ℕ) → Made s id 2 masks → id < 2 → length masks ≡ 6 → mask masks 2 ≡ m → Met9 s id m
-unfolding leads leader
+unfolding leads leader padded inTurn zeros
 met-9 s id m masks made i lent e =
     let c : Child 3 2 (blk 1) (child 2 3 2 (blk 1)) = aside 2 3 refl (omega arith) (omega arith) in
     subst (λ u. Met9 u id m) (sym (made .is)) (record {
@@ -87,6 +88,7 @@ met-9 s id m masks made i lent e =
                 (ne-eqb 2 id (λ z. omega arith));
             f = refl;
             last = refl;
+            rotation = refl;
             awaited = refl;
             form = c .good;
             round = c .at;
@@ -114,7 +116,7 @@ abbrev Both9 : (held : State) (id : ℕ) → Type 0
 Both9 held id = Met9 (blamed held 0 2) id 1 × Met9 (twice held 2) id 3
 
 both-9 : (held : State) (id : ℕ) → Made held id 2 (zeros 6) → id < 2 → Both9 held id
-unfolding zeros bit setBit leads leader
+unfolding zeros bit setBit leads leader padded inTurn
 both-9 held id made i =
     let led : leads (record-of id 2) ≡ false = ne-eqb 2 id (λ z. omega arith) in (
       met-9 (blamed held 0 2) id 1 _
@@ -131,7 +133,7 @@ unfoldable pub held-3 : State
 held-3 = after (branchCall held-1 (blk 3) [] out)
 
 made-3 : Made held-3 1 3 (zeros 6)
-unfolding held-3 leads leader
+unfolding held-3 leads leader padded inTurn zeros
 made-3 = branch-waits held-1 1 2 (zeros 6) made-1 (omega arith) (omega arith) (length-zeros 6) refl refl
 
 -- what item 10 presumes of a block on block 1 and of one on block 3, with mask m for rounds 2 and 3
@@ -161,7 +163,7 @@ module _ (log : List ℕ) (h : Holds log 3) where
       let f3 : filled (slot log 3) ≡ true = slot-full log 3 h (omega arith) 3 (omega arith) (omega arith) in
       rw (f1, f2, f3)
 
-  held-3-blocks : Held (setup 1 6) log
+  held-3-blocks : Held (setup 1 6 (turn 1)) log
   unfolding blocks
   held-3-blocks =
       let c1 : Child 1 1 (blk 0) (blk 1) = next 0 (omega arith) in
@@ -180,15 +182,15 @@ module _ (log : List ℕ) (h : Holds log 3) where
         root = rw s1 (unfold blk in c1 .on);
         linked =
             rw (s1, s2, s3)
-            (both (block (setup 1 6) (blk 1)) _ (c1 .good)
+            (both (block (setup 1 6 (turn 1)) (blk 1)) _ (c1 .good)
             (both (childOf (blk 1) (blk 2)) _ (child-of (blk 1) (blk 2) c2 (omega arith))
-            (both (block (setup 1 6) (blk 2)) _ (c2 .good)
+            (both (block (setup 1 6 (turn 1)) (blk 2)) _ (c2 .good)
             (both (childOf (blk 2) (blk 3)) _ (child-of (blk 2) (blk 3) c3 (omega arith))
             (c3 .good)))));
       }
 
 met-10 : (s : State) (m : ℕ) (masks : List ℕ) → Made s 1 3 masks → length masks ≡ 6 → mask masks 2 ≡ m → mask masks 3 ≡ m → Met10 s m
-unfolding leads leader
+unfolding leads leader padded inTurn zeros
 met-10 s m masks made lent two three =
     let x : List ℕ = child 0 4 2 (blk 1) in
     let c : Child 4 2 (blk 1) x = aside 0 4 refl (omega arith) (omega arith) in
@@ -216,7 +218,7 @@ met-10 s m masks made lent two three =
     })
 
 pub item-10-met : Met10 held-3 0 × Met10 (twice (twice held-3 2) 3) 3
-unfolding zeros bit setBit leads leader
+unfolding zeros bit setBit leads leader padded inTurn
 item-10-met =
     let two : Made (twice held-3 2) 1 3 (0 ∷ 3 ∷ 0 ∷ 0 ∷ 0 ∷ 0 ∷ []) =
     twice-made held-3 1 3 (zeros 6) made-3 (omega arith) (omega arith) refl refl 2 (omega arith) (omega arith) refl refl in

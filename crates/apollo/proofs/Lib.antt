@@ -1,5 +1,6 @@
 pub mod Masks
 pub mod Tests
+pub mod Rotation
 pub mod Validity
 pub mod Slots
 pub mod Frames

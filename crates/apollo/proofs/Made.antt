@@ -10,10 +10,10 @@ use lib.Dec.{eqb, leb, ltb}
 use borrow.Author.Tests.{lt-ltb, le-leb, eq-eqb}
 use Rattle.sha256.specs.Fips.{sha256}
 use Rattle.sha256.proofs.Hash.{digest-length}
-use Rattle.apollo.specs.Bytes.{part, number2, number4, bytes2, bytes4, zeros, same, within}
+use Rattle.apollo.specs.Bytes.{part, number2, number4, bytes2, bytes4, zeros, same, within, blank}
 use Rattle.apollo.specs.declared.Setup.{Setup}
 use Rattle.apollo.specs.Setup.{replicas, leader}
-use Rattle.apollo.specs.Frame.{kind, signer, entryLength, round, height, parent, digest, blank, blockForm, blameForm, blockHead, blameHead, checked, sealed, makeBlock, makeBlame}
+use Rattle.apollo.specs.Frame.{kind, signer, entryLength, round, height, parent, digest, blockForm, blameForm, blockHead, blameHead, checked, sealed, makeBlock, makeBlame}
 use Rattle.apollo.specs.BenchSheet.{block}
 use Rattle.apollo.proofs.Tests.{both, same-of, within-of}
 use Rattle.apollo.proofs.Slots.{length-zeros}

@@ -1,7 +1,9 @@
--- The masks as code computes them: the ones of a mask reduced to n bits, the or with a power of two, a bit shifted down.
+-- The masks as code computes them: the ones of a mask reduced to n bits, the or with a power of two, a bit shifted down; and
+-- the bits after one is set. Assumes nothing.
 use Prim.Native.Nat.{ℕ, zero, suc, _+_, _*_, _/_, _%_, _^_, _<_, max}
+use mathlib.Core.Logic.{_≢_}
 use mathlib.Core.Path.{_≡_, refl, sym, ap, _∙_}
-use mathlib.Core.Bool.{Bool, cond}
+use mathlib.Core.Bool.{Bool, true, false, cond}
 use native.Mathlib.Nat.{pow-suc, pow-succ', div-div-eq-div-mul}
 use native.Mathlib.Omega.{arith}
 use lib.Arith.{mod-mul}
@@ -9,6 +11,7 @@ use lib.Pow.{pow-pos}
 use lib.Bits.{bitOr, or-step, or-zero-r}
 use lib.Count.{ones, onesIn, ones-step}
 use lib.Dec.{eqb}
+use borrow.Author.Tests.{eqb-true, eqb-false, eq-eqb}
 use Rattle.apollo.specs.Masks.{bit, setBit, count}
 
 -- a count taken from the other end
@@ -61,3 +64,27 @@ bit-shift zero m = let e : m % 2 ≡ m / 1 % 2 = omega arith in ap (λ k. eqb k 
 bit-shift (suc i) m =
     let e : m / 2 / 2 ^ i ≡ m / 2 ^ suc i = div-div-eq-div-mul m 2 (2 ^ i) ∙ ap (λ k. m / k) (sym (pow-succ' 2 i)) in
     bit-shift i (m / 2) ∙ ap (λ k. eqb (k % 2) 1) e
+
+-- after a bit is set: that bit, and the others
+pub bit-set-same : (i m : ℕ) → bit i (setBit i m) ≡ true
+unfolding bit setBit
+bit-set-same zero m = let e : (m / 2 * 2 + 1) % 2 ≡ 1 = omega arith in eq-eqb _ _ e
+bit-set-same (suc i) m =
+    let e : (setBit i (m / 2) * 2 + m % 2) / 2 ≡ setBit i (m / 2) = omega arith in
+    ap (bit i) e ∙ bit-set-same i (m / 2)
+
+pub bit-set-other : (j i m : ℕ) → j ≢ i → bit j (setBit i m) ≡ bit j m
+unfolding bit setBit
+bit-set-other zero zero m ne = absurd (ne refl)
+bit-set-other (suc j) zero m ne = let e : (m / 2 * 2 + 1) / 2 ≡ m / 2 = omega arith in ap (bit j) e
+bit-set-other zero (suc i) m ne = let e : (setBit i (m / 2) * 2 + m % 2) % 2 ≡ m % 2 = omega arith in ap (λ k. eqb k 1) e
+bit-set-other (suc j) (suc i) m ne =
+    let e : (setBit i (m / 2) * 2 + m % 2) / 2 ≡ setBit i (m / 2) = omega arith in
+    ap (bit j) e ∙ bit-set-other j i (m / 2) (λ e. ne (ap suc e))
+
+pub bit-kept : (i k m : ℕ) → bit k m ≡ true → bit k (setBit i m) ≡ true
+bit-kept i k m e = go (eqb k i) refl
+  where
+    go : (z : Bool) → eqb k i ≡ z → bit k (setBit i m) ≡ true
+    go true z = ap (λ j. bit j (setBit i m)) (eqb-true _ _ z) ∙ bit-set-same i m
+    go false z = bit-set-other k i m (eqb-false _ _ z) ∙ e

@@ -2,14 +2,14 @@
 use Prim.Native.Nat.{ℕ, _+_, _*_, _≤_, _<_}
 use mathlib.Core.Path.{_≡_, ap}
 use mathlib.Core.List.{List}
-use mathlib.Core.Bool.{true, false, not}
+use mathlib.Core.Bool.{true, false, _&&_, not}
 use lib.ListN.{length}
 use lib.Dec.{eqb, leb, ltb}
 use borrow.Author.Tests.{ltb-true, leb-true, eqb-true, lt-ltb, le-leb, eq-eqb, not-true}
 use Rattle.apollo.specs.declared.Replica.{Replica}
 use Rattle.apollo.specs.Bytes.{within}
-use Rattle.apollo.specs.Setup.{setupOf, replicas}
-use Rattle.apollo.specs.Replica.{leads, validSetup, validReplica}
+use Rattle.apollo.specs.Setup.{setupOf, replicas, validRotation}
+use Rattle.apollo.specs.Replica.{leads, validSetup, validRounds, validReplica}
 use Rattle.apollo.proofs.Tests.{and-true, both, within-true, within-of}
 
 -- own number, f, wait, T and the length of the log are in range
@@ -26,6 +26,7 @@ pub record ValidSetup (r : Replica) (log : List ℕ) : Type 0 where
 -- the other fields are
 pub record Valid (r : Replica) (log : List ℕ) : Type 0 where
   pub setup : ValidSetup r log
+  pub rotation : validRotation (setupOf r) ≡ true
   pub round-least : 1 ≤ r .round .0
   pub round-most : r .round .0 ≤ r .«last_round» .0 + 1
   pub timer-most : r .timer .0 ≤ r .timeout .0
@@ -71,20 +72,22 @@ setup-of r log s =
     (eq-eqb (length log) (512 * r .«last_round» .0) (s .size))
 
 pub valid : (r : Replica) (log : List ℕ) → validReplica r log ≡ true → Valid r log
-unfolding validReplica
+unfolding validReplica validRounds
 valid r log e =
     let a = and-true _ (not (leads r)) e in
-    let b = and-true _ (leb (r .«committed_height» .0) (r .«committed_round» .0)) (a .0) in
+    let v = and-true (validSetup r log && validRotation (setupOf r)) (validRounds r) (a .0) in
+    let m = and-true (validSetup r log) (validRotation (setupOf r)) (v .0) in
+    let b = and-true _ (leb (r .«committed_height» .0) (r .«committed_round» .0)) (v .1) in
     let c = and-true _ (leb (r .«committed_height» .0) (r .«tip_height» .0)) (b .0) in
     let d = and-true _ (leb (r .«committed_round» .0) (r .«tip_round» .0)) (c .0) in
     let g = and-true _ (leb (r .«tip_height» .0) (r .«tip_round» .0)) (d .0) in
     let h = and-true _ (ltb (r .«tip_round» .0) (r .round .0)) (g .0) in
-    let k = and-true _ (leb (r .timer .0) (r .timeout .0)) (h .0) in
-    let m = and-true (validSetup r log) (within 1 (r .round .0) (r .«last_round» .0 + 1)) (k .0) in
+    let k = and-true (within 1 (r .round .0) (r .«last_round» .0 + 1)) (leb (r .timer .0) (r .timeout .0)) (h .0) in
     let w : (1 ≤ r .round .0) × (r .round .0 ≤ r .«last_round» .0 + 1) =
-    within-true 1 (r .round .0) (r .«last_round» .0 + 1) (m .1) in
+    within-true 1 (r .round .0) (r .«last_round» .0 + 1) (k .0) in
     record {
       setup = valid-setup r log (m .0);
+      rotation = m .1;
       round-least = w .0;
       round-most = w .1;
       timer-most = leb-true (r .timer .0) (r .timeout .0) (k .1);
@@ -96,22 +99,27 @@ valid r log e =
       waits = not-true (leads r) (a .1);
     }
 
-pub valid-of : (r : Replica) (log : List ℕ) → Valid r log → validReplica r log ≡ true
-unfolding validReplica
-valid-of r log s =
-    both _ (not (leads r))
-    (both _ (leb (r .«committed_height» .0) (r .«committed_round» .0))
+rounds-of : (r : Replica) (log : List ℕ) → Valid r log → validRounds r ≡ true
+unfolding validRounds
+rounds-of r log s =
+    both _ (leb (r .«committed_height» .0) (r .«committed_round» .0))
     (both _ (leb (r .«committed_height» .0) (r .«tip_height» .0))
     (both _ (leb (r .«committed_round» .0) (r .«tip_round» .0))
     (both _ (leb (r .«tip_height» .0) (r .«tip_round» .0))
     (both _ (ltb (r .«tip_round» .0) (r .round .0))
-    (both _ (leb (r .timer .0) (r .timeout .0))
-    (both (validSetup r log) (within 1 (r .round .0) (r .«last_round» .0 + 1)) (setup-of r log (s .setup))
-    (within-of 1 (r .round .0) (r .«last_round» .0 + 1) (s .round-least) (s .round-most)))
+    (both (within 1 (r .round .0) (r .«last_round» .0 + 1)) (leb (r .timer .0) (r .timeout .0))
+    (within-of 1 (r .round .0) (r .«last_round» .0 + 1) (s .round-least) (s .round-most))
     (le-leb (r .timer .0) (r .timeout .0) (s .timer-most)))
     (lt-ltb (r .«tip_round» .0) (r .round .0) (s .tip-below)))
     (le-leb (r .«tip_height» .0) (r .«tip_round» .0) (s .tip-height)))
     (le-leb (r .«committed_round» .0) (r .«tip_round» .0) (s .committed-most)))
     (le-leb (r .«committed_height» .0) (r .«tip_height» .0) (s .committed-height-most)))
-    (le-leb (r .«committed_height» .0) (r .«committed_round» .0) (s .committed-height)))
+    (le-leb (r .«committed_height» .0) (r .«committed_round» .0) (s .committed-height))
+
+pub valid-of : (r : Replica) (log : List ℕ) → Valid r log → validReplica r log ≡ true
+unfolding validReplica
+valid-of r log s =
+    both _ (not (leads r))
+    (both (validSetup r log && validRotation (setupOf r)) (validRounds r)
+    (both (validSetup r log) (validRotation (setupOf r)) (setup-of r log (s .setup)) (s .rotation)) (rounds-of r log s))
     (ap not (s .waits))

@@ -1,6 +1,7 @@
 -- Document 01, "Bench sheet": one statement over its eleven items, about the calls with SHA-256, with commit by document 02, F-2.
--- Each item is claimed for every state, frame, entry and out buffer that its words fit.
-use Prim.Native.Nat.{ℕ, zero, suc, _≤_, _<_}
+-- Each item is claimed for every state, frame, entry and out buffer that its words fit. Items 1, 9 and 11 name a leader: they have the
+-- old turn (document 02, F-4); the others hold for every rotation.
+use Prim.Native.Nat.{ℕ, zero, suc, _+_, _*_, _≤_, _<_}
 use mathlib.Core.Path.{_≡_}
 use mathlib.Core.List.{List, [], _∷_, _++_, flatten}
 use mathlib.Core.Bool.{Bool, true, false, _&&_, cond}
@@ -9,6 +10,7 @@ use lib.Dec.{eqb}
 use Rattle.sha256.specs.Fips.{sha256}
 use Rattle.apollo.specs.declared.Replica.{Replica}
 use Rattle.apollo.specs.declared.Setup.{Setup}
+use Rattle.apollo.specs.Rotation.{isRotation, inTurn, padded}
 use Rattle.apollo.specs.Setup.{setup, setupOf, leader}
 use Rattle.apollo.specs.Frame.{signer, round, blockForm, blameForm, linked, checked}
 use Rattle.apollo.specs.Log.{genesis, slot, filled}
@@ -18,6 +20,10 @@ use Rattle.apollo.specs.Enter.{State, commit}
 use Rattle.apollo.specs.Outcome.{Outcome}
 use Rattle.apollo.specs.Branch.{lastOf, childOf}
 use Rattle.apollo.specs.Calls.{openCall, branchCall, blameCall, tickCall}
+
+-- "the old turn" of 2f + 1 cards
+abbrev pub turn : (f : ℕ) → List ℕ
+turn f = inTurn (2 * f + 1)
 
 -- the rounds of the chain (line) up to round r
 unfoldable pub chainRounds : (log : List ℕ) (r : ℕ) → List ℕ
@@ -93,8 +99,9 @@ pub record Item9 (s : State) (x out : List ℕ) : Type 0 where
   pub callable : Callable s out
   pub f : s .replica .f ≡ 1
   pub last : s .replica .«last_round» .0 ≡ 6
+  pub rotation : s .replica .rotation ≡ padded (turn 1)
   pub awaited : s .replica .round .0 ≡ 3
-  pub form : block (setup 1 6) x ≡ true
+  pub form : block (setup 1 6 (turn 1)) x ≡ true
   pub round : round x ≡ 3
   pub parent : ParentIn (s .log) x 1
 
@@ -117,7 +124,8 @@ pub record Held (s : Setup) (log : List ℕ) : Type 0 where
 
 pub record BenchSheet : Type 0 where
   pub item-1 : (T : ℕ)
-      → (leader (setup 1 T) 1 ≡ 0) × (leader (setup 1 T) 3 ≡ 2) × (leader (setup 1 T) 4 ≡ 0) × (leader (setup 7 T) 16 ≡ 0)
+      → (leader (setup 1 T (turn 1)) 1 ≡ 0) × (leader (setup 1 T (turn 1)) 3 ≡ 2) × (leader (setup 1 T (turn 1)) 4 ≡ 0)
+      × (leader (setup 7 T (turn 7)) 16 ≡ 0)
   -- 2, 3, 4: the chain below R; the tip is its last round
   pub item-2 : (r : Replica) (log : List ℕ) → r .f ≡ 1
       → (r .round .0 ≡ 3 → chainRounds log 2 ≡ 1 ∷ 2 ∷ [] → committedRound r log ≡ 1)
@@ -129,10 +137,10 @@ pub record BenchSheet : Type 0 where
       × ((s : State) (entry out : List ℕ) → Item3 s out → length entry ≤ 400 → newCommitted (tickCall s entry out) ≡ 3)
   pub item-4 : (r : Replica) (log : List ℕ) → r .f ≡ 2 → r .round .0 ≡ 4 → chainRounds log 3 ≡ 1 ∷ 2 ∷ 3 ∷ []
       → committedRound r log ≡ 1
-  pub item-5 : (T : ℕ) (masks : List ℕ) (r : ℕ)
-      → (mask masks r ≡ 3 → certified (setup 1 T) masks r ≡ true)
-      × (mask masks r ≡ 1 → certified (setup 1 T) masks r ≡ false)
-      × (mask masks r ≡ 21 → certified (setup 2 T) masks r ≡ true)
+  pub item-5 : (T : ℕ) (rotation masks : List ℕ) (r : ℕ)
+      → (mask masks r ≡ 3 → certified (setup 1 T rotation) masks r ≡ true)
+      × (mask masks r ≡ 1 → certified (setup 1 T rotation) masks r ≡ false)
+      × (mask masks r ≡ 21 → certified (setup 2 T rotation) masks r ≡ true)
   -- a branch of x and xs, whole frames that pass the tests before 10
   pub item-6 : (s : State) (x : List ℕ) (xs : List (List ℕ)) (entry out : List ℕ) → Callable s out → length entry ≤ 400
       → s .replica .round .0 ≡ 3 → length (x ∷ xs) ≤ s .replica .«last_round» .0
@@ -140,10 +148,10 @@ pub record BenchSheet : Type 0 where
       → (round (lastOf x xs) ≡ 2 → number (branchCall s (flatten (x ∷ xs)) entry out) ≡ 10)
       × (round (lastOf x xs) ≡ 3 → ¬ (number (branchCall s (flatten (x ∷ xs)) entry out) ≡ 10))
   -- open, then branch, blame and tick
-  pub item-7 : ((id f timeout T : ℕ) (log masks entry out : List ℕ) → validSetup (fresh id f timeout T) log ≡ true
-      → validMasks (fresh id f timeout T) masks ≡ true → 1024 ≤ length out
-      → (length entry ≡ 400 → number (openCall id f timeout T log masks entry out) ≡ 0)
-      × (length entry ≡ 401 → number (openCall id f timeout T log masks entry out) ≡ 5))
+  pub item-7 : ((id f timeout T : ℕ) (rotation log masks entry out : List ℕ) → validSetup (fresh id f timeout T rotation) log ≡ true
+      → validMasks (fresh id f timeout T rotation) masks ≡ true → isRotation (2 * f + 1) rotation ≡ true → 1024 ≤ length out
+      → (length entry ≡ 400 → number (openCall id f timeout T rotation log masks entry out) ≡ 0)
+      × (length entry ≡ 401 → number (openCall id f timeout T rotation log masks entry out) ≡ 5))
       × ((s : State) (bytes entry out : List ℕ) → Callable s out
       → (length entry ≡ 400 → (¬ (number (branchCall s bytes entry out) ≡ 5))
       × (¬ (number (blameCall s bytes entry out) ≡ 5)) × (number (tickCall s entry out) ≡ 0))
@@ -175,11 +183,11 @@ pub record BenchSheet : Type 0 where
       → linked (slot (s .log) 3) y ≡ true → round y ≡ 4
       → number (branchCall s (slot (s .log) 1 ++ slot (s .log) 2 ++ slot (s .log) 3 ++ y) entry out) ≡ 0)
   pub item-11 : (f timeout : ℕ) (log masks entry out entry′ out′ : List ℕ)
-      → validSetup (fresh 0 f timeout 1) log ≡ true → validMasks (fresh 0 f timeout 1) masks ≡ true → 1024 ≤ length out
+      → validSetup (fresh 0 f timeout 1 (turn f)) log ≡ true → validMasks (fresh 0 f timeout 1 (turn f)) masks ≡ true → 1024 ≤ length out
       → length entry ≤ 400
-      → (number (openCall 0 f timeout 1 log masks entry out) ≡ 0)
-      × (openCall 0 f timeout 1 log masks entry out .answer .frames ≡ 1)
-      × (block (setup f 1) (take 512 (openCall 0 f timeout 1 log masks entry out .out)) ≡ true)
-      × (round (openCall 0 f timeout 1 log masks entry out .out) ≡ 1)
-      × (newRound (openCall 0 f timeout 1 log masks entry out) ≡ 2)
-      × (number (tickCall (after (openCall 0 f timeout 1 log masks entry out)) entry′ out′) ≡ 3)
+      → (number (openCall 0 f timeout 1 (turn f) log masks entry out) ≡ 0)
+      × (openCall 0 f timeout 1 (turn f) log masks entry out .answer .frames ≡ 1)
+      × (block (setup f 1 (turn f)) (take 512 (openCall 0 f timeout 1 (turn f) log masks entry out .out)) ≡ true)
+      × (round (openCall 0 f timeout 1 (turn f) log masks entry out .out) ≡ 1)
+      × (newRound (openCall 0 f timeout 1 (turn f) log masks entry out) ≡ 2)
+      × (number (tickCall (after (openCall 0 f timeout 1 (turn f) log masks entry out)) entry′ out′) ≡ 3)

@@ -1,5 +1,5 @@
 -- Document 01, "Frames": bytes, big-endian numbers, and tests on them.
-use Prim.Native.Nat.{ℕ, _+_, _*_, _/_, _%_, _^_}
+use Prim.Native.Nat.{ℕ, _+_, _-_, _*_, _/_, _%_, _^_}
 use mathlib.Core.List.{List, [], _∷_}
 use mathlib.Core.Bool.{Bool, true, false, _&&_}
 use lib.ListN.{take, drop, getD, replicate}
@@ -34,6 +34,10 @@ same [] [] = true
 same [] (y ∷ ys) = false
 same (x ∷ xs) [] = false
 same (x ∷ xs) (y ∷ ys) = eqb x y && same xs ys
+
+-- the bytes from `start` up to, not including, `end` are zero
+abbrev pub blank : List ℕ → (start end : ℕ) → Bool
+blank x start end = same (part x start (end - start)) (zeros (end - start))
 
 -- lo ≤ n ≤ hi
 abbrev pub within : (lo n hi : ℕ) → Bool

@@ -13,7 +13,7 @@ pub use Rattle.apollo.specs.Outcome.{outcome}
 pub use Rattle.apollo.specs.Read.{readCall}
 pub use Rattle.apollo.specs.Fetch.{fetchCall, mayCopy, fetched}
 
-abbrev pub openCall : (id f timeout lastRound : ℕ) (log masks entry out : List ℕ) → Outcome
+abbrev pub openCall : (id f timeout lastRound : ℕ) (rotation log masks entry out : List ℕ) → Outcome
 openCall = openWith sha256
 
 abbrev pub branchCall : State → (bytes entry out : List ℕ) → Outcome

@@ -4,7 +4,7 @@ use mathlib.Core.List.{List, [], _∷_, _++_}
 use mathlib.Core.Bool.{Bool, _&&_}
 use lib.ListN.{length, take, drop, getD}
 use lib.Dec.{eqb, leb, ltb}
-use Rattle.apollo.specs.Bytes.{part, number2, number4, bytes2, bytes4, zeros, same, within}
+use Rattle.apollo.specs.Bytes.{part, number2, number4, bytes2, bytes4, zeros, same, blank, within}
 use Rattle.apollo.specs.declared.Setup.{Setup}
 use Rattle.apollo.specs.Setup.{replicas, leader}
 
@@ -44,10 +44,6 @@ framesOf bytes = frames (length bytes / 512) bytes
 -- 1 to `most` whole frames
 unfoldable pub wholeFrames : (most : ℕ) (bytes : List ℕ) → Bool
 wholeFrames most bytes = eqb (length bytes % 512) 0 && within 1 (length bytes / 512) most
-
--- the bytes from `start` up to, not including, `end` are zero
-abbrev pub blank : List ℕ → (start end : ℕ) → Bool
-blank x start end = same (part x start (end - start)) (zeros (end - start))
 
 -- form of a block and of a blame
 unfoldable pub blockForm : Setup → List ℕ → Bool

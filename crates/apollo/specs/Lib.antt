@@ -1,4 +1,5 @@
 pub mod Bytes
+pub mod Rotation
 pub mod Setup
 pub mod Frame
 pub mod Log

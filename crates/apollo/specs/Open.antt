@@ -1,4 +1,4 @@
--- Document 01, "Open".
+-- Document 01, "Open", with a rotation (seating) by document 02, F-4.
 use Prim.Native.Nat.{ℕ, _*_}
 use mathlib.Core.List.{List}
 use mathlib.Core.Bool.{_&&_, not, cond}
@@ -6,18 +6,21 @@ use lib.ListN.{length}
 use lib.Dec.{ltb}
 use Rattle.apollo.specs.declared.Replica.{Replica}
 use Rattle.apollo.specs.Bytes.{zeros}
+use Rattle.apollo.specs.Rotation.{isRotation}
+use Rattle.apollo.specs.Setup.{setupOf, replicas}
 use Rattle.apollo.specs.Replica.{fresh, zeroReplica, validSetup, validMasks}
 use Rattle.apollo.specs.Enter.{State, enterRound}
 use Rattle.apollo.specs.Outcome.{Outcome, refused, taken}
-use Rattle.apollo.specs.Refusal.{badSetup, outTooShort, entryTooLong}
+use Rattle.apollo.specs.Refusal.{badSetup, badRotation, outTooShort, entryTooLong}
 
 module _ (hash : List ℕ → List ℕ) where
   -- open; a refusal returns the record of zeros
-  unfoldable pub openWith : (id f timeout lastRound : ℕ) (log masks entry out : List ℕ) → Outcome
-  openWith id f timeout lastRound log masks entry out =
-      let r : Replica = fresh id f timeout lastRound in
+  unfoldable pub openWith : (id f timeout lastRound : ℕ) (rotation log masks entry out : List ℕ) → Outcome
+  openWith id f timeout lastRound rotation log masks entry out =
+      let r : Replica = fresh id f timeout lastRound rotation in
       let old : State = record { replica = zeroReplica; log = log; masks = masks } in
       let new : State = record { replica = r; log = zeros (512 * lastRound); masks = zeros lastRound } in
       cond (not (validSetup r log && validMasks r masks)) (refused old out badSetup 0)
+      (cond (not (isRotation (replicas (setupOf r)) rotation)) (refused old out badRotation 0)
       (cond (ltb (length out) 1024) (refused old out outTooShort 0)
-      (cond (ltb 400 (length entry)) (refused old out entryTooLong 0) (taken (enterRound hash entry new) out)))
+      (cond (ltb 400 (length entry)) (refused old out entryTooLong 0) (taken (enterRound hash entry new) out))))

@@ -48,3 +48,6 @@ absent = 15  -- absent
 
 abbrev pub notASet : ℕ
 notASet = 16  -- blames of two rounds, or of one signer twice
+
+abbrev pub badRotation : ℕ
+badRotation = 17  -- open: not n seats, a card lacking, or a card twice

@@ -1,12 +1,13 @@
--- Document 01, "A card": the record, its updates, and its ranges.
+-- Document 01, "A card": the record, its updates, and its ranges; the rotation in it by document 02, F-4.
 use Prim.Native.Nat.{ℕ, _+_, _*_}
 use mathlib.Core.List.{List}
 use mathlib.Core.Bool.{Bool, _&&_, not}
 use lib.ListN.{length}
 use lib.Dec.{eqb, leb, ltb}
 use Rattle.apollo.specs.declared.Replica.{Replica}
-use Rattle.apollo.specs.Bytes.{within}
-use Rattle.apollo.specs.Setup.{setupOf, replicas, leader}
+use Rattle.apollo.specs.Bytes.{zeros, within}
+use Rattle.apollo.specs.Rotation.{padded}
+use Rattle.apollo.specs.Setup.{setupOf, replicas, leader, validRotation}
 
 -- the record with these in place of R, ticks left, tip and committed
 abbrev pub updated : Replica → (round timer tipRound tipHeight committedRound committedHeight : ℕ) → Replica
@@ -22,6 +23,7 @@ updated r round timer tipRound tipHeight committedRound committedHeight =
       «tip_height» = record { 0 = tipHeight };
       «committed_round» = record { 0 = committedRound };
       «committed_height» = record { 0 = committedHeight };
+      rotation = r .rotation;
     }
 
 -- with another R
@@ -45,8 +47,8 @@ withCommitted r round height =
     updated r (r .round .0) (r .timer .0) (r .«tip_round» .0) (r .«tip_height» .0) round height
 
 -- the record of an open, before entering
-unfoldable pub fresh : (id f timeout lastRound : ℕ) → Replica
-fresh id f timeout lastRound =
+unfoldable pub fresh : (id f timeout lastRound : ℕ) (rotation : List ℕ) → Replica
+fresh id f timeout lastRound rotation =
     record {
       id = id;
       f = f;
@@ -58,6 +60,7 @@ fresh id f timeout lastRound =
       «tip_height» = record { 0 = 0 };
       «committed_round» = record { 0 = 0 };
       «committed_height» = record { 0 = 0 };
+      rotation = padded rotation;
     }
 
 -- the record of zeros
@@ -74,6 +77,7 @@ zeroReplica =
       «tip_height» = record { 0 = 0 };
       «committed_round» = record { 0 = 0 };
       «committed_height» = record { 0 = 0 };
+      rotation = zeros 15;
     }
 
 -- R ≤ T, and this replica leads R
@@ -86,13 +90,17 @@ validSetup r log =
     ltb (r .id) (replicas (setupOf r)) && within 1 (r .f) 7 && within 1 (r .timeout .0) 60000
     && within 1 (r .«last_round» .0) 4096 && eqb (length log) (512 * r .«last_round» .0)
 
--- the same, every other field in its range, and R not led by this replica
-unfoldable pub validReplica : Replica → (log : List ℕ) → Bool
-validReplica r log =
-    validSetup r log && within 1 (r .round .0) (r .«last_round» .0 + 1) && leb (r .timer .0) (r .timeout .0)
+-- R, ticks left, tip and committed
+unfoldable pub validRounds : Replica → Bool
+validRounds r =
+    within 1 (r .round .0) (r .«last_round» .0 + 1) && leb (r .timer .0) (r .timeout .0)
     && ltb (r .«tip_round» .0) (r .round .0) && leb (r .«tip_height» .0) (r .«tip_round» .0)
     && leb (r .«committed_round» .0) (r .«tip_round» .0) && leb (r .«committed_height» .0) (r .«tip_height» .0)
-    && leb (r .«committed_height» .0) (r .«committed_round» .0) && not (leads r)
+    && leb (r .«committed_height» .0) (r .«committed_round» .0)
+
+-- all fields in their ranges, and R not led by this replica
+unfoldable pub validReplica : Replica → (log : List ℕ) → Bool
+validReplica r log = validSetup r log && validRotation (setupOf r) && validRounds r && not (leads r)
 
 -- one mask a round
 abbrev pub validMasks : Replica → (masks : List ℕ) → Bool

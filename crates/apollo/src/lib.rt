@@ -18,6 +18,7 @@ pub struct Ticks(pub u32);
 pub struct Setup {
     pub f: u8,
     pub last_round: Round, // T
+    pub rotation: [u8; 15], // seating
 }
 
 // What refuses frames that are handed in, and its place; 0 and 0 if nothing does.
@@ -39,6 +40,7 @@ pub struct Replica {
     pub tip_height: Height,
     pub committed_round: Round,
     pub committed_height: Height,
+    pub rotation: [u8; 15], // seating, zero past n
 }
 
 // The answer of open, branch, blame, blames and tick (results).

@@ -9,8 +9,8 @@ use lib.Dec.{eqb, leb, ltb}
 use lib.ListN.{length, take, drop, length-take, length-append}
 use lib.Seq.{length-take-le, take-append-le, take-take, take-at, drop-at, drop-drop, take-add}
 use borrow.Author.Tests.{eq-eqb, ne-eqb, eqb-true, eqb-false, leb-true, leb-false, lt-ltb, le-ltb}
-use Rattle.apollo.specs.Bytes.{part, same, zeros}
-use Rattle.apollo.specs.Frame.{round, blank}
+use Rattle.apollo.specs.Bytes.{part, same, zeros, blank}
+use Rattle.apollo.specs.Frame.{round}
 use Rattle.apollo.specs.Log.{store, clearAbove}
 use Rattle.apollo.specs.Branch.{storeAll, grown}
 use Rattle.apollo.proofs.Tests.{same-refl}

@@ -5,8 +5,8 @@ use mathlib.Core.List.{List}
 use Prim.Native.Nat.{ℕ, _+_, _-_, _*_, _≤_, _<_}
 use lib.ListN.{take, drop}
 use borrow.Author.Tests.{lt-ltb, le-ltb}
-use Rattle.apollo.specs.Bytes.{same}
-use Rattle.apollo.specs.Frame.{round, blank}
+use Rattle.apollo.specs.Bytes.{same, blank}
+use Rattle.apollo.specs.Frame.{round}
 use Rattle.log.specs.Slots.{slotPart}
 use Rattle.branch_rounds.specs.Keeps.{keepsFrame, keepsAll}
 use Rattle.frame.proofs.Frames.{rest, rest-next, rest-end, frame-part}

@@ -3,8 +3,8 @@ use mathlib.Core.List.{List, [], _∷_}
 use mathlib.Core.Bool.{Bool, _&&_, cond}
 use Prim.Native.Nat.{ℕ, _-_, _*_}
 use lib.Dec.{ltb}
-use Rattle.apollo.specs.Bytes.{same}
-use Rattle.apollo.specs.Frame.{round, blank}
+use Rattle.apollo.specs.Bytes.{same, blank}
+use Rattle.apollo.specs.Frame.{round}
 use Rattle.log.specs.Slots.{slotPart}
 
 -- up to the committed round: zeros between round lo and frame x, and x in its slot

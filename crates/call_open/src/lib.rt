@@ -25,17 +25,18 @@ pub fn open(
     f: u8,
     timeout: Ticks,
     last_round: Round,
+    rotation: &[u8],
     log: &mut [u8],
     masks: &mut [u16],
     entry: &[u8],
     out: &mut [u8],
 ) -> Answer
     ensures { λ a. ⌜ outcome a (now (log .exit)) (now (masks .exit)) (now (out .exit))
-        ≡ openCall id f (timeout .0) («last_round» .0) (now (log .entry)) (now (masks .entry)) (now (entry .entry))
-        (now (out .entry)) ⌝ }
+        ≡ openCall id f (timeout .0) («last_round» .0) (now (rotation .entry)) (now (log .entry)) (now (masks .entry))
+        (now (entry .entry)) (now (out .entry)) ⌝ }
 {
-    let r = record::fresh(id, f, timeout, last_round);
-    let number = refusals::of_open(r, log, masks, entry.len(), out.len());
+    let r = record::fresh(id, f, timeout, last_round, rotation);
+    let number = refusals::of_open(r, rotation.len(), log, masks, entry.len(), out.len());
     if number != 0 {
         return calls::refused(record::zero_replica(), number, 0);
     }

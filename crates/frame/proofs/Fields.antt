@@ -1,24 +1,17 @@
--- The leader of round 0, the test for a parent, and the last frame. A variable beside x is what the code read there. Assumes nothing.
+-- The test for a parent, and the last frame. A variable beside x is what the code read there. Assumes nothing.
 use mathlib.Core.Path.{_≡_, refl, sym, ap, _∙_}
 use mathlib.Core.Bool.{Bool, true, false, not}
 use mathlib.Core.List.{List}
-use Prim.Native.Nat.{ℕ, zero, suc, _+_, _-_, _%_, _<_}
-use native.Mathlib.Nat.{zero-mod}
+use Prim.Native.Nat.{ℕ, zero, suc, _+_, _-_, _<_}
 use native.Mathlib.Numerals.{add-one}
 use native.Mathlib.Omega.{arith}
 use lib.Dec.{eqb, eqb·suc-suc}
 use lib.ListN.{length}
 use borrow.Author.Tests.{ne-eqb, not-true, not-false}
 use Rattle.apollo.specs.Bytes.{part, same}
-use Rattle.apollo.specs.declared.Setup.{Setup}
-use Rattle.apollo.specs.Setup.{replicas, leader}
 use Rattle.apollo.proofs.Tests.{and-no}
 use Rattle.apollo.specs.Frame.{height, parent, digest, linked}
 use Rattle.frame.specs.Ends.{lastFrame}
-
-pub leader-first : (s : Setup) (r : ℕ) → r ≡ 0 → 0 ≡ leader s r
-unfolding leader
-leader-first s r e = sym (ap (λ k. (k - 1) % replicas s) e ∙ zero-mod (replicas s))
 
 -- a height that is one more
 height-next : (a h : ℕ) → (h ≡ 0 → ⊥) → eqb a (h - 1) ≡ eqb (a + 1) h

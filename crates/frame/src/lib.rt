@@ -1,10 +1,8 @@
-// One frame: its fields read in place, its round's leader, and its parent; whole frames, and the last of them. Every function
+// One frame: its fields read in place, and its parent; whole frames, and the last of them. Every function
 // takes slices of any length, as the definitions do.
-use apollo::Setup;
 ghost use mathlib.Core.Path.{_≡_};
 ghost use Prim.Native.Nat.{_-_, _≤_, _<_};
 ghost use Rattle.apollo.specs.Bytes as Bytes;
-ghost use Rattle.apollo.specs.Setup.{replicas, leader};
 ghost use Rattle.apollo.specs.Frame as Frame;
 ghost use Rattle.frame.specs.Ends.{lastFrame};
 
@@ -55,17 +53,6 @@ pub fn height(x: &[u8]) -> u32
     ensures { λ r. ⌜ r ≡ Frame.height (now (x .entry)) ⌝ }
 {
     number4(x, 8)
-}
-
-// The leader of a round.
-pub fn leader(s: Setup, round: u32) -> u32
-    ensures { λ r. ⌜ (r ≡ leader s round) × (r < replicas s) ⌝ }
-{
-    let n = 2 * wide(s.f) + 1;
-    if round == 0 {
-        return 0;
-    }
-    (round - 1) % n
 }
 
 // x names p as its parent, and its height is one more.

@@ -5,10 +5,10 @@ use mathlib.Core.List.{List}
 use Prim.Native.Nat.{ℕ, _+_, _≤_, _<_}
 use lib.Dec.{eqb, leb, ltb}
 use borrow.Author.Tests.{eqb-true, leb-true, ltb-true}
-use Rattle.apollo.specs.Bytes.{within}
+use Rattle.apollo.specs.Bytes.{within, blank}
 use Rattle.apollo.specs.declared.Setup.{Setup}
 use Rattle.apollo.specs.Setup.{replicas, leader}
-use Rattle.apollo.specs.Frame.{kind, signer, entryLength, round, height, blank, blockForm, blameForm}
+use Rattle.apollo.specs.Frame.{kind, signer, entryLength, round, height, blockForm, blameForm}
 use Rattle.apollo.proofs.Tests.{and-true}
 
 pub record BlockFields (s : Setup) (x : List ℕ) : Type 0 where

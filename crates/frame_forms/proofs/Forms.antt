@@ -5,11 +5,11 @@ use mathlib.Core.Bool.{Bool, true, false, not}
 use mathlib.Core.List.{List}
 use Prim.Native.Nat.{ℕ, _+_, _≤_, _<_}
 use borrow.Author.Tests.{eq-eqb, ne-eqb, le-leb, lt-leb, lt-ltb, le-ltb, not-true, not-false}
-use Rattle.apollo.specs.Bytes.{within}
+use Rattle.apollo.specs.Bytes.{within, blank}
 use Rattle.apollo.specs.declared.Setup.{Setup}
 use Rattle.apollo.specs.Setup.{replicas, leader}
 use Rattle.apollo.proofs.Tests.{and-no}
-use Rattle.apollo.specs.Frame.{kind, signer, entryLength, round, height, blank, blockForm, blameForm}
+use Rattle.apollo.specs.Frame.{kind, signer, entryLength, round, height, blockForm, blameForm}
 
 module _ (s : Setup) (x : List ℕ) where
   pub block-kind : (k : ℕ) → k ≡ kind x → (k ≡ 1 → ⊥) → false ≡ blockForm s x

@@ -31,7 +31,7 @@ pub fn block_form(s: Setup, x: &[u8]) -> bool
     if frame::kind(x) != 1 {
         return false;
     }
-    if frame::signer(x) as u32 != frame::leader(s, r) {
+    if frame::signer(x) != rotation::leader(s, r) {
         return false;
     }
     if 400 < n {

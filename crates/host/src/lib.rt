@@ -16,9 +16,9 @@ ghost use Rattle.apollo.specs.Calls.{openCall, branchCall, blameCall, blamesCal
 // The version of the interface: APOLLO_VERSION of the header that belongs to this archive.
 #[no_mangle]
 pub extern "C" fn apollo_version() -> u32
-    ensures { λ v. ⌜ v ≡ 3 ⌝ }
+    ensures { λ v. ⌜ v ≡ 4 ⌝ }
 {
-    3
+    4
 }
 
 #[no_mangle]
@@ -27,16 +27,17 @@ pub extern "C" fn apollo_open(
     f: u8,
     timeout: Ticks,
     last_round: Round,
+    rotation: &[u8],
     log: &mut [u8],
     masks: &mut [u16],
     entry: &[u8],
     out: &mut [u8],
 ) -> Answer
     ensures { λ a. ⌜ outcome a (now (log .exit)) (now (masks .exit)) (now (out .exit))
-        ≡ openCall id f (timeout .0) («last_round» .0) (now (log .entry)) (now (masks .entry)) (now (entry .entry))
-        (now (out .entry)) ⌝ }
+        ≡ openCall id f (timeout .0) («last_round» .0) (now (rotation .entry)) (now (log .entry)) (now (masks .entry))
+        (now (entry .entry)) (now (out .entry)) ⌝ }
 {
-    call_open::open(id, f, timeout, last_round, log, masks, entry, out)
+    call_open::open(id, f, timeout, last_round, rotation, log, masks, entry, out)
 }
 
 #[no_mangle]

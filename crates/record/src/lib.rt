@@ -13,13 +13,19 @@ pub fn setup(r: Replica) -> Setup
     ensures { λ s. ⌜ s ≡ setupOf r ⌝ }
 {
     let last_round = r.last_round;
-    Setup { f: r.f, last_round }
+    let rotation = r.rotation;
+    Setup {
+        f: r.f,
+        last_round,
+        rotation,
+    }
 }
 
 // The record of an open, before entering.
-pub fn fresh(id: u8, f: u8, timeout: Ticks, last_round: Round) -> Replica
-    ensures { λ q. ⌜ q ≡ fresh id f (timeout .0) («last_round» .0) ⌝ }
+pub fn fresh(id: u8, f: u8, timeout: Ticks, last_round: Round, rotation: &[u8]) -> Replica
+    ensures { λ q. ⌜ q ≡ fresh id f (timeout .0) («last_round» .0) (now (rotation .entry)) ⌝ }
 {
+    let seats = rotation::padded(rotation);
     Replica {
         id,
         f,
@@ -31,6 +37,7 @@ pub fn fresh(id: u8, f: u8, timeout: Ticks, last_round: Round) -> Replica
         tip_height: Height(0),
         committed_round: Round(0),
         committed_height: Height(0),
+        rotation: seats,
     }
 }
 
@@ -38,6 +45,7 @@ pub fn fresh(id: u8, f: u8, timeout: Ticks, last_round: Round) -> Replica
 pub fn zero_replica() -> Replica
     ensures { λ q. ⌜ q ≡ zeroReplica ⌝ }
 {
+    let rotation = [0u8; 15];
     Replica {
         id: 0,
         f: 0,
@@ -49,6 +57,7 @@ pub fn zero_replica() -> Replica
         tip_height: Height(0),
         committed_round: Round(0),
         committed_height: Height(0),
+        rotation,
     }
 }
 

@@ -1,16 +1,16 @@
 // The tests of a record, for any numbers in it: who leads R, and the ranges of the fields and of what is lent beside them.
 use apollo::Replica;
 ghost use mathlib.Core.Path.{_≡_};
-ghost use Rattle.apollo.specs.Replica.{leads, validSetup, validReplica, validMasks};
-ghost use Rattle.record_ranges.specs.Rounds.{validRounds};
+ghost use Rattle.apollo.specs.Setup.{setupOf, validRotation};
+ghost use Rattle.apollo.specs.Replica.{leads, validSetup, validRounds, validReplica, validMasks};
 
 // R ≤ T, and this replica leads R.
 pub fn leads(r: Replica) -> bool
     ensures { λ b. ⌜ b ≡ leads r ⌝ }
 {
     let round = r.round.0;
-    let leader = frame::leader(record::setup(r), round);
-    (round <= r.last_round.0) & (leader == r.id as u32)
+    let leader = rotation::leader(record::setup(r), round);
+    (round <= r.last_round.0) & (leader == r.id)
 }
 
 // Own number, f, timeout, T, and the length of the log are in range.
@@ -26,6 +26,14 @@ pub fn valid_setup(r: Replica, log: &[u8]) -> bool
         & ((1 <= r.timeout.0) & (r.timeout.0 <= 60000))
         & ((1 <= last) & (last <= 4096))
         & (log.len() == size)
+}
+
+// The rotation has each of the n cards once, and is zero past them.
+pub fn valid_rotation(r: Replica) -> bool
+    ensures { λ b. ⌜ b ≡ validRotation (setupOf r) ⌝ }
+{
+    let n = 2 * (r.f as usize) + 1;
+    rotation::is_rotation(r.rotation, n)
 }
 
 // The fields that a call changes are in range. In two steps: the compiler joins the comparisons of one step into vectors, whose
@@ -52,7 +60,7 @@ fn valid_rounds(r: Replica) -> bool
 pub fn valid_replica(r: Replica, log: &[u8]) -> bool
     ensures { λ b. ⌜ b ≡ validReplica r (now (log .entry)) ⌝ }
 {
-    valid_setup(r, log) & valid_rounds(r) & !leads(r)
+    valid_setup(r, log) & valid_rotation(r) & valid_rounds(r) & !leads(r)
 }
 
 // There is one mask a round.

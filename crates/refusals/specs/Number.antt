@@ -4,16 +4,19 @@ use mathlib.Core.Bool.{_&&_, not, cond}
 use Prim.Native.Nat.{ℕ, _+_}
 use lib.Dec.{eqb, ltb}
 use Rattle.apollo.specs.declared.Replica.{Replica}
+use Rattle.apollo.specs.Setup.{setupOf, replicas, validRotation}
 use Rattle.apollo.specs.Replica.{validSetup, validReplica, validMasks}
-use Rattle.apollo.specs.Refusal.{badSetup, badReplica, roundsOver, outTooShort, entryTooLong}
+use Rattle.apollo.specs.Refusal.{badSetup, badRotation, badReplica, roundsOver, outTooShort, entryTooLong}
 
 -- 4 and 5
 unfoldable pub roomNumber : (entry out : ℕ) → ℕ
 roomNumber entry out = cond (ltb out 1024) outTooShort (cond (ltb 400 entry) entryTooLong 0)
 
--- 1, 4 and 5 of open
-unfoldable pub openNumber : Replica → (log masks : List ℕ) (entry out : ℕ) → ℕ
-openNumber r log masks entry out = cond (not (validSetup r log && validMasks r masks)) badSetup (roomNumber entry out)
+-- 1, 17, 4 and 5 of open; the record has the rotation, padded, and `seats` is its length
+unfoldable pub openNumber : Replica → (seats : ℕ) (log masks : List ℕ) (entry out : ℕ) → ℕ
+openNumber r seats log masks entry out =
+    cond (not (validSetup r log && validMasks r masks)) badSetup
+    (cond (not (eqb seats (replicas (setupOf r)) && validRotation (setupOf r))) badRotation (roomNumber entry out))
 
 -- 2 to 5 of branch, blame, blames and tick
 unfoldable pub guardNumber : Replica → (log masks : List ℕ) (entry out : ℕ) → ℕ

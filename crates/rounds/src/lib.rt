@@ -27,7 +27,7 @@ fn next_leader(r: Replica) -> u8
     if r.last_round.0 < round {
         return 255;
     }
-    frame::leader(record::setup(r), round) as u8
+    rotation::leader(record::setup(r), round)
 }
 
 // Taken, with some frames emitted.

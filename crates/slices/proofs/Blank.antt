@@ -5,8 +5,7 @@ use mathlib.Core.List.{List}
 use Prim.Native.Nat.{ℕ, _-_, _≤_, _<_}
 use native.Mathlib.Omega.{arith}
 use lib.ListN.{length, take, drop, length-take, length-drop}
-use Rattle.apollo.specs.Bytes.{same, zeros}
-use Rattle.apollo.specs.Frame.{blank}
+use Rattle.apollo.specs.Bytes.{same, zeros, blank}
 use Rattle.apollo.proofs.Slots.{length-zeros}
 use Rattle.slices.proofs.Same.{same-length}
 

@@ -2,7 +2,6 @@
 ghost use mathlib.Core.Path.{_≡_};
 ghost use lib.ListN.{length, getD};
 ghost use Rattle.apollo.specs.Bytes as Bytes;
-ghost use Rattle.apollo.specs.Frame as Frame;
 
 // Byte i of x, 0 past its end.
 pub fn byte(x: &[u8], i: usize) -> u8
@@ -45,7 +44,7 @@ pub fn is_zero(x: &[u8]) -> bool
 
 // The bytes of x from a up to, not including, e are there and zero.
 pub fn is_blank(x: &[u8], a: usize, e: usize) -> bool
-    ensures { λ r. ⌜ r ≡ Frame.blank (now (x .entry)) a e ⌝ }
+    ensures { λ r. ⌜ r ≡ Bytes.blank (now (x .entry)) a e ⌝ }
 {
     if e <= a {
         return true;

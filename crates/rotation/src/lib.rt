@@ -1,0 +1,73 @@
+// The rotation (document 02: seating): who leads a round, what is one, and how a record holds it.
+use apollo::Setup;
+ghost use mathlib.Core.Path.{_≡_};
+ghost use mathlib.Core.Bool.{_&&_};
+ghost use Prim.Native.Nat.{_≤_};
+ghost use lib.ListN.{length, take};
+ghost use Rattle.apollo.specs.Bytes.{blank};
+ghost use Rattle.apollo.specs.Rotation.{isRotation, padded};
+ghost use Rattle.apollo.specs.Setup.{leader};
+ghost use Rattle.rotation.specs.Seen.{withCard, cardsSeen, allSeen};
+
+// The leader of a round.
+pub fn leader(s: Setup, round: u32) -> u8
+    ensures { λ r. ⌜ r ≡ leader s round ⌝ }
+{
+    let n = 2 * (s.f as u32) + 1;
+    let seats = s.rotation;
+    slices::byte(&seats, (frame::previous(round) % n) as usize)
+}
+
+// A mask of cards with one more; a number that is no card's is passed over.
+fn with_card(m: u16, card: u8) -> u16
+    ensures { λ r. ⌜ r ≡ withCard m card ⌝ }
+{
+    if card < 16 { masks::with_bit(m, card) } else { m }
+}
+
+// The mask of the cards in the first n seats.
+fn cards_seen(seats: &[u8], n: usize) -> u16
+    requires { ⌜ n ≤ length (now seats) ⌝ }
+    ensures { λ r. ⌜ r ≡ cardsSeen 0 (take n (now (seats .entry))) ⌝ }
+{
+    let mut m = 0;
+    let mut i = 0;
+    while i < n {
+        m = with_card(m, seats[i]);
+        i += 1;
+    }
+    m
+}
+
+// A mask has all of the n lowest bits.
+fn all_seen(m: u16, n: usize) -> bool
+    requires { ⌜ n ≤ 15 ⌝ }
+    ensures { λ b. ⌜ b ≡ allSeen n m ⌝ }
+{
+    let end = 1u32 << n;
+    (m as u32) % end + 1 == end
+}
+
+// The first n of 15 seats are a rotation of n cards, and the others are zero. One pass: n seats that lack no card have none twice.
+pub fn is_rotation(seats: [u8; 15], n: usize) -> bool
+    ensures { λ b. ⌜ b ≡ isRotation n (take n seats) && blank seats n 15 ⌝ }
+{
+    if 15 < n {
+        return false;
+    }
+    let m = cards_seen(&seats, n);
+    all_seen(m, n) & slices::is_blank(&seats, n, 15)
+}
+
+// A rotation as a record holds it: 15 seats, zero past its end.
+pub fn padded(rotation: &[u8]) -> [u8; 15]
+    ensures { λ r. ⌜ r ≡ padded (now (rotation .entry)) ⌝ }
+{
+    let mut seats = [0u8; 15];
+    let mut i = 0;
+    while i < 15 {
+        seats[i] = slices::byte(rotation, i);
+        i += 1;
+    }
+    seats
+}
