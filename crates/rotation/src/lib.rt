@@ -3,11 +3,11 @@ use apollo::Setup;
 ghost use mathlib.Core.Path.{_≡_};
 ghost use mathlib.Core.Bool.{_&&_};
 ghost use Prim.Native.Nat.{_≤_};
-ghost use lib.ListN.{length, take};
+ghost use lib.ListN.{take};
 ghost use Rattle.apollo.specs.Bytes.{blank};
 ghost use Rattle.apollo.specs.Rotation.{isRotation, padded};
 ghost use Rattle.apollo.specs.Setup.{leader};
-ghost use Rattle.rotation.specs.Seen.{withCard, cardsSeen, allSeen};
+ghost use Rattle.rotation.specs.Seen.{withCard, allSeen};
 
 // The leader of a round.
 pub fn leader(s: Setup, round: u32) -> u8
@@ -23,20 +23,6 @@ fn with_card(m: u16, card: u8) -> u16
     ensures { λ r. ⌜ r ≡ withCard m card ⌝ }
 {
     if card < 16 { masks::with_bit(m, card) } else { m }
-}
-
-// The mask of the cards in the first n seats.
-fn cards_seen(seats: &[u8], n: usize) -> u16
-    requires { ⌜ n ≤ length (now seats) ⌝ }
-    ensures { λ r. ⌜ r ≡ cardsSeen 0 (take n (now (seats .entry))) ⌝ }
-{
-    let mut m = 0;
-    let mut i = 0;
-    while i < n {
-        m = with_card(m, seats[i]);
-        i += 1;
-    }
-    m
 }
 
 // A mask has all of the n lowest bits.
@@ -55,8 +41,18 @@ pub fn is_rotation(seats: [u8; 15], n: usize) -> bool
     if 15 < n {
         return false;
     }
-    let m = cards_seen(&seats, n);
-    all_seen(m, n) & slices::is_blank(&seats, n, 15)
+    let mut m = 0;
+    let mut is_blank = true;
+    let mut i = 0;
+    while i < 15 {
+        if i < n {
+            m = with_card(m, seats[i]);
+        } else {
+            is_blank = is_blank & (seats[i] == 0);
+        }
+        i += 1;
+    }
+    all_seen(m, n) & is_blank
 }
 
 // A rotation as a record holds it: 15 seats, zero past its end.
