@@ -32,8 +32,9 @@ pub fn valid_setup(r: Replica, log: &[u8]) -> bool
 pub fn valid_rotation(r: Replica) -> bool
     ensures { λ b. ⌜ b ≡ validRotation (setupOf r) ⌝ }
 {
+    let seats = r.rotation;
     let n = 2 * (r.f as usize) + 1;
-    rotation::is_rotation(r.rotation, n)
+    rotation::is_rotation(seats, n)
 }
 
 // The fields that a call changes are in range. In two steps: the compiler joins the comparisons of one step into vectors, whose

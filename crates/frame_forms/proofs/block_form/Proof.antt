@@ -11,7 +11,7 @@ returns-2 : tie.Need-returns-2
 returns-2 c =
     let l = c .before in
     let k = l .before .before .before in
-    block-signer _ _ _ _ _ (l .before .signer .ensures) (k .before .before .round .ensures) (l .leader .ensures .0) (c .if2 .taken)
+    block-signer _ _ _ _ _ (l .before .signer .ensures) (k .before .before .round .ensures) (l .leader .ensures) (c .if2 .taken)
 
 returns-3 : tie.Need-returns-3
 returns-3 c =
@@ -36,7 +36,7 @@ returns-6 c =
     let w = v .before .before .before in
     let l = w .before .before .before in
     let k = l .before .before .before in
-    block-rest _ _ _ _ _ _ _ _ _ _ _ (k .kind .ensures) (l .before .signer .ensures) (k .before .entry-length .ensures .0) (k .before .before .round .ensures) (v .before .height .ensures) (l .before .before .if1 .left) (l .leader .ensures .0) (w .before .before .if2 .left) (w .before .if3 .left) (w .within .ensures) (v .before .before .if4 .left) (v .within2 .ensures) (c .before .if5 .left) (c .is-blank .ensures)
+    block-rest _ _ _ _ _ _ _ _ _ _ _ (k .kind .ensures) (l .before .signer .ensures) (k .before .entry-length .ensures .0) (k .before .before .round .ensures) (v .before .height .ensures) (l .before .before .if1 .left) (l .leader .ensures) (w .before .before .if2 .left) (w .before .if3 .left) (w .within .ensures) (v .before .before .if4 .left) (v .within2 .ensures) (c .before .if5 .left) (c .is-blank .ensures)
 
 pub block-form-spec : {M : Type 1} → statement M
 block-form-spec =
@@ -47,7 +47,6 @@ block-form-spec =
     (λ c κs. search needs)
     returns
     (λ c κs. search needs)
-    (λ c. search needs)
     (λ c κs. search needs)
     returns-2
     returns-3

@@ -6,8 +6,9 @@ use Rattle.record_ranges.proofs.valid_replica.Tie as tie
 
 returns : tie.Need-returns
 returns c =
-    replica-test _ _ (c .before .before .valid-setup .ensures) (c .before .valid-rounds .ensures) (c .leads .ensures)
+    let v = c .before in
+    replica-test _ _ (v .before .before .valid-setup .ensures) (v .before .valid-rotation .ensures) (v .valid-rounds .ensures) (c .leads .ensures)
 
 pub valid-replica-spec : {M : Type 1} → statement M
 valid-replica-spec =
-    tie.close (tie.spec (λ c κs. search needs) (λ c κs. search needs) (λ c κs. search needs) returns)
+    tie.close (tie.spec (λ c κs. search needs) (λ c κs. search needs) (λ c κs. search needs) (λ c κs. search needs) returns)

@@ -6,7 +6,7 @@ use lib.Dec.{leb, ltb}
 use borrow.Author.Needs.{needs}
 use borrow.Author.Tests.{not-true}
 use Rattle.apollo.specs.Bytes.{within}
-use Rattle.record_ranges.specs.Rounds.{validRounds}
+use Rattle.apollo.specs.Replica.{validRounds}
 use Rattle.record_ranges.proofs.valid_rounds.Statement.{statement}
 use Rattle.record_ranges.proofs.valid_rounds.Tie as tie
 
