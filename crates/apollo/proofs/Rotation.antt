@@ -17,6 +17,10 @@ use Rattle.apollo.specs.Setup.{replicas, validRotation}
 use Rattle.apollo.proofs.Tests.{and-first, and-second, both, same-of}
 use Rattle.apollo.proofs.Slots.{part-zeros}
 
+and-end : (a : Bool) → a && true ≡ a
+and-end true = refl
+and-end false = refl
+
 -- how many seats have a card below n
 unfoldable low : ℕ → List ℕ → ℕ
 low n [] = 0
@@ -208,6 +212,22 @@ module _ (n : ℕ) (xs : List ℕ) (e : length xs ≡ n) (l : n ≤ 15) where
       same-of
       (ap (λ (ys : List ℕ). take (15 - n) (drop n ys)) padded-is ∙ ap (take (15 - n)) (drop-at xs (zeros (15 - n)) n e)
       ∙ part-zeros (15 - n) 0 (15 - n) (omega arith))
+
+-- The rotation that an open was lent, by what the record then holds: "n long", and each card once.
+pub padded-same : (s : Setup) (xs : List ℕ) → replicas s ≤ 15 → s .rotation ≡ padded xs
+    → eqb (length xs) (replicas s) && validRotation s ≡ isRotation (replicas s) xs
+unfolding validRotation isRotation
+padded-same s xs l q = rw q (go (eqb (length xs) (replicas s)) refl)
+  where
+    n : ℕ
+    n = replicas s
+
+    go : (b : Bool) → eqb (length xs) n ≡ b
+        → b && ((eqb (length (take n (padded xs))) n && eachOnce n (take n (padded xs))) && blank (padded xs) n 15) ≡ b && eachOnce n xs
+    go true e =
+        let d : length xs ≡ n = eqb-true (length xs) n e in
+        rw (padded-front n xs d l, padded-blank n xs d l, e) (and-end (eachOnce n xs))
+    go false e = refl
 
 -- and one that a record holds
 pub padded-valid : (s : Setup) (xs : List ℕ) → isRotation (replicas s) xs ≡ true → replicas s ≤ 15 → s .rotation ≡ padded xs

@@ -5,7 +5,15 @@ use mathlib.Core.List.{List}
 use Prim.Native.Nat.{ℕ, _+_, _*_}
 use lib.Dec.{eqb, ltb}
 use lib.ListN.{length}
+use native.Mathlib.Omega.{arith}
+use borrow.Author.Tests.{not-false}
 use Rattle.sha256.specs.Fips.{sha256}
+use Rattle.apollo.specs.declared.Replica.{Replica}
+use Rattle.apollo.specs.Rotation.{isRotation}
+use Rattle.apollo.specs.Setup.{setupOf, replicas, validRotation}
+use Rattle.apollo.proofs.Tests.{and-first}
+use Rattle.apollo.proofs.Rotation.{padded-same}
+use Rattle.apollo.proofs.Validity.{ValidSetup, valid-setup}
 use Rattle.apollo.specs.Bytes.{zeros}
 use Rattle.apollo.specs.declared.Verdict.{Verdict}
 use Rattle.apollo.specs.Judging.{verdict}
@@ -30,12 +38,18 @@ abbrev pub by-number : (n : ℕ) (o : Outcome) (f : ℕ → Outcome) → Outcome
 by-number n o f = cond (eqb n 0) o (f n)
 
 -- chains of tests, and the number of each
-open-chain : (a c d : Bool) (o : Outcome) (f : ℕ → Outcome)
-    → cond a (f 1) (cond c (f 4) (cond d (f 5) o)) ≡ by-number (cond a 1 (cond c 4 (cond d 5 0))) o f
-open-chain true c d o f = refl
-open-chain false true d o f = refl
-open-chain false false true o f = refl
-open-chain false false false o f = refl
+rotation-chain : (b c d : Bool) (o : Outcome) (f : ℕ → Outcome)
+    → cond b (f 17) (cond c (f 4) (cond d (f 5) o)) ≡ by-number (cond b 17 (cond c 4 (cond d 5 0))) o f
+rotation-chain true c d o f = refl
+rotation-chain false true d o f = refl
+rotation-chain false false true o f = refl
+rotation-chain false false false o f = refl
+
+-- 17 is tested as b where 1 has passed
+open-chain : (a b t c d : Bool) (o : Outcome) (f : ℕ → Outcome) → (a ≡ false → b ≡ t)
+    → cond a (f 1) (cond t (f 17) (cond c (f 4) (cond d (f 5) o))) ≡ by-number (cond a 1 (cond b 17 (cond c 4 (cond d 5 0)))) o f
+open-chain true b t c d o f h = refl
+open-chain false b t c d o f h = rw (h refl) (rotation-chain t c d o f)
 
 guard-chain : (a b c d : Bool) (o : Outcome) (f : ℕ → Outcome)
     → cond a (f 2) (cond b (f 3) (cond c (f 4) (cond d (f 5) o))) ≡ by-number (cond a 2 (cond b 3 (cond c 4 (cond d 5 0)))) o f
@@ -59,20 +73,31 @@ set-after entry out s x true n v e = refl
 set-after entry out s x false n v e = rw e
 
 -- open
-module _ (id f timeout last : ℕ) (log masks entry out : List ℕ) where
+module _ (id f timeout last : ℕ) (rotation log masks entry out : List ℕ) where
   abbrev pub closed : State
   closed = record { replica = zeroReplica; log = log; masks = masks }
 
   abbrev pub new : State
-  new = record { replica = fresh id f timeout last; log = zeros (512 * last); masks = zeros last }
+  new = record { replica = fresh id f timeout last rotation; log = zeros (512 * last); masks = zeros last }
 
-  pub open-by : openWith sha256 id f timeout last log masks entry out
-      ≡ by-number (openNumber (fresh id f timeout last) log masks (length entry) (length out))
+  abbrev r : Replica
+  r = fresh id f timeout last rotation
+
+  same-rotation : not (validSetup r log && validMasks r masks) ≡ false
+      → not (eqb (length rotation) (replicas (setupOf r)) && validRotation (setupOf r)) ≡ not (isRotation (replicas (setupOf r)) rotation)
+  same-rotation e =
+      let v : ValidSetup r log =
+      valid-setup r log (and-first (validSetup r log) (validMasks r masks) (not-false (validSetup r log && validMasks r masks) e)) in
+      ap not (padded-same (setupOf r) rotation (omega (arith, v .f-most)) (unfold fresh in refl))
+
+  pub open-by : openWith sha256 id f timeout last rotation log masks entry out
+      ≡ by-number (openNumber r (length rotation) log masks (length entry) (length out))
       (taken (enterRound sha256 entry new) out) (λ n. refused closed out n 0)
   unfolding openWith openNumber roomNumber
   open-by =
-      open-chain (not (validSetup (fresh id f timeout last) log && validMasks (fresh id f timeout last) masks))
+      open-chain (not (validSetup r log && validMasks r masks)) _ (not (isRotation (replicas (setupOf r)) rotation))
       (ltb (length out) 1024) (ltb 400 (length entry)) (taken (enterRound sha256 entry new) out) (λ n. refused closed out n 0)
+      same-rotation
 
 module _ (s : State) (entry out : List ℕ) where
   abbrev number : ℕ

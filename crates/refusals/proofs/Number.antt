@@ -3,10 +3,12 @@ use mathlib.Core.Path.{_≡_}
 use mathlib.Core.Bool.{Bool, true, false, _&&_, not}
 use mathlib.Core.List.{List}
 use Prim.Native.Nat.{ℕ, _+_, _≤_, _<_}
+use lib.Dec.{eqb}
 use borrow.Author.Tests.{eq-eqb, ne-eqb, lt-ltb, le-ltb, not-true, not-false}
 use Rattle.apollo.specs.declared.Replica.{Replica}
 use Rattle.apollo.specs.declared.Verdict.{Verdict}
 use Rattle.apollo.specs.Judging.{verdict}
+use Rattle.apollo.specs.Setup.{setupOf, replicas, validRotation}
 use Rattle.apollo.specs.Replica.{validSetup, validReplica, validMasks}
 use Rattle.branch.specs.declared.Judged.{Judged}
 use Rattle.branch.specs.Judge.{refusal, judgedBranch}
@@ -30,15 +32,21 @@ module _ (entry out : ℕ) where
   room-none h g = rw (le-ltb out 1024 h, le-ltb 400 entry g)
 
 module _ (r : Replica) (log masks : List ℕ) (entry out : ℕ) where
-  -- 1
-  module _ (a b : Bool) (ea : a ≡ validSetup r log) (eb : b ≡ validMasks r masks) where
-    pub open-setup : not (a && b) ≡ true → 1 ≡ openNumber r log masks entry out
+  -- 1 and 17
+  module _ (seats : ℕ) (a b : Bool) (ea : a ≡ validSetup r log) (eb : b ≡ validMasks r masks) where
+    pub open-setup : not (a && b) ≡ true → 1 ≡ openNumber r seats log masks entry out
     unfolding openNumber
     open-setup t = rw (← ea, ← eb, not-true (a && b) t)
 
-    pub open-room : (n : ℕ) → not (a && b) ≡ false → n ≡ roomNumber entry out → n ≡ openNumber r log masks entry out
-    unfolding openNumber
-    open-room n t e = rw (← ea, ← eb, not-false (a && b) t) e
+    module _ (c : Bool) (ec : c ≡ validRotation (setupOf r)) (t : not (a && b) ≡ false) where
+      pub open-rotation : not (eqb seats (replicas (setupOf r)) && c) ≡ true → 17 ≡ openNumber r seats log masks entry out
+      unfolding openNumber
+      open-rotation u = rw (← ea, ← eb, ← ec, not-false (a && b) t, not-true (eqb seats (replicas (setupOf r)) && c) u)
+
+      pub open-room : (n : ℕ) → not (eqb seats (replicas (setupOf r)) && c) ≡ false → n ≡ roomNumber entry out
+          → n ≡ openNumber r seats log masks entry out
+      unfolding openNumber
+      open-room n u e = rw (← ea, ← eb, ← ec, not-false (a && b) t, not-false (eqb seats (replicas (setupOf r)) && c) u) e
 
   -- 2 and 3
   module _ (a b : Bool) (ea : a ≡ validReplica r log) (eb : b ≡ validMasks r masks) where

@@ -11,6 +11,7 @@ use Rattle.apollo.specs.declared.Replica.{Replica}
 use Rattle.apollo.specs.declared.Verdict.{Verdict}
 use Rattle.apollo.specs.Frame.{framesOf}
 use Rattle.apollo.specs.Judging.{verdict}
+use Rattle.apollo.specs.Setup.{setupOf, replicas, validRotation}
 use Rattle.apollo.specs.Replica.{validSetup, validReplica, validMasks}
 use Rattle.apollo.proofs.Validity.{ValidSetup, Valid}
 use Rattle.apollo.proofs.Tests.{and-first, and-second}
@@ -63,12 +64,14 @@ pub record Passed (r : Replica) (log : List ℕ) (entry out : ℕ) : Type 0 wher
   pub entry-most : entry ≤ 400
 
 module _ (r : Replica) (log masks : List ℕ) (entry out : ℕ) where
-  pub opened : openNumber r log masks entry out ≡ 0 → Opened r log masks entry out
+  pub opened : (seats : ℕ) → openNumber r seats log masks entry out ≡ 0 → Opened r log masks entry out
   unfolding openNumber
-  opened e =
-      let p = first-failed (not (validSetup r log && validMasks r masks)) 0 (roomNumber entry out) e in
+  opened seats e =
+      let turns = not (eqb seats (replicas (setupOf r)) && validRotation (setupOf r)) in
+      let p = first-failed (not (validSetup r log && validMasks r masks)) 0 (cond turns 17 (roomNumber entry out)) e in
+      let t = first-failed turns 16 (roomNumber entry out) (p .1) in
       let v = not-false (validSetup r log && validMasks r masks) (p .0) in
-      let q = room entry out (p .1) in
+      let q = room entry out (t .1) in
       record {
         valid = valid-setup r log (and-first (validSetup r log) (validMasks r masks) v);
         masks-size = eqb-true (length masks) (r .«last_round» .0) (and-second (validSetup r log) (validMasks r masks) v);
