@@ -21,21 +21,21 @@ use Rattle.tip.specs.Ready.{Ready}
 use Rattle.calls.specs.Refused.{refusedAnswer}
 use Rattle.calls.proofs.Answers.{refused-by, taken-by}
 
-module _ (id f timeout last : ℕ) (log masks entry out : List ℕ) (r : Replica) (er : r ≡ fresh id f timeout last) (n : ℕ)
-    (en : n ≡ openNumber r log masks (length entry) (length out)) where
-  number-is : n ≡ openNumber (fresh id f timeout last) log masks (length entry) (length out)
+module _ (id f timeout last : ℕ) (rotation log masks entry out : List ℕ) (r : Replica) (er : r ≡ fresh id f timeout last rotation) (n : ℕ)
+    (en : n ≡ openNumber r (length rotation) log masks (length entry) (length out)) where
+  number-is : n ≡ openNumber (fresh id f timeout last rotation) (length rotation) log masks (length entry) (length out)
   number-is = rw er at en
 
   pub open-refused : (z : Replica) (a : Answer) → (n ≡ 0 → ⊥) → z ≡ zeroReplica → a ≡ refusedAnswer z n 0
-      → outcome a log masks out ≡ openWith sha256 id f timeout last log masks entry out
+      → outcome a log masks out ≡ openWith sha256 id f timeout last rotation log masks entry out
   open-refused z a h ez ea =
       refused-by (state zeroReplica log masks) out _ _ n number-is a h (ea ∙ ap (λ (x : Replica). refusedAnswer x n 0) ez)
-      ∙ sym (open-by id f timeout last log masks entry out)
+      ∙ sym (open-by id f timeout last rotation log masks entry out)
 
   -- the log and the masks that open leaves
   module _ (z : n ≡ 0) (log′ : List ℕ) (el : log′ ≡ zeros (length log)) where
     passed-open : Opened r log masks (length entry) (length out)
-    passed-open = opened r log masks (length entry) (length out) (sym en ∙ z)
+    passed-open = opened r log masks (length entry) (length out) (length rotation) (sym en ∙ z)
 
     last-is : r .«last_round» .0 ≡ last
     unfolding fresh
@@ -64,9 +64,9 @@ module _ (id f timeout last : ℕ) (log masks entry out : List ℕ) (r : Replica
 
     pub open-taken : (masks′ : List ℕ) (o : Outcome) → masks′ ≡ zeros (length masks)
         → o ≡ taken (enterRound sha256 entry (state r log′ masks′)) out
-        → o ≡ openWith sha256 id f timeout last log masks entry out
+        → o ≡ openWith sha256 id f timeout last rotation log masks entry out
     open-taken masks′ o em h =
         let m : masks′ ≡ zeros last = em ∙ ap zeros (passed-open .masks-size ∙ last-is) in
         rw (m, log-is, er) at h
         ∙ taken-by (state zeroReplica log masks) out _ _ n number-is z
-        ∙ sym (open-by id f timeout last log masks entry out)
+        ∙ sym (open-by id f timeout last rotation log masks entry out)

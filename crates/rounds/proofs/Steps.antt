@@ -55,18 +55,10 @@ pub entered-steps : (r q p : Replica) (log : List ℕ) (frames : ℕ) (a : Answe
     → a ≡ told p frames → a ≡ told (commit (withTimer r (r .timeout .0)) log) frames
 entered-steps r q p log frames a eq ep ea = rw (ep, eq) at ea
 
-pub committed-f : (r q p : Replica) (log : List ℕ) → q ≡ withTimer r (r .timeout .0) → p ≡ commit q log → p .f ≡ r .f
-unfolding commit
-committed-f r q p log eq ep = ap (λ (x : Replica). x .f) ep ∙ ap (λ (x : Replica). x .f) eq
-
 module _ (r : Replica) (log entry out masks : List ℕ) where
   -- the own round, and another's
   module _ (out′ log′ : List ℕ) (q : Replica)
       (p : (out′ ≡ ownBlock sha256 entry (state r log masks) ++ drop 512 out) × (state q log′ masks ≡ proposing sha256 entry (state r log masks))) where
-    pub proposed-f : q .f ≡ r .f
-    unfolding proposing holding tipped
-    proposed-f = ap (λ (s : State). s .replica .f) (p .1)
-
     pub entered-own : (a : Answer) (b : Bool) → b ≡ leads r → b ≡ true → a ≡ told (commit (withTimer q (q .timeout .0)) log′) 1
         → outcome a log′ masks out′ ≡ taken (enterRound sha256 entry (state r log masks)) out
     unfolding enterRound entered taken flatten

@@ -20,7 +20,6 @@ ghost use Rattle.rounds.specs.Rounds.{told};
 
 // The leader of R, 255 when R = T + 1.
 fn next_leader(r: Replica) -> u8
-    requires { ⌜ r .f ≤ 7 ⌝ }
     ensures { λ l. ⌜ l ≡ nextLeader r ⌝ }
 {
     let round = r.round.0;
@@ -32,7 +31,6 @@ fn next_leader(r: Replica) -> u8
 
 // Taken, with some frames emitted.
 fn taken(r: Replica, frames: u8) -> Answer
-    requires { ⌜ r .f ≤ 7 ⌝ }
     ensures { λ a. ⌜ a ≡ told r frames ⌝ }
 {
     let leader = next_leader(r);
@@ -47,7 +45,6 @@ fn taken(r: Replica, frames: u8) -> Answer
 
 // R grew for the last time in its call: the whole wait is left, and committed is renewed.
 fn entered(r: Replica, log: &[u8], frames: u8) -> Answer
-    requires { ⌜ r .f ≤ 7 ⌝ }
     ensures { λ a. ⌜ a ≡ told (commit (withTimer r (r .timeout .0)) (now (log .entry))) frames ⌝ }
 {
     let q = record::with_timer(r, r.timeout.0);
@@ -120,7 +117,6 @@ pub fn hear(
 
 // Ticks left lowered by 1; nothing where they are 0.
 pub fn count_down(r: Replica) -> Answer
-    requires { ⌜ r .f ≤ 7 ⌝ }
     ensures { λ a. ⌜ a ≡ told (withTimer r (r .timer .0 - 1)) 0 ⌝ }
 {
     let timer = r.timer.0;

@@ -10,9 +10,9 @@ returns c =
     let i = z .before in
     let j = i .before in
     let f = j .before .before .before in
-    let s = f .before .before .before .before .before in
+    let s = f .before .before .before .before .before .before in
     let a = s .args in
-    open-refused (a .id) (a .f) (a .timeout .0) (a .last-round .0) (a .log .now) (a .masks .now) (a .entry .now) (a .out .now) _ (f .fresh .ensures) _ (j .of-open .ensures) _ _ (i .if1 .taken) (z .zero-replica .ensures) (c .refused .ensures)
+    open-refused (a .id) (a .f) (a .timeout .0) (a .last-round .0) (a .rotation .now) (a .log .now) (a .masks .now) (a .entry .now) (a .out .now) _ (f .fresh .ensures) _ (j .of-open .ensures) _ _ (i .if1 .taken) (z .zero-replica .ensures) (c .refused .ensures)
 
 enter-round-requires : tie.Need-enter-round-requires
 enter-round-requires c κs =
@@ -21,9 +21,9 @@ enter-round-requires c κs =
     let i = l .before .before in
     let j = i .before in
     let f = j .before .before .before in
-    let s = f .before .before .before .before .before in
+    let s = f .before .before .before .before .before .before in
     let a = s .args in
-    open-ready (a .id) (a .f) (a .timeout .0) (a .last-round .0) (a .log .now) (a .masks .now) (a .entry .now) (a .out .now) _ (f .fresh .ensures) _ (j .of-open .ensures) (i .if1 .left) _ (l .clear .ensures)
+    open-ready (a .id) (a .f) (a .timeout .0) (a .last-round .0) (a .rotation .now) (a .log .now) (a .masks .now) (a .entry .now) (a .out .now) _ (f .fresh .ensures) _ (j .of-open .ensures) (i .if1 .left) _ (l .clear .ensures)
 
 same-length-3 : tie.Need-same-length-3
 same-length-3 c =
@@ -49,9 +49,9 @@ returns-2 c =
     let i = l .before .before in
     let j = i .before in
     let f = j .before .before .before in
-    let s = f .before .before .before .before .before in
+    let s = f .before .before .before .before .before .before in
     let a = s .args in
-    open-taken (a .id) (a .f) (a .timeout .0) (a .last-round .0) (a .log .now) (a .masks .now) (a .entry .now) (a .out .now) _ (f .fresh .ensures) _ (j .of-open .ensures) (i .if1 .left) _ (l .clear .ensures) _ _ (m .clear-masks .ensures) (e .enter-round .ensures _)
+    open-taken (a .id) (a .f) (a .timeout .0) (a .last-round .0) (a .rotation .now) (a .log .now) (a .masks .now) (a .entry .now) (a .out .now) _ (f .fresh .ensures) _ (j .of-open .ensures) (i .if1 .left) _ (l .clear .ensures) _ _ (m .clear-masks .ensures) (e .enter-round .ensures _)
 
 pub open-spec : {M : Type 1} → statement M
 open-spec =

@@ -17,14 +17,6 @@ returns c =
     let a = s .args in
     tick-refused (a .replica) (a .log .now) (a .masks .now) (a .entry .now) (a .out .now) _ (g .of-tick .ensures) _ (i .if1 .taken) (c .refused .ensures)
 
-count-down-requires : tie.Need-count-down-requires
-count-down-requires c κs =
-    let i = c .before .before in
-    let g = i .before in
-    let s = g .before .before .before .before .before .before .before in
-    let a = s .args in
-    tick-passed (a .replica) (a .log .now) (a .masks .now) (a .entry .now) (a .out .now) _ (g .of-tick .ensures) (i .if1 .left) .valid .setup .f-most
-
 returns-2 : tie.Need-returns-2
 returns-2 c =
     let k = c .before in
@@ -112,7 +104,7 @@ tick-spec =
     (λ c. refl)
     (λ c. refl)
     returns
-    count-down-requires
+    (λ c κs. tt)
     (λ c. refl)
     (λ c. refl)
     returns-2

@@ -10,11 +10,6 @@ returns c =
     let s = i .before in
     none-left (s .args .r) _ (i .if1 .taken) (c .taken .ensures)
 
-taken-requires-2 : tie.Need-taken-requires-2
-taken-requires-2 c κs =
-    let s = c .before .before in
-    rw (c .with-timer .ensures) (s .pre)
-
 returns-2 : tie.Need-returns-2
 returns-2 c =
     let w = c .before in
@@ -24,4 +19,4 @@ returns-2 c =
 pub count-down-spec : {M : Type 1} → statement M
 count-down-spec =
     tie.close
-    (tie.spec (λ c κs. search needs) returns (λ c. search needs) (λ c κs. tt) taken-requires-2 returns-2)
+    (tie.spec (λ c κs. search needs) returns (λ c. search needs) (λ c κs. tt) (λ c κs. tt) returns-2)

@@ -1,7 +1,6 @@
 -- `rounds::enter_round` meets its contract. Assumes nothing.
-use mathlib.Core.List.{[]}
 use borrow.Author.Needs.{needs}
-use Rattle.rounds.proofs.Steps.{leads-last, proposed-f, entered-own, entered-other}
+use Rattle.rounds.proofs.Steps.{leads-last, entered-own, entered-other}
 use Rattle.rounds.proofs.enter_round.Statement.{statement}
 use Rattle.rounds.proofs.enter_round.Tie as tie
 
@@ -11,13 +10,6 @@ propose-requires c κs =
     let l = i .before in
     let s = l .before .before .before .before in
     (s .pre, leads-last (s .args .r) _ (l .leads .ensures) (i .if1 .taken))
-
-entered-requires : tie.Need-entered-requires
-entered-requires c κs =
-    let p = c .before .before .before .before .before in
-    let s = p .before .before .before .before .before .before .before .before in
-    let a = s .args in
-    rw (proposed-f (a .r) (a .log .now) (a .entry .now) (a .out .now) [] _ _ _ (p .propose .ensures [])) (s .pre .f-most)
 
 same-length : tie.Need-same-length
 same-length c =
@@ -38,11 +30,6 @@ returns c =
     let a = s .args in
     λ masks. entered-own (a .r) (a .log .now) (a .entry .now) (a .out .now) masks _ _ _ (p .propose .ensures masks) _ _ (l .leads .ensures) (i .if1 .taken) (c .entered .ensures)
 
-entered-requires-2 : tie.Need-entered-requires-2
-entered-requires-2 c κs =
-    let s = c .before .before .before .before .before .before in
-    s .pre .f-most
-
 returns-2 : tie.Need-returns-2
 returns-2 c =
     let i = c .before .before in
@@ -57,10 +44,10 @@ enter-round-spec =
     (tie.spec
     (λ c κs. tt)
     propose-requires
-    entered-requires
+    (λ c κs. tt)
     same-length
     same-length-2
     returns
-    entered-requires-2
+    (λ c κs. tt)
     (λ c. search needs)
     returns-2)

@@ -1,7 +1,4 @@
 -- `rounds::next_leader` meets its contract. Assumes nothing.
-use mathlib.Core.Path.{ap}
-use native.Mathlib.Omega.{arith}
-use Rattle.apollo.specs.declared.Setup.{Setup}
 use Rattle.rounds.proofs.Steps.{no-leader, some-leader}
 use Rattle.rounds.proofs.next_leader.Statement.{statement}
 use Rattle.rounds.proofs.next_leader.Tie as tie
@@ -16,14 +13,8 @@ returns-2 c =
     let g = c .before in
     let i = g .before in
     let s = i .before .before in
-    some-leader (s .args .r) _ _ (i .if1 .left) (g .setup .ensures) (c .leader .ensures .0)
+    some-leader (s .args .r) _ _ (i .if1 .left) (g .setup .ensures) (c .leader .ensures)
 
 pub next-leader-spec : {M : Type 1} → statement M
 next-leader-spec =
-    tie.close
-    (tie.spec
-    returns
-    (λ c κs. tt)
-    (λ c κs. tt)
-    (λ c. omega (arith, ap (λ (s : Setup). s .f) (c .before .setup .ensures)))
-    returns-2)
+    tie.close (tie.spec returns (λ c κs. tt) (λ c κs. tt) returns-2)
