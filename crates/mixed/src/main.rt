@@ -63,8 +63,9 @@ fn target(l: Task) -> usize
 }
 
 // The record in a line.
-fn replica_of(l: Task) -> Replica {
+fn replica_of(l: Task, bytes: &[u8; 8704]) -> Replica {
     let n = l.numbers;
+    let rotation = rotation::padded(slices::part(bytes, 0, 15));
     Replica {
         id: (n[1] % 256) as u8,
         f: (n[2] % 256) as u8,
@@ -76,13 +77,14 @@ fn replica_of(l: Task) -> Replica {
         tip_height: Height(n[8]),
         committed_round: Round(n[9]),
         committed_height: Height(n[10]),
+        rotation,
     }
 }
 
 // The records after a line that sets one: `n` all, `w` that of a replica, `g` that of the next call.
-fn recorded(t: Table, l: Task) -> Table {
+fn recorded(t: Table, l: Task, bytes: &[u8; 8704]) -> Table {
     let mut next = t;
-    let r = replica_of(l);
+    let r = replica_of(l, bytes);
     let i = target(l);
     let letter = l.letter;
     match letter {
@@ -101,7 +103,7 @@ fn recorded(t: Table, l: Task) -> Table {
 }
 
 // A line was read. One that is none of the list is told; `n`, `w` and `g` set records.
-fn noted(t: Table, l: Task) -> Table {
+fn noted(t: Table, l: Task, bytes: &[u8; 8704]) -> Table {
     let mut next = t;
     if l.letter == 1 {
         return next;
@@ -110,7 +112,7 @@ fn noted(t: Table, l: Task) -> Table {
     if l.letter == 0 {
         text::no_command(next.lines);
     }
-    recorded(next, l)
+    recorded(next, l, bytes)
 }
 
 // What a call finds in its out buffer.
@@ -138,12 +140,9 @@ fn place(round: usize) -> usize
     std::num::wrapping_sub_usize(round, 1) % 9
 }
 
-// The record that the call of a line gets: of `o` that in the line.
+// The record that the call of a line gets.
 fn replica_for(t: Table, l: Task) -> Replica {
     let i = target(l);
-    if l.letter == b'o' {
-        return replica_of(l);
-    }
     if t.is_given {
         return t.replicas[5];
     }
@@ -187,9 +186,26 @@ fn look(t: Table, l: Task, log: &[u8; 4608]) -> Table {
     called(t, fetch(l, r, lent, &mut out))
 }
 
+// `o`, where the rotation stands in place of frames.
+fn open(
+    l: Task,
+    rotation: &[u8],
+    log: &mut [u8],
+    masks: &mut [u16],
+    entry: &[u8],
+    out: &mut [u8],
+) -> Answer {
+    let n = l.numbers;
+    let id = (n[1] % 256) as u8;
+    let f = (n[2] % 256) as u8;
+    let timeout = Ticks(n[3]);
+    let last = Round(n[4]);
+    call_open::open(id, f, timeout, last, rotation, log, masks, entry, out)
+}
+
 // The answer of `o`, `a`, `b`, `v` or `t`.
 fn answer(
-    letter: u8,
+    l: Task,
     r: Replica,
     entry: &[u8],
     frames: &[u8],
@@ -197,8 +213,9 @@ fn answer(
     masks: &mut [u16],
     out: &mut [u8],
 ) -> Answer {
+    let letter = l.letter;
     match letter {
-        b'o' => call_open::open(r.id, r.f, r.timeout, r.last_round, log, masks, entry, out),
+        b'o' => open(l, frames, log, masks, entry, out),
         b't' => call_tick::tick(r, log, masks, entry, out),
         b'a' => call_blame::blames(r, log, masks, frames, entry, out),
         b'v' => call_blame::blame(r, log, masks, frames, entry, out),
@@ -218,7 +235,7 @@ fn lend(
 ) -> Answer {
     let s = l.sizes;
     answer(
-        l.letter,
+        l,
         r,
         entry,
         frames,
@@ -345,7 +362,7 @@ fn obey(logs: &mut Logs, masks: &mut Masks) {
         input = input::read_line(input, &mut buf, &mut bytes);
         let l = task_of(input);
         set(l, logs, masks, &bytes);
-        next = call(noted(next, l), l, logs, masks, &bytes);
+        next = call(noted(next, l, &bytes), l, logs, masks, &bytes);
         turns -= 1;
     }
 }

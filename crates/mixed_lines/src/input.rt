@@ -94,16 +94,16 @@ fn task_of(l: Line) -> Task {
 }
 
 // The words after a letter by their kinds, the first in the lowest four bits: 1 a replica, 2 bytes of the log, 3 masks,
-// 4 bytes of the out buffer, 5 a round, 6 a mask, 7 bytes, 8 frames, 9 an own number or f, a any number. f if there is no
+// 4 bytes of the out buffer, 5 a round, 6 a mask, 7 bytes, 8 frames or a rotation to open with, 9 an own number or f, a any number. f if there is no
 // such letter.
 fn form(letter: u8) -> u64 {
     match letter {
         b'n' => 0,
-        b'w' => 0xaaaaaaaa991,
+        b'w' => 0x7aaaaaaaa991,
         b's' => 0x751,
         b'm' => 0x651,
-        b'g' => 0xaaaaaaaa99,
-        b'o' => 0x7432aa991,
+        b'g' => 0x7aaaaaaaa99,
+        b'o' => 0x74328aa991,
         b'a' | b'b' | b'v' => 0x874321,
         b't' => 0x74321,
         b'q' => 0xa21,
@@ -315,7 +315,7 @@ fn fill(bytes: &mut [u8; 8704], l: Line) {
     }
 }
 
-// The line is one of the list: its words are all there, a round is not 0, and a slot has 512 bytes.
+// The line is one of the list: its words are all there, a round is not 0, a slot has 512 bytes, and the rotation in a record 15.
 fn is_right(l: Line) -> bool {
     let n = l.sizes;
     let is_whole = can_end(l.stage) & (l.form == 0);
@@ -323,6 +323,7 @@ fn is_right(l: Line) -> bool {
     match letter {
         b's' => is_whole & (0 < n[5]) & (n[7] == 512),
         b'm' => is_whole & (0 < n[5]),
+        b'w' | b'g' => is_whole & (n[7] == 15),
         _ => is_whole,
     }
 }

@@ -10,11 +10,12 @@ fn glyph(d: u8) -> u8 {
     87 + d % 16
 }
 
-// A space, a digest in hex and the end of the line.
-fn hex(d: [u8; 32]) -> [u8; 66] {
+// A space, up to 32 bytes in hex, and the end of the line after 32.
+fn hex(d: &[u8]) -> [u8; 66] {
     let mut digits = [b' '; 66];
+    let n = cut(d.len(), 32);
     let mut i = 0;
-    while i < 32 {
+    while i < n {
         digits[2 * i + 1] = glyph(d[i] / 16);
         digits[2 * i + 2] = glyph(d[i] % 16);
         i += 1;
@@ -23,19 +24,21 @@ fn hex(d: [u8; 32]) -> [u8; 66] {
     digits
 }
 
-// Prints numbers and a digest.
-fn row(ns: &[u64], d: [u8; 32]) -> bool {
+// Prints numbers, some text and a digest.
+fn row(ns: &[u64], s: &[u8], d: [u8; 32]) -> bool {
     let mut line = [0u8; 256];
-    let digits = hex(d);
+    let none = [0u64; 0];
+    let digits = hex(&d);
     let a = 1 - cut(ns.len(), 1); // a space only after numbers
-    let n = text::put_row(&mut line, 0, ns, &digits[a..66]);
+    let k = text::put_row(&mut line, 0, ns, s);
+    let n = text::put_row(&mut line, k, &none, &digits[a..66]);
     text::print(&line[0..n])
 }
 
 // Prints the digest of some bytes.
 pub fn digest(bytes: &[u8]) -> bool {
     let none = [0u64; 0];
-    row(&none, sha256::digest(bytes))
+    row(&none, b"", sha256::digest(bytes))
 }
 
 pub fn cut(n: usize, most: usize) -> usize
@@ -113,7 +116,7 @@ fn numbers_of(x: Answer) -> [u64; 14] {
     ]
 }
 
-// Prints an answer and the digest of what was lent, whose sizes are s[2] to s[4].
+// Prints an answer, its record's rotation in hex at the end, and the digest of what was lent, whose sizes are s[2] to s[4].
 pub fn answer(
     x: Answer,
     s: [usize; 9],
@@ -122,24 +125,27 @@ pub fn answer(
     out: &[u8; 6144],
 ) -> bool {
     let ns = numbers_of(x);
+    let r = x.replica;
+    let rotation = r.rotation;
+    let seats = hex(&rotation);
     let d = lent_digest(
         slices::part(log, 0, s[2]),
         masks,
         s[3],
         slices::part(out, 0, s[4]),
     );
-    row(&ns, d)
+    row(&ns, &seats[0..31], d)
 }
 
 // Prints the answer of a read and the digest of the lent log.
 pub fn entry(number: u8, start: usize, size: usize, log: &[u8]) -> bool {
     let ns = [number as u64, start as u64, size as u64];
-    row(&ns, sha256::digest(log))
+    row(&ns, b"", sha256::digest(log))
 }
 
 // Prints the answer of a fetch and the digest of what was lent.
 pub fn fetched(x: Fetched, log: &[u8], out: &[u8]) -> bool {
     let ns = [x.number as u64, x.count as u64];
     let masks = [0u16; 0];
-    row(&ns, lent_digest(log, &masks, 0, out))
+    row(&ns, b"", lent_digest(log, &masks, 0, out))
 }

@@ -1,4 +1,4 @@
-// Three replicas in one program, driven by standard input: f = 1, T = 6, timeout 2, entries empty. `t i` is a tick at
+// Three replicas in one program, driven by standard input: f = 1, T = 6, timeout 2, the old turn, entries empty. `t i` is a tick at
 // replica i, `d i` hands replica i the oldest frame of its queue. Each prints the replica, the answer's number, R, the tip's
 // round and the committed round. A line that is neither is told on standard error and passed over.
 mod input;
@@ -9,7 +9,9 @@ use apollo::Replica;
 use apollo::Round;
 use apollo::Ticks;
 use input::Input;
+ghost use mathlib.Core.Path.{_≡_};
 ghost use Prim.Native.Nat.{_<_};
+ghost use Rattle.apollo.specs.Rotation.{inTurn};
 
 type Logs = [[u8; 3072]; 3]; // 6 slots for each replica
 
@@ -138,6 +140,13 @@ fn settled(t: Table, c: Step, i: usize, x: Answer) -> Table
     next
 }
 
+// The old turn.
+fn in_turn() -> [u8; 3]
+    ensures { λ t. ⌜ t ≡ inTurn 3 ⌝ }
+{
+    [0, 1, 2]
+}
+
 // The answer of replica i to a step, where x is the frame that it is handed.
 fn answer(
     letter: u8,
@@ -151,8 +160,9 @@ fn answer(
 ) -> Answer {
     let timeout = Ticks(2);
     let last = Round(6);
+    let turn = in_turn();
     match letter {
-        b'o' => call_open::open(i, 1, timeout, last, log, masks, entry, out),
+        b'o' => call_open::open(i, 1, timeout, last, &turn, log, masks, entry, out),
         b't' => call_tick::tick(r, log, masks, entry, out),
         b'b' => call_branch::branch(r, log, masks, x, entry, out),
         _ => call_blame::blame(r, log, masks, x, entry, out),
