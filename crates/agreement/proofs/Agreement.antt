@@ -42,8 +42,8 @@ begins-trans xs ys zs p q = (p .0 ++ q .0, q .1 ∙ ap (λ us. us ++ q .0) (p .1
 -- the past grew
 step-grows : (w : World) (i : ℕ) (d : Call) → Grows (w .past) (step w i d .past)
 unfolding step callAt opened after
-step-grows w i (opening id f timeout last log masks entry out) =
-    let o : Outcome = openCall id f timeout last log masks entry out in
+step-grows w i (opening id f timeout last rotation log masks entry out) =
+    let o : Outcome = openCall id f timeout last rotation log masks entry out in
     by-cond (λ (u : World). Grows (w .past) (u .past)) (eqb (o .answer .number) 0) (λ _. note-grows i o (w .past))
     (λ _. note-grows i o (w .past))
 step-grows w i (act a) = go (w .states i)
@@ -54,13 +54,13 @@ step-grows w i (act a) = go (w .states i)
 
 -- a frame handed in was handed in before, or by this call
 abbrev Handed : World → ℕ → Call → List ℕ → Type 0
-Handed w i (opening id f timeout last log masks entry out) x = In (handed x) (w .past)
+Handed w i (opening id f timeout last rotation log masks entry out) x = In (handed x) (w .past)
 Handed w i (act a) x = In (handed x) (w .past) ⊎ ((c : State) × (w .states i ≡ some c) × Given (handed x) (framesIn c a))
 
 step-handed : (w : World) (i : ℕ) (d : Call) (x : List ℕ) → In (handed x) (step w i d .past) → Handed w i d x
 unfolding step callAt opened after
-step-handed w i (opening id f timeout last log masks entry out) x =
-    let o : Outcome = openCall id f timeout last log masks entry out in
+step-handed w i (opening id f timeout last rotation log masks entry out) x =
+    let o : Outcome = openCall id f timeout last rotation log masks entry out in
     by-cond (λ (u : World). In (handed x) (u .past) → In (handed x) (w .past)) (eqb (o .answer .number) 0)
     (λ _. note-handed i o (w .past) x) (λ _. note-handed i o (w .past) x)
 step-handed w i (act a) x = go (w .states i) refl
@@ -100,7 +100,7 @@ module _ (s : Setup) where
         step-grows w i d (emitted (signer x) x) (unforged d u (step-handed w i d x p))
       where
         unforged : (d : Call) → Unforged s correct w i d → Handed w i d x → In (emitted (signer x) x) (w .past)
-        unforged (opening id f timeout last log masks entry out) u q = h x (inl q) l c
+        unforged (opening id f timeout last rotation log masks entry out) u q = h x (inl q) l c
         unforged (act a) u (inl q) = h x (inl q) l c
         unforged (act a) u (inr q) =
             let e : q .2 .0 ≡ x = cc (q .2 .3) in

@@ -229,7 +229,7 @@ module _ (s : Setup) (hash : List ℕ → List ℕ) (wide : (xs : List ℕ) → 
             → leads (proposing hash entry c .replica) ≡ false
         go (inr e) = e
         go (inl e) =
-            absurd (leaders-differ s R (R + 1) one (omega arith) (omega (arith, g .fixed .f-is, g .fixed .f-one))
+            absurd (leaders-differ s (g .fixed .turns) R (R + 1) one (omega arith) (omega (arith, g .fixed .f-is, g .fixed .f-one))
             (R-led ∙ sym (leads-parts s now i (proposing hash entry c) z-good e .1)))
 
     z-standing : Standing s now i (proposing hash entry c)

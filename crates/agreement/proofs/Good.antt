@@ -10,7 +10,7 @@ use lib.Dec.{leb}
 use borrow.Author.Tests.{leb-true, leb-false}
 use Rattle.apollo.specs.declared.Replica.{Replica}
 use Rattle.apollo.specs.declared.Setup.{Setup}
-use Rattle.apollo.specs.Setup.{setupOf, replicas}
+use Rattle.apollo.specs.Setup.{setupOf, replicas, validRotation}
 use Rattle.apollo.specs.Frame.{kind, signer, round, height}
 use Rattle.apollo.specs.Log.{slot, filled, highest}
 use Rattle.apollo.specs.Masks.{bit, mask, certified}
@@ -107,11 +107,12 @@ enter-extends c d r x =
     }
 
 module _ (s : Setup) where
-  -- what no call changes: own number, f, timeout and T, in their ranges
-  pub record Fixed (i id f timeout last : ℕ) : Type 0 where
+  -- what no call changes: own number, f, timeout and T, in their ranges, and the rotation, which is valid
+  pub record Fixed (i id f timeout last : ℕ) (rotation : List ℕ) : Type 0 where
     pub id-is : id ≡ i
     pub f-is : f ≡ s .f
     pub last-is : last ≡ s .«last_round» .0
+    pub rotation-is : rotation ≡ s .rotation
     pub id-low : id < 2 * f + 1
     pub f-one : 1 ≤ f
     pub f-top : f ≤ 7
@@ -119,13 +120,18 @@ module _ (s : Setup) where
     pub timeout-top : timeout ≤ 60000
     pub last-one : 1 ≤ last
     pub last-top : last ≤ 4096
+    pub turns : validRotation s ≡ true
 
-  pub setup-is : (i : ℕ) (r : Replica) → Fixed i (r .id) (r .f) (r .timeout .0) (r .«last_round» .0) → setupOf r ≡ s
-  setup-is i r x = λ k. record { f = x .f-is k; «last_round» = record { 0 = x .last-is k } }
+  -- of a record
+  abbrev pub FixedIn : ℕ → Replica → Type 0
+  FixedIn i r = Fixed i (r .id) (r .f) (r .timeout .0) (r .«last_round» .0) (r .rotation)
+
+  pub setup-is : (i : ℕ) (r : Replica) → FixedIn i r → setupOf r ≡ s
+  setup-is i r x = λ k. record { f = x .f-is k; «last_round» = record { 0 = x .last-is k }; rotation = x .rotation-is k }
 
   -- A state after a call, or within one. `waits` and `stored` together: every round below R is filled or certified.
   pub record Good (past : List Event) (i : ℕ) (c : State) : Type 0 where
-    pub fixed : Fixed i (c .replica .id) (c .replica .f) (c .replica .timeout .0) (c .replica .«last_round» .0)
+    pub fixed : FixedIn i (c .replica)
     pub masks-length : length (c .masks) ≡ s .«last_round» .0
     pub stored : Stored s past (c .masks) (c .log) (c .replica .«tip_round» .0) (c .replica .«tip_height» .0)
     pub tip-below : c .replica .«tip_round» .0 < c .replica .round .0

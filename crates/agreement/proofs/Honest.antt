@@ -8,7 +8,7 @@ use native.Mathlib.Omega.{arith}
 use lib.Dec.{leb}
 use borrow.Author.Tests.{leb-true, leb-false}
 use Rattle.apollo.specs.declared.Setup.{Setup}
-use Rattle.apollo.specs.Setup.{replicas, leader}
+use Rattle.apollo.specs.Setup.{replicas, leader, validRotation}
 use Rattle.apollo.specs.Frame.{kind, signer, round, digest}
 use Rattle.apollo.specs.Log.{genesis, slot, filled}
 use Rattle.apollo.specs.Masks.{count, bit, mask, certified}
@@ -52,32 +52,33 @@ module _ (s : Setup) (correct : ℕ → Bool) (past : List Event) (h : Honest s 
   good-passed i c g q o l e = certified-incorrect i c g q o (good-certified s past i c g q o l e)
 
   -- the block in a slot of a correct leader's round is one that it emitted
-  leader-emitted : (q : ℕ) (x : List ℕ) → Fact s past q x → correct (leader s q) ≡ true → In (emitted (leader s q) x) past
-  leader-emitted q x t ok =
+  leader-emitted : validRotation s ≡ true → (q : ℕ) (x : List ℕ) → Fact s past q x → correct (leader s q) ≡ true → In (emitted (leader s q) x) past
+  leader-emitted v q x t ok =
       subst (λ k. In (emitted k x) past) (t .signed)
-      (h .authentic x (t .seen) (subst (λ k. k < replicas s) (sym (t .signed)) (leader-low s q)) (ap correct (t .signed) ∙ ok))
+      (h .authentic x (t .seen) (subst (λ k. k < replicas s) (sym (t .signed)) (leader-low s v q)) (ap correct (t .signed) ∙ ok))
 
   -- two linked logs
-  module _ (m m′ a b : List ℕ) (t t′ R R′ : ℕ) (c : Linked s past m a t) (d : Linked s past m′ b t′) (pa : Passed a R) (pb : Passed b R′) where
+  module _ (v : validRotation s ≡ true) (m m′ a b : List ℕ) (t t′ R R′ : ℕ) (c : Linked s past m a t) (d : Linked s past m′ b t′)
+      (pa : Passed a R) (pb : Passed b R′) where
     -- a round of a correct leader is filled in both, with the same block
     same-led : (q : ℕ) → 1 ≤ q → q < R → q < R′ → correct (leader s q) ≡ true → (filled (slot a q) ≡ true) × (slot a q ≡ slot b q)
     same-led q o la lb ok = go (either (filled (slot a q))) (either (filled (slot b q)))
       where
         go : (filled (slot a q) ≡ true) ⊎ (filled (slot a q) ≡ false) → (filled (slot b q) ≡ true) ⊎ (filled (slot b q) ≡ false)
             → (filled (slot a q) ≡ true) × (slot a q ≡ slot b q)
-        go (inr e) v = absurd (clash ok (pa q o la e))
+        go (inr e) z = absurd (clash ok (pa q o la e))
         go (inl e) (inr g) = absurd (clash ok (pb q o lb g))
         go (inl e) (inl g) = (
           e,
-          h .tidy .once (leader s q) (slot a q) (slot b q) (leader-emitted q (slot a q) (c .fact q e) ok)
-              (leader-emitted q (slot b q) (d .fact q g) ok) (filled-kind (slot a q) e) (filled-kind (slot b q) g)
+          h .tidy .once (leader s q) (slot a q) (slot b q) (leader-emitted v q (slot a q) (c .fact q e) ok)
+              (leader-emitted v q (slot b q) (d .fact q g) ok) (filled-kind (slot a q) e) (filled-kind (slot b q) g)
               (c .fact q e .round-is ∙ sym (d .fact q g .round-is)),
         )
 
     -- one of the f + 1 rounds from k on is such a round
     same-up-to : (k : ℕ) → 1 ≤ k → k + s .f < R → k + s .f < R′ → (q : ℕ) → q ≤ k → slot a q ≡ slot b q
     same-up-to k one la lb q l =
-        let r : (n : ℕ) × (k ≤ n) × (n ≤ k + s .f) × (correct (leader s n) ≡ true) = correct-round s correct (h .mostly) k one in
+        let r : (n : ℕ) × (k ≤ n) × (n ≤ k + s .f) × (correct (leader s n) ≡ true) = correct-round s correct (h .mostly) v k one in
         let e : (filled (slot a (r .0)) ≡ true) × (slot a (r .0) ≡ slot b (r .0)) =
         same-led (r .0) (omega (arith, r .1)) (omega (arith, r .2)) (omega (arith, r .2)) (r .3) in
         agree (s .«last_round» .0) (Fact s past) (λ x. Seen x past) (λ n x f. f .round-is) (λ n x f. f .seen) (h .distinct) _ _ (slot a) (slot b) t t′ c d
@@ -89,7 +90,7 @@ module _ (s : Setup) (correct : ℕ → Bool) (past : List Event) (h : Honest s 
   same-limit i j c d g k l q o m =
       let n : ℕ = commitLimit (c .replica) in
       let low : n + s .f < c .replica .round .0 = limit-low s past i c g n (omega arith) (omega arith) in
-      same-up-to (c .masks) (d .masks) (c .log) (d .log) _ _ _ _ (g .stored .chain) (k .stored .chain) (good-passed i c g) (good-passed j d k) n
+      same-up-to (g .fixed .turns) (c .masks) (d .masks) (c .log) (d .log) _ _ _ _ (g .stored .chain) (k .stored .chain) (good-passed i c g) (good-passed j d k) n
       (omega arith) low (omega (arith, low)) q m
 
   -- one of the f + 1 rounds up to the limit of commit is filled
@@ -106,7 +107,7 @@ module _ (s : Setup) (correct : ℕ → Bool) (past : List Event) (h : Honest s 
       go true e = omega (arith, leb-true (c .replica .round .0) (2 * s .f + 1) e)
       go false e =
           let far : 2 * s .f + 1 < c .replica .round .0 = leb-false _ _ e in
-          let q : (m : ℕ) × (n ≤ m) × (m ≤ n + s .f) × (correct (leader s m) ≡ true) = correct-round s correct (h .mostly) n (omega arith) in
+          let q : (m : ℕ) × (n ≤ m) × (m ≤ n + s .f) × (correct (leader s m) ≡ true) = correct-round s correct (h .mostly) (g .fixed .turns) n (omega arith) in
           let full : filled (slot (c .log) (q .0)) ≡ true =
           ⊎-elim (λ z. z) (λ z. absurd (clash (q .3) (good-passed i c g (q .0) (omega (arith, q .1)) (omega (arith, q .2)) z)))
           (either (filled (slot (c .log) (q .0)))) in
@@ -130,7 +131,7 @@ module _ (s : Setup) (correct : ℕ → Bool) (past : List Event) (h : Honest s 
 
       same : (q : ℕ) → 1 ≤ q → q ≤ n → slot (r .log) q ≡ slot (c .log) q
       same q o m =
-          same-up-to (c .masks) (c .masks) (r .log) (c .log) _ _ (suc (r .tip)) _ (r .stored .chain) (g .stored .chain)
+          same-up-to (g .fixed .turns) (c .masks) (c .masks) (r .log) (c .log) _ _ (suc (r .tip)) _ (r .stored .chain) (g .stored .chain)
           (λ k a b e. certified-incorrect i c g k a (r .stored .chain .skip k a (omega arith) e)) (good-passed i c g) n (omega arith)
           (omega (arith, low (omega arith), r .beyond)) (low (omega arith)) q m
 
@@ -153,5 +154,5 @@ module _ (s : Setup) (correct : ℕ → Bool) (past : List Event) (h : Honest s 
       go (inl e) =
           h .tidy .once i (slot (c .log) (round x)) x
           (subst (λ m. In (emitted m (slot (c .log) (round x))) past) led
-          (leader-emitted (round x) (slot (c .log) (round x)) (g .stored .chain .fact (round x) e) ok)) p
+          (leader-emitted (g .fixed .turns) (round x) (slot (c .log) (round x)) (g .stored .chain .fact (round x) e) ok)) p
           (filled-kind (slot (c .log) (round x)) e) k (g .stored .chain .fact (round x) e .round-is)

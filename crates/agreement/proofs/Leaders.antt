@@ -1,18 +1,25 @@
--- Where at most f replicas are not correct, one of f + 1 rounds in a row has a correct leader. Assumes nothing.
+-- n rounds in a row have different leaders, whatever the rotation; so where at most f replicas are not correct, one of f + 1 rounds in
+-- a row has a correct one. Assumes nothing.
 use Prim.Native.Nat.{ℕ, zero, suc, _+_, _-_, _/_, _%_, _≤_, _<_}
-use mathlib.Core.Path.{_≡_, refl, ap, _∙_}
+use mathlib.Core.Path.{_≡_, refl, sym, ap, _∙_}
 use mathlib.Core.Logic.{_⊎_, inl, inr, _≢_}
 use mathlib.Core.Bool.{Bool, true, false, not}
 use native.Mathlib.Nat.{div-add-mod', mod-lt, mul-le-mul-right, suc-mul}
 use native.Mathlib.Omega.{arith}
-use lib.Dec.{eqb, leb}
-use borrow.Author.Tests.{eqb-true, eqb-false, leb-true, leb-false, not-false}
+use lib.Dec.{eqb, leb, ltb}
+use lib.ListN.{getD, take}
+use lib.Seq.{getD-take}
+use borrow.Author.Tests.{eqb-true, eqb-false, leb-true, leb-false, ltb-true, ltb-false, not-false}
 use Rattle.apollo.specs.declared.Setup.{Setup}
-use Rattle.apollo.specs.Setup.{replicas, leader}
+use Rattle.apollo.specs.Rotation.{isRotation}
+use Rattle.apollo.specs.Setup.{replicas, leader, validRotation}
 use Rattle.apollo.specs.Masks.{count}
+use Rattle.apollo.proofs.Rotation.{seat-low, seats-differ}
+use Rattle.agreement.specs.Claim.{LeadersDiffer}
+use Rattle.agreement.proofs.Tests.{and-true}
 use Rattle.agreement.proofs.Counts.{more, spread}
 
--- the two laws used of leaders: f + 1 rounds in a row have different ones, and each is a replica's number
+-- two of n rounds in a row have different seats
 apart-mod : (n a d : ℕ) → 0 < d → d < n → a % n ≢ (a + d) % n
 apart-mod n a d pos low e = go (leb ((a + d) / n) (a / n)) refl
   where
@@ -29,14 +36,40 @@ apart-mod n a d pos low e = go (leb ((a + d) / n) (a / n)) refl
           e,
         )
 
-pub leaders-differ : (s : Setup) (r q : ℕ) → 1 ≤ r → r < q → q ≤ r + s .f → leader s r ≢ leader s q
-unfolding leader
-leaders-differ s r q one lt near e =
-    apart-mod (replicas s) (r - 1) (q - r) (omega arith) (omega arith) (e ∙ ap (λ k. k % replicas s) (omega arith))
+-- the seats of a valid rotation, as those of n cards
+module _ (s : Setup) (v : validRotation s ≡ true) where
+  abbrev n : ℕ
+  n = replicas s
 
-pub leader-low : (s : Setup) (r : ℕ) → leader s r < replicas s
+  seated : isRotation n (take n (s .rotation)) ≡ true
+  unfolding validRotation
+  seated = and-true _ _ v .0
+
+  seat : (k : ℕ) → k < n → getD (take n (s .rotation)) k 0 ≡ getD (s .rotation) k 0
+  seat k l = getD-take n (s .rotation) k 0 l
+
+  apart : (j k : ℕ) → j ≢ k → j < n → k < n → getD (s .rotation) j 0 ≢ getD (s .rotation) k 0
+  apart j k ne a b e = go (ltb j k) refl
+    where
+      go : (t : Bool) → ltb j k ≡ t → ⊥
+      go true t = seats-differ n _ seated j k (ltb-true j k t) b (seat j a ∙ e ∙ sym (seat k b))
+      go false t =
+          let l : k ≤ j = ltb-false j k t in
+          seats-differ n _ seated k j (omega arith) a (seat k b ∙ sym e ∙ sym (seat j a))
+
+-- the two laws used of leaders, and the only ones: n rounds in a row have different ones, and each is a replica's number
+pub leaders-differ : LeadersDiffer
 unfolding leader
-leader-low s r = mod-lt (r - 1) (omega arith)
+leaders-differ s v r q one lt near =
+    apart s v ((r - 1) % replicas s) ((q - 1) % replicas s)
+    (λ e. apart-mod (replicas s) (r - 1) (q - r) (omega arith) (omega arith) (e ∙ ap (λ k. k % replicas s) (omega arith)))
+    (mod-lt (r - 1) (omega arith)) (mod-lt (q - 1) (omega arith))
+
+pub leader-low : (s : Setup) → validRotation s ≡ true → (r : ℕ) → leader s r < replicas s
+unfolding leader
+leader-low s v r =
+    let l : (r - 1) % replicas s < replicas s = mod-lt (r - 1) (omega arith) in
+    omega (arith, seat s v ((r - 1) % replicas s) l, seat-low (replicas s) _ (seated s v) ((r - 1) % replicas s) l)
 
 -- the first round of k from r on that passes, or none does
 Row : (ℕ → Bool) → ℕ → ℕ → Type 0
@@ -67,14 +100,14 @@ module _ (s : Setup) (correct : ℕ → Bool) (mostly : count (replicas s) (λ i
       (r .0, r .1, r .2, not-false _ (r .3))
 
   -- of the f + 1 rounds from r on one has a correct leader
-  pub correct-round : (r : ℕ) → 1 ≤ r → (q : ℕ) × (r ≤ q) × (q ≤ r + s .f) × (correct (leader s q) ≡ true)
+  pub correct-round : validRotation s ≡ true → (r : ℕ) → 1 ≤ r → (q : ℕ) × (r ≤ q) × (q ≤ r + s .f) × (correct (leader s q) ≡ true)
   unfolding Row
-  correct-round r one = go (row (λ q. correct (leader s q)) r (suc (s .f)))
+  correct-round v r one = go (row (λ q. correct (leader s q)) r (suc (s .f)))
     where
       others : ((i : ℕ) → i < suc (s .f) → correct (leader s (r + i)) ≡ false) → suc (s .f) ≤ count (replicas s) (λ i. not (correct i))
       others h =
-          spread (suc (s .f)) (replicas s) (λ i. leader s (r + i)) (λ i. not (correct i)) (λ i l. leader-low s (r + i))
-          (λ i l. ap not (h i l)) (λ i j a b. leaders-differ s (r + i) (r + j) (omega arith) (omega arith) (omega arith))
+          spread (suc (s .f)) (replicas s) (λ i. leader s (r + i)) (λ i. not (correct i)) (λ i l. leader-low s v (r + i))
+          (λ i l. ap not (h i l)) (λ i j a b. leaders-differ s v (r + i) (r + j) (omega arith) (omega arith) (omega arith))
 
       go : Row (λ q. correct (leader s q)) r (suc (s .f)) → (q : ℕ) × (r ≤ q) × (q ≤ r + s .f) × (correct (leader s q) ≡ true)
       go (inl h) = (r + h .0, omega arith, omega (arith, h .1), h .2)

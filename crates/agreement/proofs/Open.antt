@@ -1,5 +1,5 @@
 -- Open: one that is taken makes a good state, and none meets refusal 2 or 12. Assumes that a digest has 32 bytes.
-use Prim.Native.Nat.{ℕ, zero, suc, _-_, _*_, _≤_}
+use Prim.Native.Nat.{ℕ, zero, suc, _+_, _-_, _*_, _≤_}
 use mathlib.Core.Path.{_≡_, refl, sym, ap, _∙_}
 use mathlib.Core.Logic.{inl, _≢_}
 use mathlib.Core.List.{List, []}
@@ -7,9 +7,10 @@ use mathlib.Core.Bool.{Bool, true, false, not, _&&_}
 use native.Mathlib.Omega.{arith}
 use lib.ListN.{length, getD, replicate, getD-replicate, List·getD-eq-default, length-replicate}
 use lib.Dec.{leb, ltb, eqb}
-use borrow.Author.Tests.{leb-true, leb-false, ltb-true, ltb-false, eqb-false, not-false}
+use borrow.Author.Tests.{leb-true, leb-false, ltb-false, eqb-false, not-false}
 use Rattle.apollo.specs.declared.Setup.{Setup}
 use Rattle.apollo.specs.Bytes.{zeros}
+use Rattle.apollo.specs.Rotation.{isRotation, padded}
 use Rattle.apollo.specs.Frame.{height, frames}
 use Rattle.apollo.specs.Log.{genesis, slot, filled}
 use Rattle.apollo.specs.Masks.{bit, mask}
@@ -17,6 +18,8 @@ use Rattle.apollo.specs.Replica.{fresh, validSetup, validMasks}
 use Rattle.apollo.specs.Enter.{State, commitLimit, enterRound}
 use Rattle.apollo.specs.Outcome.{Outcome, refused, taken}
 use Rattle.apollo.specs.Open.{openWith}
+use Rattle.apollo.proofs.Rotation.{padded-valid}
+use Rattle.apollo.proofs.Validity.{ValidSetup, valid-setup}
 use Rattle.agreement.specs.Run.{Event, emitted, In, emittedBy}
 use Rattle.agreement.proofs.Tests.{clash, and-true, by-cond}
 use Rattle.agreement.proofs.Slots.{length-zeros, part-zeros, filled-genesis, filled-nil, slot-beyond, highest-le}
@@ -45,7 +48,7 @@ slot-zero T zero l = refl
 slot-zero T (suc k) l = part-zeros (512 * T) (512 * k) 512 (omega arith)
 
 module _ (s : Setup) (past : List Event) (i : ℕ) where
-  module _ (id f timeout last : ℕ) (fixed : Fixed s i id f timeout last) where
+  module _ (id f timeout last : ℕ) (rotation : List ℕ) (fixed : Fixed s i id f timeout last (padded rotation)) where
     abbrev log : List ℕ
     log = zeros (512 * last)
 
@@ -74,7 +77,7 @@ module _ (s : Setup) (past : List Event) (i : ℕ) where
     height-zero = ap height (slot-zero last 0 (omega arith)) ∙ height-genesis
 
     abbrev first : State
-    first = record { replica = fresh id f timeout last; log = log; masks = zeros last }
+    first = record { replica = fresh id f timeout last rotation; log = log; masks = zeros last }
 
     first-good : Good s past i first
     unfolding fresh
@@ -100,17 +103,17 @@ module _ (s : Setup) (past : List Event) (i : ℕ) where
     first-renewed = record { committed-is = omega (arith, highest-le log (0 - f)); committed-height = sym height-zero }
 
   -- what is shown of an answer to open
-  pub record OpenFine (id f last : ℕ) (o : Outcome) : Type 0 where
+  pub record OpenFine (id f last : ℕ) (rotation : List ℕ) (o : Outcome) : Type 0 where
     pub valid-ok : o .answer .number ≢ 2
     pub kept-ok : o .answer .number ≢ 12
     pub quiet : o .answer .number ≢ 0 → emittedBy o ≡ []
-    pub fine : o .answer .number ≡ 0 → id ≡ i → f ≡ s .f → last ≡ s .«last_round» .0 → ((x : List ℕ) → In (emitted i x) past → ⊥) → Tidy s past
-        → (c : State) × Fine s past i c o
+    pub fine : o .answer .number ≡ 0 → id ≡ i → f ≡ s .f → last ≡ s .«last_round» .0 → padded rotation ≡ s .rotation
+        → ((x : List ℕ) → In (emitted i x) past → ⊥) → Tidy s past → (c : State) × Fine s past i c o
 
-  refusal : (id f last : ℕ) (c : State) (out : List ℕ) (k : ℕ) → eqb k 2 ≡ false → eqb k 12 ≡ false → eqb k 0 ≡ false
-      → OpenFine id f last (refused c out k 0)
+  refusal : (id f last : ℕ) (rotation : List ℕ) (c : State) (out : List ℕ) (k : ℕ) → eqb k 2 ≡ false → eqb k 12 ≡ false → eqb k 0 ≡ false
+      → OpenFine id f last rotation (refused c out k 0)
   unfolding refused emittedBy frames
-  refusal id f last c out k a b d =
+  refusal id f last rotation c out k a b d =
       record {
         valid-ok = eqb-false k 2 a;
         kept-ok = eqb-false k 12 b;
@@ -118,56 +121,59 @@ module _ (s : Setup) (past : List Event) (i : ℕ) where
         fine = λ e. absurd (eqb-false k 0 d e);
       }
 
-  ranges : (id f timeout last : ℕ) (log masks : List ℕ)
-      → (validSetup (fresh id f timeout last) log && validMasks (fresh id f timeout last) masks) ≡ true → id ≡ i → f ≡ s .f
-      → last ≡ s .«last_round» .0 → Fixed s i id f timeout last
-  unfolding validSetup fresh
-  ranges id f timeout last log masks v ei ef el =
-      let p3 = and-true _ _ (and-true _ _ (and-true _ _ v .0) .0) in
-      let p2 = and-true _ _ (p3 .0) in
-      let p1 = and-true _ _ (p2 .0) in
-      let d = and-true _ _ (p3 .1) in
-      let c = and-true _ _ (p2 .1) in
-      let b = and-true _ _ (p1 .1) in
+  ranges : (id f timeout last : ℕ) (rotation log masks : List ℕ)
+      → (validSetup (fresh id f timeout last rotation) log && validMasks (fresh id f timeout last rotation) masks) ≡ true
+      → isRotation (2 * f + 1) rotation ≡ true → id ≡ i → f ≡ s .f → last ≡ s .«last_round» .0 → padded rotation ≡ s .rotation
+      → Fixed s i id f timeout last (padded rotation)
+  unfolding fresh
+  ranges id f timeout last rotation log masks v t ei ef el er =
+      let x : ValidSetup (fresh id f timeout last rotation) log = valid-setup _ log (and-true _ _ v .0) in
       record {
         id-is = ei;
         f-is = ef;
         last-is = el;
-        id-low = ltb-true _ _ (p1 .0);
-        f-one = leb-true _ _ (b .0);
-        f-top = leb-true _ _ (b .1);
-        timeout-one = leb-true _ _ (c .0);
-        timeout-top = leb-true _ _ (c .1);
-        last-one = leb-true _ _ (d .0);
-        last-top = leb-true _ _ (d .1);
+        rotation-is = er;
+        id-low = x .id-below;
+        f-one = x .f-least;
+        f-top = x .f-most;
+        timeout-one = x .timeout-least;
+        timeout-top = x .timeout-most;
+        last-one = x .last-least;
+        last-top = x .last-most;
+        turns = padded-valid s rotation (ap (λ k. isRotation (2 * k + 1) rotation) (sym ef) ∙ t) (omega (arith, x .f-most)) (sym er);
       }
 
-  module _ (hash : List ℕ → List ℕ) (wide : (xs : List ℕ) → length (hash xs) ≡ 32) (id f timeout last : ℕ) (log masks entry out : List ℕ) where
+  module _ (hash : List ℕ → List ℕ) (wide : (xs : List ℕ) → length (hash xs) ≡ 32) (id f timeout last : ℕ)
+      (rotation log masks entry out : List ℕ) where
     abbrev new : State
-    new = record { replica = fresh id f timeout last; log = zeros (512 * last); masks = zeros last }
+    new = record { replica = fresh id f timeout last rotation; log = zeros (512 * last); masks = zeros last }
 
-    made : (validSetup (fresh id f timeout last) log && validMasks (fresh id f timeout last) masks) ≡ true → length entry ≤ 400
-        → OpenFine id f last (taken (enterRound hash entry new) out)
+    made : (validSetup (new .replica) log && validMasks (new .replica) masks) ≡ true → isRotation (2 * f + 1) rotation ≡ true
+        → length entry ≤ 400 → OpenFine id f last rotation (taken (enterRound hash entry new) out)
     unfolding taken
-    made v fits =
+    made v t fits =
         record {
           valid-ok = λ z. omega (arith, z);
           kept-ok = λ z. omega (arith, z);
           quiet = λ ne. absurd (ne refl);
-          fine = λ _ ei ef el none tidy.
-              let x : Fixed s i id f timeout last = ranges id f timeout last log masks v ei ef el in (
+          fine = λ _ ei ef el er none tidy.
+              let x : Fixed s i id f timeout last (padded rotation) = ranges id f timeout last rotation log masks v t ei ef el er in (
                 new,
                 taken-fine s past i new (enterRound hash entry new) out
-                    (enter-kept s hash wide entry fits past i new new (first-renewed id f timeout last x) (extends-refl new)
-                    (record { good = first-good id f timeout last x; mine = λ y p k. absurd (none y p); tidy = tidy })),
+                    (enter-kept s hash wide entry fits past i new new (first-renewed id f timeout last rotation x) (extends-refl new)
+                    (record { good = first-good id f timeout last rotation x; mine = λ y p k. absurd (none y p); tidy = tidy })),
               );
         }
 
-    pub open-fine : OpenFine id f last (openWith hash id f timeout last log masks entry out)
-    unfolding openWith
+    abbrev Opens : Outcome → Type 0
+    Opens = OpenFine id f last rotation
+
+    pub open-fine : Opens (openWith hash id f timeout last rotation log masks entry out)
+    unfolding openWith fresh
     open-fine =
-        by-cond (OpenFine id f last) (not (validSetup (fresh id f timeout last) log && validMasks (fresh id f timeout last) masks))
-        (λ _. refusal id f last _ out 1 refl refl refl)
-        (λ v. by-cond (OpenFine id f last) (ltb (length out) 1024) (λ _. refusal id f last _ out 4 refl refl refl)
-        (λ _. by-cond (OpenFine id f last) (ltb 400 (length entry)) (λ _. refusal id f last _ out 5 refl refl refl)
-        (λ l. made (not-false _ v) (ltb-false _ _ l))))
+        by-cond Opens (not (validSetup (new .replica) log && validMasks (new .replica) masks))
+        (λ _. refusal id f last rotation _ out 1 refl refl refl)
+        (λ v. by-cond Opens (not (isRotation (2 * f + 1) rotation)) (λ _. refusal id f last rotation _ out 17 refl refl refl)
+        (λ t. by-cond Opens (ltb (length out) 1024) (λ _. refusal id f last rotation _ out 4 refl refl refl)
+        (λ _. by-cond Opens (ltb 400 (length entry)) (λ _. refusal id f last rotation _ out 5 refl refl refl)
+        (λ l. made (not-false _ v) (not-false _ t) (ltb-false _ _ l)))))

@@ -223,22 +223,23 @@ module _ (s : Setup) where
         go true e = (stateOf o, refl, x c (ap (w .states) (eqb-true _ _ e) ∙ h))
         go false e = (c, h, extends-refl c)
 
-    open-stepped : (id f timeout last : ℕ) (log masks entry out : List ℕ) → Lawful s w i (opening id f timeout last log masks entry out)
-        → Stepped w (opened w i (openCall id f timeout last log masks entry out))
+    open-stepped : (id f timeout last : ℕ) (rotation log masks entry out : List ℕ)
+        → Lawful s w i (opening id f timeout last rotation log masks entry out)
+        → Stepped w (opened w i (openCall id f timeout last rotation log masks entry out))
     unfolding opened
-    open-stepped id f timeout last log masks entry out l =
+    open-stepped id f timeout last rotation log masks entry out l =
         by-cond (Stepped w) _ (λ e. yes-case (eqb-true _ _ e)) (λ e. no-case (eqb-false _ _ e))
       where
         o : Outcome
-        o = openCall id f timeout last log masks entry out
+        o = openCall id f timeout last rotation log masks entry out
 
-        r : OpenFine s (w .past) i id f last o
-        r = open-fine s (w .past) i sha256 digest-length id f timeout last log masks entry out
+        r : OpenFine s (w .past) i id f last rotation o
+        r = open-fine s (w .past) i sha256 digest-length id f timeout last rotation log masks entry out
 
         yes-case : o .answer .number ≡ 0 → Stepped w (after w i o)
         yes-case e =
             let p = l e in
-            let x : (c : State) × Fine s (w .past) i c o = r .fine e (p .1) (p .2) (p .3) (v .asleep i (p .0)) (v .tidy) in
+            let x : (c : State) × Fine s (w .past) i c o = r .fine e (p .1) (p .2) (p .3) (p .4) (v .asleep i (p .0)) (v .tidy) in
             record {
               inv = after-inv w i o v (x .0) (x .1) (λ t. absurd (r .kept-ok t));
               grown = after-grown o (λ c h. absurd (some-none (w .states i) c (p .0) h));
@@ -279,8 +280,8 @@ module _ (s : Setup) where
 
     call-stepped : (c : Option State) (d : Call) → w .states i ≡ c → Lawful s w i d → Stepped w (callAt w i c d)
     unfolding callAt
-    call-stepped none (opening id f timeout last log masks entry out) e l = open-stepped id f timeout last log masks entry out l
-    call-stepped (some c) (opening id f timeout last log masks entry out) e l = open-stepped id f timeout last log masks entry out l
+    call-stepped none (opening id f timeout last rotation log masks entry out) e l = open-stepped id f timeout last rotation log masks entry out l
+    call-stepped (some c) (opening id f timeout last rotation log masks entry out) e l = open-stepped id f timeout last rotation log masks entry out l
     call-stepped none (act a) e l = absurd (some-none (w .states i) (l .0) e (l .1))
     call-stepped (some c) (act a) e l = act-stepped c a e
 

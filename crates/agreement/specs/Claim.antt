@@ -1,11 +1,12 @@
--- Demand 3's claim about a whole list of calls, and six facts beyond it.
-use Prim.Native.Nat.{ℕ, _+_, _*_, _≤_}
+-- Demand 3's claim about a whole list of calls, and seven facts beyond it.
+use Prim.Native.Nat.{ℕ, _+_, _*_, _≤_, _<_}
 use mathlib.Core.Path.{_≡_}
-use mathlib.Core.Logic.{_⊎_}
+use mathlib.Core.Logic.{_⊎_, _≢_}
 use mathlib.Core.Option.{some}
 use mathlib.Core.List.{List, [], _++_}
 use mathlib.Core.Bool.{Bool, true}
 use Rattle.apollo.specs.declared.Setup.{Setup}
+use Rattle.apollo.specs.Setup.{replicas, leader, validRotation}
 use Rattle.apollo.specs.Frame.{kind, round}
 use Rattle.apollo.specs.Log.{slot, filled, chain}
 use Rattle.apollo.specs.Replica.{validReplica, validMasks}
@@ -80,3 +81,9 @@ OnlyGrows =
 -- The frames of a buffer that a call refuses with 6 are not handed in: what `Unforged` and `Distinct` presume does not speak of them.
 abbrev pub CutHandsNothing : Type 0
 CutHandsNothing = (c : State) (a : Act) → answer c a .answer .number ≡ badLength → framesIn c a ≡ []
+
+-- "f + 1 rounds in a row have different leaders" (document 02, F-4), even n do: for every n and every rotation at once that is valid, as it
+-- is in each record that is not refused with 2. Of leaders the proof of demand 3 uses this, and that each is below n
+abbrev pub LeadersDiffer : Type 0
+LeadersDiffer =
+    (s : Setup) → validRotation s ≡ true → (r q : ℕ) → 1 ≤ r → r < q → q < r + replicas s → leader s r ≢ leader s q

@@ -7,6 +7,7 @@ use mathlib.Core.List.{List, [], _∷_}
 use mathlib.Core.Bool.{Bool, true, false, not}
 use Rattle.sha256.specs.Fips.{sha256}
 use Rattle.apollo.specs.declared.Setup.{Setup}
+use Rattle.apollo.specs.Rotation.{padded}
 use Rattle.apollo.specs.Setup.{replicas, leader}
 use Rattle.apollo.specs.Frame.{kind, signer, round, digest, checked}
 use Rattle.apollo.specs.Masks.{count}
@@ -28,12 +29,13 @@ Distinct w =
 -- s is the set-up that all replicas share
 module _ (s : Setup) where
   -- What makes a card "sound", of one call at replica i: an open that is taken is its first, under its own number i and with the
-  -- common f and T; any other call finds it opened. A refused open counts for nothing. That each call gets the state that the last
-  -- one left is the definition of `step`.
+  -- common f, T and rotation ("Sound cards also share one seating", document 02, F-4); any other call finds it opened. A refused open
+  -- counts for nothing. That each call gets the state that the last one left is the definition of `step`.
   abbrev pub Lawful : World → ℕ → Call → Type 0
-  Lawful w i (opening id f timeout lastRound log masks entry out) =
-      openCall id f timeout lastRound log masks entry out .answer .number ≡ 0
+  Lawful w i (opening id f timeout lastRound rotation log masks entry out) =
+      openCall id f timeout lastRound rotation log masks entry out .answer .number ≡ 0
       → (w .states i ≡ none) × (id ≡ i) × (f ≡ s .f) × (lastRound ≡ s .«last_round» .0)
+      × (padded rotation ≡ s .rotation)
   Lawful w i (act a) = (c : State) × (w .states i ≡ some c)
 
   -- The replicas counted as correct ("sound"). Others may take part in the list if they keep the rules above; demand 3 is the case
@@ -45,7 +47,7 @@ module _ (s : Setup) where
 
     -- nothing is "forged": a frame handed in with a right check that names a correct signer was emitted by it earlier
     abbrev pub Unforged : World → ℕ → Call → Type 0
-    Unforged w i (opening id f timeout lastRound log masks entry out) = Unit {0}
+    Unforged w i (opening id f timeout lastRound rotation log masks entry out) = Unit {0}
     Unforged w i (act a) =
         (c : State) (x : List ℕ) → w .states i ≡ some c → In x (framesIn c a) → checked sha256 x ≡ true → signer x < replicas s
         → correct (signer x) ≡ true → In (emitted (signer x) x) (w .past)

@@ -23,7 +23,7 @@ pub data Act : Type 0 where
 
 -- a call
 pub data Call : Type 0 where
-  opening : (id f timeout lastRound : ℕ) (log masks entry out : List ℕ) → Call
+  opening : (id f timeout lastRound : ℕ) (rotation log masks entry out : List ℕ) → Call
   act : Act → Call
 
 -- what comes to pass: a frame with a right check is handed in; a replica emits a frame (puts it out); a call is answered
@@ -101,8 +101,8 @@ answer c (tick entry out) = tickCall c entry out
 -- A call at replica i with the state that its last call left: its frames are handed in, and it is answered. Without a state
 -- nothing happens, and the premises rule it out.
 unfoldable pub callAt : World → ℕ → Option State → Call → World
-callAt w i c (opening id f timeout lastRound log masks entry out) =
-    opened w i (openCall id f timeout lastRound log masks entry out)
+callAt w i c (opening id f timeout lastRound rotation log masks entry out) =
+    opened w i (openCall id f timeout lastRound rotation log masks entry out)
 callAt w i none (act a) = w
 callAt w i (some c) (act a) =
     after (record { states = w .states; past = hand (framesIn c a) (w .past) }) i (answer c a)
