@@ -1,21 +1,21 @@
 -- Both bounds are reached, by the first six calls of the list that shows that demand 3's premises can hold. Assumes nothing.
 use mathlib.Core.Path.{refl}
 use Rattle.apollo.specs.Log.{slotsRead}
-use Rattle.witness.proofs.Answers.{all, skipped-2}
+use Rattle.witness.proofs.Answers.{all, skipped-0}
 use Rattle.witness.proofs.Witness.{setup, correct, first-six, six-premises, six-leave}
 use Rattle.search_bounds.specs.Bounds.{certifiedRun, Reached}
 
--- replica 2 has skipped round 2, its limit, and finds the block of round 1
+-- replica 0 has skipped round 2, its limit, and finds the block of round 1
 pub reached : Reached
-unfolding all setup skipped-2 slotsRead certifiedRun
+unfolding all setup skipped-0 slotsRead certifiedRun
 reached =
     record {
       s = setup;
       correct = correct;
       calls = first-six;
       premises = six-premises;
-      i = 2;
-      c = skipped-2;
+      i = 0;
+      c = skipped-0;
       left = six-leave;
       f-one = refl;
       by-masks = refl;

@@ -1,5 +1,6 @@
--- A list of calls that meets demand 3's premises, with SHA-256 itself, where a leader is missing, its round is blamed and skipped, one
--- replica commits by blames alone, and two commit a block above that round. Its first six calls meet them too. Assumes nothing.
+-- A list of calls that meets demand 3's premises, with SHA-256 itself and another rotation than the old turn, where a leader is missing,
+-- its round is blamed and skipped, one replica commits by blames alone, and two commit a block above that round. Its first six calls
+-- meet them too. Assumes nothing.
 use Prim.Native.Nat.{ℕ}
 use mathlib.Core.Path.{_≡_, refl, sym, ap, _∙_, subst}
 use mathlib.Core.Logic.{_⊎_, inl, inr}
@@ -10,6 +11,7 @@ use native.Mathlib.Omega.{arith}
 use lib.Dec.{eqb}
 use Rattle.apollo.specs.Bytes.{zeros, same}
 use Rattle.apollo.specs.declared.Setup.{Setup}
+use Rattle.apollo.specs.Rotation.{padded}
 use Rattle.apollo.specs.Setup.{leader}
 use Rattle.apollo.specs.Frame.{kind, signer, round, digest}
 use Rattle.apollo.specs.Log.{genesis, chain}
@@ -21,17 +23,17 @@ use Rattle.agreement.specs.Premises.{Mostly, Patient, Distinct, Premises}
 use Rattle.agreement.specs.Claim.{committed, Agreed}
 use Rattle.agreement.proofs.Agreement.{agreement, beginnings}
 use Rattle.witness.proofs.Frames.{d1, d3, d4, e0, b1, b3, b4, m0, m2, checked1, checked3, checked4, checked-m0, checked-m2}
-use Rattle.witness.proofs.Answers.{out, log0, all, opened-0, opened-2, first-2, blaming-0, heard-2, skipped-2, skipped-0, last-0, last-2, open-0, open-2, take-1, tick-0, hear-0, tick-2, hear-set, take-3, take-4}
+use Rattle.witness.proofs.Answers.{out, rotation, log0, all, opened-2, opened-0, first-0, blaming-2, heard-0, skipped-0, skipped-2, last-2, last-0, open-2, open-0, take-1, tick-2, hear-2, tick-0, hear-set, take-3, take-4}
 use Rattle.witness.proofs.Worlds.{given, next, Goes, stay, then, goes, lawful, unforged, opens, acts}
 
--- The list: f = 1, T = 4, a timeout of one tick; replica 1, the leader of round 2, is missing.
---   0 opens and emits block 1; 2 opens; 2 takes block 1
---   0 ticks and blames round 2; 2 hears that
---   2 ticks and blames round 2, which is now certified: it enters round 3, emits block 3 on block 1 and commits block 1
---   0 hears both blames as a set, its own bit standing already: it passes round 2 and commits block 1
---   0 takes block 3, emits block 4 and commits block 3; 2 takes block 4 and commits block 3
+-- The list: f = 1, T = 4, a timeout of one tick, the rotation 2, 1, 0; replica 1, the leader of round 2, is missing.
+--   2 opens and emits block 1; 0 opens; 0 takes block 1
+--   2 ticks and blames round 2; 0 hears that
+--   0 ticks and blames round 2, which is now certified: it enters round 3, emits block 3 on block 1 and commits block 1
+--   2 hears both blames as a set, its own bit standing already: it passes round 2 and commits block 1
+--   2 takes block 3, emits block 4 and commits block 3; 0 takes block 4 and commits block 3
 openAt : ℕ → Call
-openAt i = opening i 1 1 4 log0 (zeros 4) [] out
+openAt i = opening i 1 1 4 rotation log0 (zeros 4) [] out
 
 taking : List ℕ → Act
 taking b = branch b [] out
@@ -47,41 +49,41 @@ ticking = tick [] out
 
 pub first-six : List (ℕ × Call)
 first-six =
-    (0, openAt 0) ∷ (2, openAt 2) ∷ (2, act (taking b1)) ∷ (0, act ticking) ∷ (2, act (hearing m0)) ∷ (2, act ticking) ∷ []
+    (2, openAt 2) ∷ (0, openAt 0) ∷ (0, act (taking b1)) ∷ (2, act ticking) ∷ (0, act (hearing m2)) ∷ (0, act ticking) ∷ []
 
 last-three : List (ℕ × Call)
-last-three = (0, act (hearingSet (m0 ++ m2))) ∷ (0, act (taking b3)) ∷ (2, act (taking b4)) ∷ []
+last-three = (2, act (hearingSet (m2 ++ m0))) ∷ (2, act (taking b3)) ∷ (0, act (taking b4)) ∷ []
 
 pub calls : List (ℕ × Call)
 calls = first-six ++ last-three
 
 -- the worlds that it goes through
 w1 : World
-w1 = next start 0 [] opened-0 (b1 ∷ [])
+w1 = next start 2 [] opened-2 (b1 ∷ [])
 
 w2 : World
-w2 = next w1 2 [] opened-2 []
+w2 = next w1 0 [] opened-0 []
 
 w3 : World
-w3 = next w2 2 (b1 ∷ []) first-2 []
+w3 = next w2 0 (b1 ∷ []) first-0 []
 
 w4 : World
-w4 = next w3 0 [] blaming-0 (m0 ∷ [])
+w4 = next w3 2 [] blaming-2 (m2 ∷ [])
 
 w5 : World
-w5 = next w4 2 (m0 ∷ []) heard-2 []
+w5 = next w4 0 (m2 ∷ []) heard-0 []
 
 w6 : World
-w6 = next w5 2 [] skipped-2 (m2 ∷ b3 ∷ [])
+w6 = next w5 0 [] skipped-0 (m0 ∷ b3 ∷ [])
 
 w7 : World
-w7 = next w6 0 (m0 ∷ m2 ∷ []) skipped-0 []
+w7 = next w6 2 (m2 ∷ m0 ∷ []) skipped-2 []
 
 w8 : World
-w8 = next w7 0 (b3 ∷ []) last-0 (b4 ∷ [])
+w8 = next w7 2 (b3 ∷ []) last-2 (b4 ∷ [])
 
 w9 : World
-w9 = next w8 2 (b4 ∷ []) last-2 []
+w9 = next w8 0 (b4 ∷ []) last-0 []
 
 worlds : Unit {0}
 unfolding openAt taking hearing hearingSet ticking first-six last-three calls start given next emit w1 w2 w3 w4 w5 w6 w7 w8 w9
@@ -89,7 +91,7 @@ worlds = tt
 
 -- replicas 0 and 2 are correct
 unfoldable pub setup : Setup
-setup = record { f = 1; «last_round» = record { 0 = 4 } }
+setup = record { f = 1; «last_round» = record { 0 = 4 }; rotation = padded rotation }
 
 pub correct : ℕ → Bool
 correct i = not (eqb i 1)
@@ -99,23 +101,23 @@ by : (x : List ℕ) (i : ℕ) → signer x ≡ i → emitted (signer x) x ≡ em
 by x i e = ap (λ k. emitted k x) e
 
 six : Goes setup correct start first-six w6
-unfolding worlds setup framesIn uncut answer all opened-0 opened-2 first-2 blaming-0 heard-2
+unfolding worlds setup framesIn uncut answer all opened-2 opened-0 first-0 blaming-2 heard-0
 six =
-    opens setup correct start 0 1 log0 (zeros 4) [] opened-0 (b1 ∷ []) refl open-0 (refl, tt)
-    (opens setup correct w1 2 1 log0 (zeros 4) [] opened-2 [] refl open-2 tt
-    (acts setup correct w2 2 (taking b1) opened-2 first-2 (b1 ∷ []) [] refl refl (checked1, tt) (inr (inr (inl (by b1 0 refl))), tt) take-1 tt
-    (acts setup correct w3 0 ticking opened-0 blaming-0 [] (m0 ∷ []) refl refl tt tt tick-0 (refl, tt)
-    (acts setup correct w4 2 (hearing m0) first-2 heard-2 (m0 ∷ []) [] refl refl (checked-m0, tt) (inr (inl (by m0 0 refl)), tt) hear-0 tt
-    (acts setup correct w5 2 ticking heard-2 skipped-2 [] (m2 ∷ b3 ∷ []) refl refl tt tt tick-2 (refl, (refl, tt)) stay)))))
+    opens setup correct start 2 1 rotation log0 (zeros 4) [] opened-2 (b1 ∷ []) refl refl open-2 (refl, tt)
+    (opens setup correct w1 0 1 rotation log0 (zeros 4) [] opened-0 [] refl refl open-0 tt
+    (acts setup correct w2 0 (taking b1) opened-0 first-0 (b1 ∷ []) [] refl refl (checked1, tt) (inr (inr (inl (by b1 2 refl))), tt) take-1 tt
+    (acts setup correct w3 2 ticking opened-2 blaming-2 [] (m2 ∷ []) refl refl tt tt tick-2 (refl, tt)
+    (acts setup correct w4 0 (hearing m2) first-0 heard-0 (m2 ∷ []) [] refl refl (checked-m2, tt) (inr (inl (by m2 2 refl)), tt) hear-2 tt
+    (acts setup correct w5 0 ticking heard-0 skipped-0 [] (m0 ∷ b3 ∷ []) refl refl tt tt tick-0 (refl, (refl, tt)) stay)))))
 
 three : Goes setup correct w6 last-three w9
-unfolding worlds setup framesIn uncut answer all blaming-0 skipped-2 skipped-0
+unfolding worlds setup framesIn uncut answer all blaming-2 skipped-0 skipped-2
 three =
-    acts setup correct w6 0 (hearingSet (m0 ++ m2)) blaming-0 skipped-0 (m0 ∷ m2 ∷ []) [] refl refl (checked-m0, (checked-m2, tt))
-    (inr (inr (inr (inr (inr (inr (inl (by m0 0 refl))))))), (inr (inr (inl (by m2 2 refl))), tt)) hear-set tt
-    (acts setup correct w7 0 (taking b3) skipped-0 last-0 (b3 ∷ []) (b4 ∷ []) refl refl (checked3, tt)
-    (inr (inr (inr (inr (inl (by b3 2 refl))))), tt) take-3 (refl, tt)
-    (acts setup correct w8 2 (taking b4) skipped-2 last-2 (b4 ∷ []) [] refl refl (checked4, tt) (inr (inl (by b4 0 refl)), tt) take-4 tt
+    acts setup correct w6 2 (hearingSet (m2 ++ m0)) blaming-2 skipped-2 (m2 ∷ m0 ∷ []) [] refl refl (checked-m2, (checked-m0, tt))
+    (inr (inr (inr (inr (inr (inr (inl (by m2 2 refl))))))), (inr (inr (inl (by m0 0 refl))), tt)) hear-set tt
+    (acts setup correct w7 2 (taking b3) skipped-2 last-2 (b3 ∷ []) (b4 ∷ []) refl refl (checked3, tt)
+    (inr (inr (inr (inr (inl (by b3 0 refl))))), tt) take-3 (refl, tt)
+    (acts setup correct w8 0 (taking b4) skipped-0 last-0 (b4 ∷ []) [] refl refl (checked4, tt) (inr (inl (by b4 2 refl)), tt) take-4 tt
     stay))
 
 steps : Goes setup correct start calls w9
@@ -161,7 +163,7 @@ is2 = inr (inr (inr (inr refl)))
 
 known-all : KnownAll (w9 .past)
 unfolding worlds
-known-all = (tt, (is4, (tt, (is4, (is3, (tt, (is2, (is0, (tt, (is3, (is2, (tt, (is0, (tt, (is0, (tt, (is1, (tt, (tt, (is1, tt))))))))))))))))))))
+known-all = (tt, (is4, (tt, (is4, (is3, (tt, (is0, (is2, (tt, (is3, (is0, (tt, (is2, (tt, (is2, (tt, (is1, (tt, (tt, (is1, tt))))))))))))))))))))
 
 known : (e : Event) → In e (run start calls .past) → Known e
 known e p = known-in (w9 .past) known-all e (subst (λ (w : World). In e (w .past)) (goes setup correct steps) p)
@@ -191,7 +193,7 @@ patient i x c p k = of (known (emitted i x) p)
     block b f e = absurd (omega (arith, ap kind e, f, k))
 
     blame-2 : (m : List ℕ) → round m ≡ 2 → x ≡ m → correct (leader setup (round x)) ≡ false
-    blame-2 m f e = ap (λ r. correct (leader setup r)) (ap (λ (y : List ℕ). round y) e ∙ f) ∙ (unfold correct leader setup in refl)
+    blame-2 m f e = ap (λ r. correct (leader setup r)) (ap (λ (y : List ℕ). round y) e ∙ f) ∙ (unfold all correct setup in refl)
 
     of : Frame x → correct (leader setup (round x)) ≡ false
     of (inl e) = block b1 (fields .block-1) e
@@ -261,19 +263,19 @@ commits = (
   (last-2, ap (λ (w : World). w .states 2) (goes setup correct steps), unfold all last-2 committed chain in refl),
 )
 
--- The first six calls meet the premises too. They leave replica 2 waiting for round 4, with round 2 skipped.
+-- The first six calls meet the premises too. They leave replica 0 waiting for round 4, with round 2 skipped.
 pub six-premises : Premises setup correct first-six
 unfolding calls
 six-premises = beginnings setup correct first-six last-three premises
 
-pub six-leave : run start first-six .states 2 ≡ some skipped-2
+pub six-leave : run start first-six .states 0 ≡ some skipped-0
 unfolding worlds
-six-leave = ap (λ (w : World). w .states 2) (goes setup correct six)
+six-leave = ap (λ (w : World). w .states 0) (goes setup correct six)
 
--- Document 02, F-2, in the seventh call: replica 0 had committed nothing, and commits block 1 by the set of blames, with which it emits
+-- Document 02, F-2, in the seventh call: replica 2 had committed nothing, and commits block 1 by the set of blames, with which it emits
 -- nothing (`hear-set`).
-pub by-blames : (committed blaming-0 ≡ []) × (committed (stateOf (blamesCall blaming-0 (m0 ++ m2) [] out)) ≡ b1 ∷ [])
+pub by-blames : (committed blaming-2 ≡ []) × (committed (stateOf (blamesCall blaming-2 (m2 ++ m0) [] out)) ≡ b1 ∷ [])
 by-blames = (
-  unfold all blaming-0 committed chain in refl,
-  ap (λ o. committed (stateOf o)) hear-set ∙ (unfold all skipped-0 committed chain in refl),
+  unfold all blaming-2 committed chain in refl,
+  ap (λ o. committed (stateOf o)) hear-set ∙ (unfold all skipped-2 committed chain in refl),
 )

@@ -8,6 +8,7 @@ use mathlib.Core.Bool.{Bool, true, cond}
 use lib.Dec.{eqb}
 use Rattle.sha256.specs.Fips.{sha256}
 use Rattle.apollo.specs.declared.Setup.{Setup}
+use Rattle.apollo.specs.Rotation.{padded}
 use Rattle.apollo.specs.Frame.{signer, checked}
 use Rattle.apollo.specs.Enter.{State}
 use Rattle.apollo.specs.Outcome.{taken}
@@ -47,11 +48,11 @@ after-made w i c ys whole =
     ap (λ zs. record { states = λ j. cond (eqb i j) (some c) (w .states j); past = answered 0 ∷ emit i zs (w .past) })
     (frames-flatten ys _ whole)
 
-opened-so : (w : World) (i id f timeout last : ℕ) (log masks entry : List ℕ) (c : State) (ys : List (List ℕ))
-    → openCall id f timeout last log masks entry out ≡ made c ys → Whole ys
-    → step w i (opening id f timeout last log masks entry out) ≡ next w i [] c ys
+opened-so : (w : World) (i id f timeout last : ℕ) (rotation log masks entry : List ℕ) (c : State) (ys : List (List ℕ))
+    → openCall id f timeout last rotation log masks entry out ≡ made c ys → Whole ys
+    → step w i (opening id f timeout last rotation log masks entry out) ≡ next w i [] c ys
 unfolding step callAt opened made taken
-opened-so w i id f timeout last log masks entry c ys e whole = ap (opened w i) e ∙ after-made w i c ys whole
+opened-so w i id f timeout last rotation log masks entry c ys e whole = ap (opened w i) e ∙ after-made w i c ys whole
 
 acted : (w : World) (i : ℕ) (a : Act) (c d : State) (xs ys : List (List ℕ)) → w .states i ≡ some c → framesIn c a ≡ xs → Checked xs
     → answer c a ≡ made d ys → Whole ys → step w i (act a) ≡ next w i xs d ys
@@ -99,12 +100,12 @@ module _ (s : Setup) (correct : ℕ → Bool) where
 
   module _ (w : World) (i : ℕ) {v : World} {es : List (ℕ × Call)} where
     -- an open that is taken comes first
-    pub opens : (timeout : ℕ) (log masks entry : List ℕ) (c : State) (ys : List (List ℕ)) → w .states i ≡ none
-        → openCall i (s .f) timeout (s .«last_round» .0) log masks entry out ≡ made c ys → Whole ys
-        → Goes (next w i [] c ys) es v → Goes w ((i, opening i (s .f) timeout (s .«last_round» .0) log masks entry out) ∷ es) v
-    opens timeout log masks entry c ys new e whole =
-        go {d = opening i (s .f) timeout (s .«last_round» .0) log masks entry out} (λ _. (new, refl, refl, refl)) tt
-        (opened-so w i i (s .f) timeout (s .«last_round» .0) log masks entry c ys e whole)
+    pub opens : (timeout : ℕ) (rotation log masks entry : List ℕ) (c : State) (ys : List (List ℕ)) → w .states i ≡ none
+        → padded rotation ≡ s .rotation → openCall i (s .f) timeout (s .«last_round» .0) rotation log masks entry out ≡ made c ys → Whole ys
+        → Goes (next w i [] c ys) es v → Goes w ((i, opening i (s .f) timeout (s .«last_round» .0) rotation log masks entry out) ∷ es) v
+    opens timeout rotation log masks entry c ys new turn e whole =
+        go {d = opening i (s .f) timeout (s .«last_round» .0) rotation log masks entry out} (λ _. (new, refl, refl, refl, turn)) tt
+        (opened-so w i i (s .f) timeout (s .«last_round» .0) rotation log masks entry c ys e whole)
 
     -- any other call
     pub acts : (a : Act) (c d : State) (xs ys : List (List ℕ)) → w .states i ≡ some c → framesIn c a ≡ xs → Checked xs → Earlier w xs
