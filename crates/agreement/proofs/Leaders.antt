@@ -57,7 +57,7 @@ module _ (s : Setup) (v : validRotation s ≡ true) where
           let l : k ≤ j = ltb-false j k t in
           seats-differ n _ seated k j (omega arith) a (seat k b ∙ sym e ∙ sym (seat j a))
 
--- the two laws used of leaders, and the only ones: n rounds in a row have different ones, and each is a replica's number
+-- The only two laws about leaders that the proof of demand 3 uses: n rounds in a row have different ones, and each is a replica's number.
 pub leaders-differ : LeadersDiffer
 unfolding leader
 leaders-differ s v r q one lt near =
