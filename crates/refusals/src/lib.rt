@@ -23,14 +23,7 @@ fn judge_room(entry: usize, out: usize) -> u8
 }
 
 // Open: 1, 17, 4 and 5. The record has the rotation, padded; `seats` is how long that was.
-pub fn of_open(
-    r: Replica,
-    seats: usize,
-    log: &[u8],
-    masks: &[u16],
-    entry: usize,
-    out: usize,
-) -> u8
+pub fn of_open(r: Replica, seats: usize, log: &[u8], masks: &[u16], entry: usize, out: usize) -> u8
     ensures { λ n. ⌜ n ≡ openNumber r seats (now (log .entry)) (now (masks .entry)) entry out ⌝ }
 {
     if !(record_ranges::valid_setup(r, log) & record_ranges::valid_masks(r, masks)) {

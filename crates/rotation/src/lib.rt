@@ -22,7 +22,11 @@ pub fn leader(s: Setup, round: u32) -> u8
 fn with_card(m: u16, card: u8) -> u16
     ensures { λ r. ⌜ r ≡ withCard m card ⌝ }
 {
-    if card < 16 { masks::with_bit(m, card) } else { m }
+    if card < 16 {
+        masks::with_bit(m, card)
+    } else {
+        m
+    }
 }
 
 // A mask has all of the n lowest bits.
