@@ -16,7 +16,7 @@ unfolding leads
 leads-test r s l d e = rw (e, d)
 
 -- the test of a record, from its four parts
-pub replica-test : (r : Replica) (log : List ℕ) {s t v l : Bool} → s ≡ validSetup r log → t ≡ validRotation (setupOf r) → v ≡ validRounds r
-    → l ≡ leads r → s && t && v && not l ≡ validReplica r log
+pub replica-test : (r : Replica) (log : List ℕ) {s t v l : Bool} {u : Setup} → s ≡ validSetup r log → u ≡ setupOf r
+    → t ≡ validRotation u → v ≡ validRounds r → l ≡ leads r → s && t && v && not l ≡ validReplica r log
 unfolding validReplica
-replica-test r log a b c d = rw (a, b, c, d)
+replica-test r log a u b c d = rw (a, b, u, c, d)

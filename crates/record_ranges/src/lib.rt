@@ -1,7 +1,6 @@
 // The tests of a record, for any numbers in it: who leads R, and the ranges of the fields and of what is lent beside them.
 use apollo::Replica;
 ghost use mathlib.Core.Path.{_≡_};
-ghost use Rattle.apollo.specs.Setup.{setupOf, validRotation};
 ghost use Rattle.apollo.specs.Replica.{leads, validSetup, validRounds, validReplica, validMasks};
 
 // R ≤ T, and this replica leads R.
@@ -28,15 +27,6 @@ pub fn valid_setup(r: Replica, log: &[u8]) -> bool
         & (log.len() == size)
 }
 
-// The rotation has each of the n cards once, and is zero past them.
-pub fn valid_rotation(r: Replica) -> bool
-    ensures { λ b. ⌜ b ≡ validRotation (setupOf r) ⌝ }
-{
-    let seats = r.rotation;
-    let n = 2 * (r.f as usize) + 1;
-    rotation::is_rotation(seats, n)
-}
-
 // The fields that a call changes are in range. In two steps: the compiler joins the comparisons of one step into vectors, whose
 // loads wait for the caller's stores.
 fn valid_rounds(r: Replica) -> bool
@@ -61,7 +51,7 @@ fn valid_rounds(r: Replica) -> bool
 pub fn valid_replica(r: Replica, log: &[u8]) -> bool
     ensures { λ b. ⌜ b ≡ validReplica r (now (log .entry)) ⌝ }
 {
-    valid_setup(r, log) & valid_rotation(r) & valid_rounds(r) & !leads(r)
+    valid_setup(r, log) & rotation::valid_rotation(record::setup(r)) & valid_rounds(r) & !leads(r)
 }
 
 // There is one mask a round.

@@ -1,12 +1,9 @@
 // The rotation (document 02: seating): who leads a round, what is one, and how a record holds it.
 use apollo::Setup;
 ghost use mathlib.Core.Path.{_≡_};
-ghost use mathlib.Core.Bool.{_&&_};
 ghost use Prim.Native.Nat.{_≤_};
-ghost use lib.ListN.{take};
-ghost use Rattle.apollo.specs.Bytes.{blank};
-ghost use Rattle.apollo.specs.Rotation.{isRotation, padded};
-ghost use Rattle.apollo.specs.Setup.{leader};
+ghost use Rattle.apollo.specs.Rotation.{padded};
+ghost use Rattle.apollo.specs.Setup.{leader, validRotation};
 ghost use Rattle.rotation.specs.Seen.{withCard, allSeen};
 
 // The leader of a round.
@@ -14,8 +11,8 @@ pub fn leader(s: Setup, round: u32) -> u8
     ensures { λ r. ⌜ r ≡ leader s round ⌝ }
 {
     let n = 2 * (s.f as u32) + 1;
-    let seats = s.rotation;
-    slices::byte(&seats, (frame::previous(round) % n) as usize)
+    let seat = (frame::previous(round) % n) as usize;
+    if seat < 15 { s.rotation[seat] } else { 0 }
 }
 
 // A mask of cards with one more; a number that is no card's is passed over.
@@ -38,10 +35,11 @@ fn all_seen(m: u16, n: usize) -> bool
     (m as u32) % end + 1 == end
 }
 
-// The first n of 15 seats are a rotation of n cards, and the others are zero. One pass: n seats that lack no card have none twice.
-pub fn is_rotation(seats: [u8; 15], n: usize) -> bool
-    ensures { λ b. ⌜ b ≡ isRotation n (take n seats) && blank seats n 15 ⌝ }
+// The first n of 15 seats are a rotation of the n cards, and the others are zero. One pass: n seats that lack no card have none twice.
+pub fn valid_rotation(s: Setup) -> bool
+    ensures { λ b. ⌜ b ≡ validRotation s ⌝ }
 {
+    let n = 2 * (s.f as usize) + 1;
     if 15 < n {
         return false;
     }
@@ -50,9 +48,9 @@ pub fn is_rotation(seats: [u8; 15], n: usize) -> bool
     let mut i = 0;
     while i < 15 {
         if i < n {
-            m = with_card(m, seats[i]);
+            m = with_card(m, s.rotation[i]);
         } else {
-            is_blank = is_blank & (seats[i] == 0);
+            is_blank = is_blank & (s.rotation[i] == 0);
         }
         i += 1;
     }

@@ -7,8 +7,17 @@ use Rattle.record_ranges.proofs.valid_replica.Tie as tie
 returns : tie.Need-returns
 returns c =
     let v = c .before in
-    replica-test _ _ (v .before .before .valid-setup .ensures) (v .before .valid-rotation .ensures) (v .valid-rounds .ensures) (c .leads .ensures)
+    let t = v .before in
+    let s = t .before in
+    replica-test _ _ (s .before .valid-setup .ensures) (s .setup .ensures) (t .valid-rotation .ensures) (v .valid-rounds .ensures) (c .leads .ensures)
 
 pub valid-replica-spec : {M : Type 1} → statement M
 valid-replica-spec =
-    tie.close (tie.spec (λ c κs. search needs) (λ c κs. search needs) (λ c κs. search needs) (λ c κs. search needs) returns)
+    tie.close
+    (tie.spec
+    (λ c κs. search needs)
+    (λ c κs. search needs)
+    (λ c κs. search needs)
+    (λ c κs. search needs)
+    (λ c κs. search needs)
+    returns)
