@@ -5,7 +5,7 @@ use std::collections::VecDeque;
 use std::io::{self, BufRead, Write};
 
 use beside::frame::{self, Frame, SIZE};
-use beside::model::{self, Answer, Lent, Record, Setup};
+use beside::model::{self, in_turn, seats, Answer, Lent, Record, Setup};
 
 const CARDS: usize = 3;
 const TERM: usize = 6;
@@ -26,7 +26,10 @@ fn main() -> io::Result<()> {
             wait: 2,
             term: TERM as u32,
         };
-        call(&mut cards, own, |_, lent| model::open(setup, lent));
+        let rotation = in_turn(setup.f);
+        call(&mut cards, own, |_, lent| {
+            model::open(setup, seats(&rotation, setup.f), lent)
+        });
     }
     let mut out = io::stdout().lock();
     for (line, number) in io::stdin().lock().split(b'\n').zip(1..) {

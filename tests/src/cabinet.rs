@@ -4,9 +4,9 @@
 use std::collections::{HashMap, VecDeque};
 
 use crate::call::{Call, Head, Step, What};
-use crate::changes::{change, Hand};
+use crate::changes::{change, rotation, Hand};
 use crate::frame::{self, Frame, Name, GENESIS, SIZE};
-use crate::model::{cards, leader, slots, Setup, LEAST_OUT};
+use crate::model::{cards, in_turn, leader, seats, slots, Rotation, Setup, LEAST_OUT};
 use crate::rng::Rng;
 use crate::runner::{Outcome, Side};
 
@@ -71,6 +71,8 @@ struct Habits {
     bundle: usize,
     withhold: usize,
     equivocate: usize,
+    /// How often a maker takes the old turn for the rotation.
+    astray: usize,
     /// How often a faulty card does something.
     busy: usize,
     change: usize,
@@ -88,6 +90,7 @@ impl Habits {
             bundle: rng.pick(&[0, 40, 90]),
             withhold: rng.pick(&[0, 20, 80]),
             equivocate: rng.pick(&[0, 40, 90]),
+            astray: rng.pick(&[0, 0, 10, 30]),
             busy: rng.pick(&[0, 8, 16]),
             change: rng.pick(&[0, 8, 25]),
             tick: rng.pick(&[4, 12, 30]),
@@ -104,6 +107,8 @@ pub struct Cabinet {
     strict: bool,
     /// Cards whose frames are made here, not by calls.
     makers: u16,
+    /// A maker that is opened, too, with a rotation of its own.
+    neighbour: Option<(u8, Rotation)>,
     habits: Habits,
     pool: Pool,
     inbox: Vec<VecDeque<usize>>,
@@ -119,6 +124,7 @@ impl Cabinet {
     pub fn new(mut rng: Rng, head: Head, strict: bool, makers: u16, steps: usize) -> Cabinet {
         Cabinet {
             habits: Habits::new(&mut rng),
+            neighbour: choose_neighbour(&mut rng, &head, makers),
             rng,
             strict,
             makers,
@@ -161,22 +167,27 @@ impl Cabinet {
         sound.all(|card| done(&card))
     }
 
-    fn change(&mut self, call: &mut Call, sides: &[Side]) {
-        let mut hand = Hand {
+    /// What changes of a call at a card need to know.
+    fn change_hand(&mut self, card: usize, sides: &[Side]) -> Hand<'_> {
+        Hand {
             rng: &mut self.rng,
             head: &self.head,
             strict: self.strict,
-            kept: sides[call.card].record,
-        };
-        change(&mut hand, call);
-        let again = matches!(call.what, What::Open(_)) && self.open >> call.card & 1 == 1;
+            kept: sides[card].record,
+        }
+    }
+
+    fn change(&mut self, call: &mut Call, sides: &[Side]) {
+        change(&mut self.change_hand(call.card, sides), call);
+        let again = matches!(call.what, What::Open(..)) && self.open >> call.card & 1 == 1;
         if again && self.strict {
             call.out_len = call.out_len.min(LEAST_OUT - 1);
         }
     }
 
     fn choose(&mut self, sides: &[Side]) -> Call {
-        let closed = self.head.sound & !self.open;
+        let neighbour = self.neighbour.map_or(0, |(card, _)| 1 << card);
+        let closed = (self.head.sound | neighbour) & !self.open;
         if closed != 0 && (self.open == 0 || self.rng.chance(self.habits.opening)) {
             let card = self.rng.bit(closed);
             return self.open(card);
@@ -196,7 +207,7 @@ impl Cabinet {
             85..=90 => self.read(card, sides),
             91..=94 => self.fetch(card, sides),
             95 => self.digest(card),
-            96..=97 => self.open_again(card),
+            96..=97 => self.open_again(card, sides),
             _ => self.tick(card, sides),
         }
     }
@@ -229,23 +240,35 @@ impl Cabinet {
             wait,
             term: self.head.term,
         };
-        self.call(usize::from(card), What::Open(setup))
+        let rotation = match self.neighbour {
+            Some((neighbour, rotation)) if neighbour == card => rotation,
+            _ => self.head.rotation,
+        };
+        let seats = seats(&rotation, self.head.f).to_vec();
+        self.call(usize::from(card), What::Open(setup, seats))
     }
 
     /// Opens an open card, refused in a strict run.
-    fn open_again(&mut self, card: usize) -> Call {
+    fn open_again(&mut self, card: usize, sides: &[Side]) -> Call {
         let mut call = self.open(card as u8);
         if self.strict || self.rng.chance(70) {
-            call.out_len = self.rng.pick(&[0, 512, LEAST_OUT - 1]);
+            let fault = self.rng.below(4);
+            if fault < 2 {
+                rotation(&mut self.change_hand(card, sides), &mut call);
+            }
+            if fault > 0 {
+                call.out_len = self.rng.pick(&[0, 512, LEAST_OUT - 1]);
+            }
         }
         call
     }
 
-    /// In a strict run no tick may blame a sound leader.
+    /// In a strict run no tick of a sound card may blame a sound leader.
     fn may_tick(&self, card: usize, sides: &[Side]) -> bool {
         let record = &sides[card].record;
-        let lead = leader(record.round.max(1), self.head.f);
-        !self.strict || record.left != 1 || self.head.sound >> lead & 1 == 0
+        let lead = self.head.leader(record.round.max(1));
+        let sound = self.head.sound >> card & self.head.sound >> lead & 1 == 1;
+        !self.strict || record.left != 1 || !sound
     }
 
     fn tick(&mut self, card: usize, sides: &[Side]) -> Call {
@@ -438,11 +461,18 @@ impl Cabinet {
 
     /// One block, or several for the same round, from `low` on.
     fn make_blocks(&mut self, maker: u8, low: u32) {
-        let n = cards(self.head.f);
-        let round = low + (u32::from(maker) + 1 + n - low % n) % n;
-        if round > self.head.term {
+        let f = self.head.f;
+        let by_number = self.rng.chance(self.habits.astray);
+        let rotation = if by_number {
+            in_turn(f)
+        } else {
+            self.head.rotation
+        };
+        let mut turn = low..low + cards(f);
+        let round = turn.find(|&round| leader(round, f, &rotation) == maker);
+        let Some(round) = round.filter(|&round| round <= self.head.term) else {
             return;
-        }
+        };
         let several = self.rng.chance(self.habits.equivocate);
         let count = if several { 2 + self.rng.below(2) } else { 1 };
         for _ in 0..count {
@@ -488,7 +518,7 @@ impl Cabinet {
     pub fn learn(&mut self, call: &Call, outcome: &Outcome, out: &[u8]) {
         match outcome {
             Outcome::Answer(answer) if answer.number == 0 => {
-                if matches!(call.what, What::Open(_)) {
+                if matches!(call.what, What::Open(..)) {
                     self.open |= 1 << call.card;
                 }
                 for frame in &slots(out)[..usize::from(answer.frames)] {
@@ -517,4 +547,18 @@ impl Cabinet {
             }
         }
     }
+}
+
+/// In some lists a maker that is not sound, and another rotation than the list's.
+fn choose_neighbour(rng: &mut Rng, head: &Head, makers: u16) -> Option<(u8, Rotation)> {
+    let unsound = makers & !head.sound;
+    if unsound == 0 || !rng.chance(30) {
+        return None;
+    }
+    let mut rotation = in_turn(head.f);
+    if rotation == head.rotation || rng.chance(50) {
+        let n = cards(head.f) as usize;
+        rng.shuffle(&mut rotation[..n]);
+    }
+    Some((rng.bit(unsound), rotation))
 }

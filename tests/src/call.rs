@@ -1,7 +1,8 @@
 //! Lists of calls, each call with all its bytes, so that any part of a list can be run again.
 
 use crate::frame::{Frame, SIZE};
-use crate::model::{whole_frames, Record, Setup, LEAST_OUT, MOST_BLAMES};
+use crate::model::{leader, seats, whole_frames};
+use crate::model::{Record, Rotation, Setup, LEAST_OUT, MOST_BLAMES};
 
 /// What a list is about.
 #[derive(Clone, Debug)]
@@ -12,11 +13,25 @@ pub struct Head {
     pub cards: usize,
     /// Bit i: card i is meant to be sound.
     pub sound: u16,
+    /// What sound cards are opened with.
+    pub rotation: Rotation,
+}
+
+impl Head {
+    /// The rotation as open is lent it.
+    pub fn seats(&self) -> &[u8] {
+        seats(&self.rotation, self.f)
+    }
+
+    pub fn leader(&self, round: u32) -> u8 {
+        leader(round, self.f, &self.rotation)
+    }
 }
 
 #[derive(Clone, Debug)]
 pub enum What {
-    Open(Setup),
+    /// With the rotation.
+    Open(Setup, Vec<u8>),
     Branch(Vec<u8>),
     Blame(Vec<u8>),
     Blames(Vec<u8>),
@@ -80,7 +95,7 @@ impl Call {
     /// The word for the call.
     pub fn word(&self) -> &'static str {
         match self.what {
-            What::Open(_) => "open",
+            What::Open(..) => "open",
             What::Branch(_) => "branch",
             What::Blame(_) => "blame",
             What::Blames(_) => "blames",
@@ -93,12 +108,20 @@ impl Call {
 
     /// A number from the call's own bytes, the same in every list that has the call.
     pub fn mark(&self) -> u64 {
-        let frames = self.handed().iter().rev();
-        let bytes = self.entry.iter().take(8).chain(frames.take(8));
+        let given = self.given().iter().rev();
+        let bytes = self.entry.iter().take(8).chain(given.take(8));
         let start = (self.card + self.out_len + self.log_len) as u64;
         bytes.fold(start, |mark, byte| {
             mark.wrapping_mul(0x100_0000_01b3) ^ u64::from(*byte)
         })
+    }
+
+    /// The bytes that only this call is lent: frames, or open's rotation.
+    pub fn given(&self) -> &[u8] {
+        match &self.what {
+            What::Open(_, rotation) => rotation,
+            _ => self.handed(),
+        }
     }
 
     /// The bytes lent for frames.

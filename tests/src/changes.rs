@@ -1,10 +1,11 @@
 //! Changes that make a call odd: lengths off by one, frames out of order, damaged fields, records
-//! and set-ups at and beyond the edges of their ranges.
+//! and set-ups at and beyond the edges of their ranges, rotations that are none.
 
 use crate::call::{Call, Head, What};
 use crate::coverage::Row;
 use crate::frame::{self, Frame, SIZE};
-use crate::model::{cards, leader, Record, Setup, MOST_BLAMES, MOST_TERM};
+use crate::model::{cards, in_turn, leader, Record, Setup};
+use crate::model::{MOST_BLAMES, MOST_CARDS, MOST_TERM};
 use crate::rng::Rng;
 
 /// What a change needs to know.
@@ -28,6 +29,12 @@ impl Hand<'_> {
 
     fn is_sound(&self, card: u8) -> bool {
         card < 16 && self.head.sound >> card & 1 == 1
+    }
+
+    /// The leader of the old turn.
+    fn leader_by_number(&self, round: u32) -> u32 {
+        let f = self.head.f;
+        leader(round.max(1), f, &in_turn(f)).into()
     }
 
     /// A number other than the old one, at the edges if they allow it.
@@ -214,7 +221,6 @@ fn fill(bytes: &mut Vec<u8>, length: usize) {
 
 /// Gives a frame the round of the one before, or a lower one, with the leader that goes with it.
 fn same_round(hand: &mut Hand, call: &mut Call) -> bool {
-    let f = hand.head.f;
     if hand.strict || !is_branch(call) {
         return false;
     }
@@ -224,7 +230,7 @@ fn same_round(hand: &mut Hand, call: &mut Call) -> bool {
     let index = 1 + hand.rng.below(frames.len() - 1);
     let before = frame::round(&frames[index - 1]).max(1);
     let round = hand.pick(&[before, before, down(before).max(1)]);
-    frames[index][1] = leader(round, f);
+    frames[index][1] = hand.head.leader(round);
     frame::set_round(&mut frames[index], round);
     frame::seal(&mut frames[index]);
     link(&mut frames[index..]);
@@ -266,7 +272,9 @@ const KIND: Harm = |hand, frame| frame[0] = hand.other(frame[0].into(), &[0, 1, 
 
 const SIGNER: Harm = |hand, frame| {
     let (old, n) = (u32::from(frame[1]), hand.cards());
-    frame[1] = hand.other(old, &[0, n - 1, n, n + 1, 255, (old + 1) % n]) as u8;
+    let by_number = hand.leader_by_number(frame::round(frame));
+    let edges = [0, n - 1, n, n + 1, 255, (old + 1) % n, by_number, by_number];
+    frame[1] = hand.other(old, &edges) as u8;
 };
 
 const ROUND: Harm = |hand, frame| {
@@ -408,8 +416,9 @@ fn down(value: u32) -> u32 {
 const RECORD_FIELDS: &[(&str, Edge)] = &[
     ("own number", |hand, record| {
         let n = hand.cards();
-        let lead = u32::from(leader(record.round.max(1), hand.head.f));
-        record.own = hand.pick(&[0, n - 1, n, n + 1, 255, lead]) as u8;
+        let lead = hand.head.leader(record.round.max(1)).into();
+        let by_number = hand.leader_by_number(record.round);
+        record.own = hand.pick(&[0, n - 1, n, n + 1, 255, lead, by_number]) as u8;
     }),
     ("f", |hand, record| {
         let f = u32::from(record.f);
@@ -459,7 +468,99 @@ const RECORD_FIELDS: &[(&str, Edge)] = &[
         let (tip, round) = (record.tip_height, record.committed_round);
         record.committed_height = hand.pick(&[0, tip, up(tip), round, up(round), u32::MAX]);
     }),
+    ("two seats alike", |hand, record| {
+        let (one, other) = two_seats(hand);
+        record.rotation[other] = record.rotation[one];
+    }),
+    ("a seat out of range", |hand, record| {
+        let (seat, _) = two_seats(hand);
+        record.rotation[seat] = no_card(hand, record.rotation[seat]);
+    }),
+    ("a byte past n", |hand, record| {
+        let n = hand.cards() as usize;
+        if n < MOST_CARDS {
+            let any = n + hand.rng.below(MOST_CARDS - n);
+            let at = hand.rng.pick(&[n, MOST_CARDS - 1, any]);
+            record.rotation[at] = hand.pick(&[1, n as u32 - 1, n as u32, 255]) as u8;
+        }
+    }),
+    ("two seats swapped", |hand, record| {
+        let (one, other) = two_seats(hand);
+        record.rotation.swap(one, other);
+    }),
+    ("all seats zero", |_, record| record.rotation.fill(0)),
 ];
+
+/// Two different seats in use.
+fn two_seats(hand: &mut Hand) -> (usize, usize) {
+    let n = hand.cards() as usize;
+    let one = hand.rng.below(n);
+    (one, (one + 1 + hand.rng.below(n - 1)) % n)
+}
+
+/// A number from n on, at times one that becomes the card where bits are lost.
+fn no_card(hand: &mut Hand, card: u8) -> u8 {
+    let (n, card) = (hand.cards(), u32::from(card));
+    let edges = [n, 15, 16, 255, card | 16, card | 32, card | 64, card | 128];
+    hand.pick(&edges) as u8
+}
+
+/// Makes a rotation one that open has to refuse.
+type Spoil = fn(&mut Hand, &mut Vec<u8>);
+
+const ROTATIONS: &[(&str, Spoil)] = &[
+    ("empty", |_, seats| seats.clear()),
+    ("a seat left out", |hand, seats| {
+        seats.remove(hand.rng.below(seats.len()));
+    }),
+    ("a card again after the last", |hand, seats| {
+        seats.push(hand.rng.pick(seats));
+    }),
+    ("n after the last", |hand, seats| {
+        seats.push(hand.cards() as u8);
+    }),
+    ("zeros up to 15 or more", |hand, seats| {
+        let length = hand.rng.pick(&[15, 16, 17, 32, 512]);
+        let least = seats.len() + 1;
+        seats.resize(length.max(least), 0);
+    }),
+    ("256 more", |_, seats| {
+        seats.resize(seats.len() + 256, 0);
+    }),
+    ("the same again", |_, seats| seats.extend_from_within(..)),
+    ("a card twice", |hand, seats| {
+        let (one, other) = two_seats(hand);
+        seats[other] = seats[one];
+    }),
+    ("no card's number", |hand, seats| {
+        let (seat, _) = two_seats(hand);
+        seats[seat] = no_card(hand, seats[seat]);
+    }),
+    ("all alike", |hand, seats| {
+        let card = hand.rng.pick(seats);
+        seats.fill(card);
+    }),
+    ("some alike", |hand, seats| {
+        let from = hand.rng.below(seats.len() - 1);
+        let card = hand.rng.pick(seats);
+        seats[from..].fill(card);
+    }),
+    ("counted from 1", |_, seats| {
+        seats.iter_mut().for_each(|card| *card += 1);
+    }),
+];
+
+/// Spoils the rotation that an open is lent.
+pub fn rotation(hand: &mut Hand, call: &mut Call) -> bool {
+    let What::Open(_, seats) = &mut call.what else {
+        return false;
+    };
+    let (label, spoil) = hand.rng.pick(ROTATIONS);
+    *seats = hand.head.seats().to_vec();
+    spoil(hand, seats);
+    call.changes.push(("rotation", label));
+    true
+}
 
 /// Another T with log and masks of its size.
 const SIZED: [&str; 4] = [
@@ -493,7 +594,7 @@ fn resize(hand: &mut Hand, call: &mut Call) -> Option<(u32, &'static str)> {
 
 /// Puts one field of the record at an edge.
 fn record(hand: &mut Hand, call: &mut Call) -> bool {
-    let open_or_digest = matches!(call.what, What::Open(_) | What::Digest(_));
+    let open_or_digest = matches!(call.what, What::Open(..) | What::Digest(_));
     if hand.strict || open_or_digest || call.record.is_some() {
         return false;
     }
@@ -528,20 +629,28 @@ const SETUP_FIELDS: &[(&str, SetupEdge)] = &[
     }),
 ];
 
+/// Changes what an open is handed; in a strict run nothing that it may be taken with.
+fn opening(hand: &mut Hand, call: &mut Call) -> bool {
+    if hand.strict || hand.rng.chance(50) {
+        rotation(hand, call)
+    } else {
+        setup(hand, call)
+    }
+}
+
 fn setup(hand: &mut Hand, call: &mut Call) -> bool {
-    let What::Open(mut setup) = call.what else {
+    let What::Open(mut setup, _) = call.what else {
         return false;
     };
-    if hand.strict {
-        return false;
-    }
     let (mut field, edge) = hand.rng.pick(SETUP_FIELDS);
     if let Some((term, label)) = resize(hand, call) {
         (setup.term, field) = (term, label);
     } else {
         edge(hand, &mut setup);
     }
-    call.what = What::Open(setup);
+    if let What::Open(old, _) = &mut call.what {
+        *old = setup;
+    }
     call.changes.push(("set-up", field));
     true
 }
@@ -572,7 +681,7 @@ pub fn change(hand: &mut Hand, call: &mut Call) {
             0 => from_table("length", LENGTHS, hand, call),
             1 => from_table("frames", FRAMES, hand, call),
             2 | 3 => harm(hand, call),
-            _ => record(hand, call) || setup(hand, call),
+            _ => record(hand, call) || opening(hand, call),
         });
     }
     let most = (hand.head.term as usize + 1).max(MOST_BLAMES + 1);
@@ -602,6 +711,7 @@ pub fn rows() -> impl Iterator<Item = Row> {
         .chain(of("record", SIZED.to_vec()))
         .chain(of("set-up", SIZED.to_vec()))
         .chain(of("set-up", labels(SETUP_FIELDS)))
+        .chain(of("rotation", labels(ROTATIONS)))
 }
 
 fn labels<T>(table: &[(&'static str, T)]) -> Vec<&'static str> {

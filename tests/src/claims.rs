@@ -1,22 +1,24 @@
 //! The three claims about sound cards, checked call by call on the library's buffers, and what
 //! committing by R adds to them: sound cards that wait for one round have committed the same, R is at
-//! most 2f + 1 above the committed round, and the search for it reads at most f + 1 slots.
+//! most 2f + 1 above the committed round, and the search for it reads at most f + 1 slots. Beside
+//! them: sound cards tell one leader for a round, and another for each of n rounds in a row.
 //!
 //! The premises are judged from the calls themselves, so a list with calls left out is judged
-//! afresh: at most f cards that are not sound, no forged frame, and no sound card that blamed a
-//! round led by a sound card.
+//! afresh: at most f cards that are not sound, one rotation for the sound ones, no forged frame, and
+//! no sound card that blamed a round led by a sound card.
 
 use std::collections::HashSet;
 
 use crate::call::{Call, Head, What};
 use crate::frame::{self, Frame, Name};
-use crate::model::{cards, leader, slots, Answer, Search};
+use crate::model::{cards, leader, seats, slots, Answer, Rotation, Search, NOBODY};
 use crate::rules::Rules;
 use crate::runner::{Outcome, Side};
 
 pub struct Claims {
     f: u8,
     term: u32,
+    rotation: Rotation,
     /// What every card keeps to; none to leave it out.
     pub rules: Option<Rules>,
     /// Cards that have been sound so far, and those of them that are open.
@@ -32,6 +34,8 @@ pub struct Claims {
     blocks: Vec<Option<Box<Frame>>>,
     /// The longest committed list of all sound cards.
     agreed: Vec<Frame>,
+    /// The leader that sound cards told; round r at index r - 1.
+    told: Vec<Option<u8>>,
     /// Calls after which the claims were due and held.
     pub checked: u64,
 }
@@ -51,6 +55,7 @@ impl Claims {
         Claims {
             f: head.f,
             term: head.term,
+            rotation: head.rotation,
             rules: Some(Rules::new(head)),
             sound: head.sound,
             open: 0,
@@ -60,6 +65,7 @@ impl Claims {
             put_out: HashSet::new(),
             blocks: vec![None; head.term as usize],
             agreed: Vec::new(),
+            told: vec![None; head.term as usize],
             checked: 0,
         }
     }
@@ -103,7 +109,7 @@ impl Claims {
             self.lent_other(call.card);
             return;
         }
-        if !self.is_open(call.card) && !matches!(call.what, What::Open(_) | What::Digest(_)) {
+        if !self.is_open(call.card) && !matches!(call.what, What::Open(..) | What::Digest(_)) {
             self.sound &= !(1 << call.card);
             return;
         }
@@ -138,6 +144,9 @@ impl Claims {
         }
         let answer = outcome.answer();
         let block = answer.and_then(|answer| self.note(call, answer, out));
+        if let (Some(answer), None) = (answer, self.broken) {
+            self.check_leader(answer)?;
+        }
         let others = cards(self.f) - self.open.count_ones();
         if self.broken.is_some() || others > u32::from(self.f) {
             return Ok(Due::default());
@@ -196,12 +205,15 @@ impl Claims {
     /// Notes what a sound card did; the round of a block that it put out.
     fn note(&mut self, call: &Call, answer: &Answer, out: &[u8]) -> Option<u32> {
         self.answered_12 |= answer.number == 12;
-        if let (What::Open(setup), 0) = (&call.what, answer.number) {
+        if let (What::Open(setup, rotation), 0) = (&call.what, answer.number) {
             if self.is_open(call.card) {
                 self.broken = Some("a sound card was opened twice");
             }
             if usize::from(setup.own) != call.card || (setup.f, setup.term) != (self.f, self.term) {
                 self.broken = Some("a sound card was opened with other numbers");
+            }
+            if *rotation != seats(&self.rotation, self.f) {
+                self.broken = Some("a sound card was opened with another rotation");
             }
             self.open |= 1 << call.card;
         }
@@ -212,11 +224,39 @@ impl Claims {
             if frame::kind(frame) == frame::BLOCK {
                 self.blocks[round as usize - 1] = Some(Box::new(*frame));
                 block = Some(round);
-            } else if self.is_sound(usize::from(leader(round, self.f))) {
+            } else if self.is_sound(usize::from(leader(round, self.f, &self.rotation))) {
                 self.broken = Some("a sound card blamed a sound leader's round");
             }
         }
         block
+    }
+
+    /// One leader for a round, whichever sound card tells it, and another for each round less than n
+    /// away: so f + 1 rounds in a row have different leaders.
+    fn check_leader(&mut self, answer: &Answer) -> Result<(), String> {
+        if answer.leader == NOBODY {
+            return Ok(());
+        }
+        let (leader, round) = (answer.leader, answer.record.round as usize);
+        match self.told[round - 1].replace(leader) {
+            Some(before) if before == leader => return Ok(()),
+            Some(before) => {
+                return Err(format!(
+                    "claim: leaders {before} and {leader} were told of round {round}"
+                ));
+            }
+            None => {}
+        }
+        let apart = cards(self.f) as usize - 1;
+        let first = round.saturating_sub(apart).max(1);
+        let last = self.told.len().min(round + apart);
+        let same = |&other: &usize| other != round && self.told[other - 1] == Some(leader);
+        match (first..=last).find(same) {
+            None => Ok(()),
+            Some(other) => Err(format!(
+                "claim: card {leader} was told as the leader of rounds {round} and {other}"
+            )),
+        }
     }
 
     /// The first and third claim for one card.

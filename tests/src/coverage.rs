@@ -5,14 +5,16 @@ use std::collections::BTreeMap;
 use crate::call::{Call, Head, What};
 use crate::changes;
 use crate::claims::Due;
-use crate::frame::{self, Frame, SIZE};
-use crate::model::{attaching, cards, committed, shown, slots};
-use crate::model::{Answer, Fetched, Part, Record, Search, MOST_BLAMES};
+use crate::frame::{self, Frame, MOST_ENTRY, SIZE};
+use crate::model::{attaching, block_in_form, cards, committed, in_turn, is_rotation};
+use crate::model::{leader, record_holds, seats, shown, slots};
+use crate::model::{Answer, Fetched, Part, Record, Rotation, Search, Setup};
+use crate::model::{LEAST_OUT, MOST_BLAMES, MOST_CARDS, MOST_F, NOBODY};
 use crate::runner::{Outcome, Searched, Side};
 
 /// Refusals that each call can give.
 const REFUSALS: &[(&str, &[u8])] = &[
-    ("open", &[1, 4, 5]),
+    ("open", &[1, 17, 4, 5]),
     ("branch", &[2, 3, 4, 5, 6, 7, 8, 9, 10, 11, 12, 13]),
     ("blame", &[2, 3, 4, 5, 6, 7, 8, 10, 14]),
     ("blames", &[2, 3, 4, 5, 6, 7, 8, 10, 14, 16]),
@@ -21,7 +23,7 @@ const REFUSALS: &[(&str, &[u8])] = &[
     ("fetch", &[2, 4, 15]),
 ];
 
-const REFUSED: [&str; 17] = [
+const REFUSED: [&str; 18] = [
     "",
     "refused  1 set-up",
     "refused  2 record",
@@ -39,12 +41,37 @@ const REFUSED: [&str; 17] = [
     "refused 14 early",
     "refused 15 absent",
     "refused 16 no set",
+    "refused 17 rotation",
 ];
 
-/// Ways of taking, and of refusing a set of blames.
+/// Ways of taking, and of refusing a rotation, a signer and a set of blames.
 const WAYS: &[Row] = &[
+    ("open", "rotation empty"),
+    ("open", "rotation one short"),
+    ("open", "rotation one long"),
+    ("open", "rotation over 15 long"),
+    ("open", "rotation 256 longer"),
+    ("open", "rotation long, first n fine"),
+    ("open", "rotation with a card twice"),
+    ("open", "rotation with many alike"),
+    ("open", "rotation with n for a card"),
+    ("open", "rotation with 15 for a card"),
+    ("open", "rotation with 16 for a card"),
+    ("open", "rotation with 255 for a card"),
+    ("open", "rotation with a card and 16"),
+    ("open", "rotation with a card and 32"),
+    ("open", "rotation with a card and 64"),
+    ("open", "rotation with a card and 128"),
+    ("open", "rotation, and short tray"),
+    ("open", "rotation, and long entry"),
+    ("open", "rotation, short tray, long entry"),
+    ("open", "set-up, and rotation"),
     ("open", "taken, leads round 1"),
     ("open", "taken, does not lead"),
+    ("open", "taken, not the list's rotation"),
+    ("branch", "form, signer by number"),
+    ("branch", "form, later signer by number"),
+    ("branch", "taken, signer not by number"),
     ("branch", "taken onto the genesis"),
     ("branch", "taken onto a slot"),
     ("branch", "taken, one frame"),
@@ -131,10 +158,15 @@ const WAYS: &[Row] = &[
 
 /// Rows of a call that have to be reached while the claims are due, too, and their group.
 const CLAIMED: &[(&str, &str, &[&str])] = &[
+    ("open", "claims, open", &["refused 17 rotation"]),
     (
         "branch",
         "claims, branch",
         &[
+            "form, signer by number",
+            "taken, signer not by number",
+            "block put out, not by number",
+            "leader told, not by number",
             "refused  7 check",
             "refused  8 form",
             "refused  9 parted",
@@ -225,6 +257,22 @@ const COMMITS: [&str; 6] = [
 /// On a record that the call before left with a slot above its tip committed.
 const ABOVE: &str = "refused  2, committed above tip";
 
+/// On a record that is right but for its rotation, or but for leading R.
+const SEATS: [&str; 5] = [
+    "refused  2, two seats alike",
+    "refused  2, seat out of range",
+    "refused  2, byte n not zero",
+    "refused  2, byte 14 not zero",
+    "refused  2, leads, not by number",
+];
+
+/// Where the rotation is not the old turn.
+const LEADERS: [&str; 3] = [
+    "leader told, not by number",
+    "block put out, not by number",
+    "no block, though by number",
+];
+
 const TWO_BLOCKS: Row = ("claims", "cards hold two blocks of a round");
 const TWO_TIPS: Row = ("claims", "tips of two rounds at one R");
 const TWO_ENDS: Row = ("claims", "tips of two rounds at R = T + 1");
@@ -247,7 +295,16 @@ const SIZES: &[Size] = &[
         (1_001..=4_095).contains(&head.term)
     }),
     ("T = 4,096", |head| head.term == 4_096),
+    ("rotation 0, 1, 2 and so on", |head| {
+        head.rotation == in_turn(head.f)
+    }),
+    ("another rotation", |head| head.rotation != in_turn(head.f)),
 ];
+
+/// The leader of the old turn.
+fn by_number(round: u32, f: u8) -> u8 {
+    leader(round, f, &in_turn(f))
+}
 
 /// What has to be known of a card before a call to tell how the call was taken.
 pub struct Before {
@@ -287,6 +344,17 @@ impl Before {
     }
 }
 
+/// How many different numbers there are.
+fn different(numbers: &[u8]) -> usize {
+    let first = |&(index, number): &(usize, &u8)| !numbers[..index].contains(number);
+    numbers.iter().enumerate().filter(first).count()
+}
+
+/// What was reached of some rows.
+fn zip<const N: usize>(reached: [bool; N], rows: [&'static str; N]) -> [(bool, &'static str); N] {
+    std::array::from_fn(|index| (reached[index], rows[index]))
+}
+
 /// A bit for each signer of blames in form.
 fn signers(frames: &[Frame]) -> u16 {
     let bit = |frame| 1 << frame::signer(frame);
@@ -321,6 +389,8 @@ pub struct Coverage {
     due: bool,
     /// What the last call that was taken left, if that has a slot above its tip committed.
     above: Option<Record>,
+    /// The list's.
+    rotation: Rotation,
 }
 
 pub type Row = (&'static str, &'static str);
@@ -341,8 +411,12 @@ impl Coverage {
             if matches!(call, "blame" | "blames" | "tick") {
                 rows.extend(COMMITS.map(|row| (call, row)));
             }
+            if !matches!(call, "read" | "fetch") {
+                rows.extend(LEADERS.map(|row| (call, row)));
+            }
             if call != "open" {
                 rows.push((call, ABOVE));
+                rows.extend(SEATS.map(|row| (call, row)));
             }
         }
         rows.extend(WAYS.iter().filter(|row| row.0 == "digest"));
@@ -358,6 +432,7 @@ impl Coverage {
             counts: BTreeMap::new(),
             due: false,
             above: None,
+            rotation: Rotation::default(),
         }
     }
 
@@ -383,6 +458,7 @@ impl Coverage {
     /// Counts a list.
     pub fn list(&mut self, head: &Head) {
         self.above = None;
+        self.rotation = head.rotation;
         let rows: Vec<_> = SIZES.iter().map(|(row, fits)| (fits(head), *row)).collect();
         self.add_all("list", &rows);
     }
@@ -406,6 +482,9 @@ impl Coverage {
         for &(group, change) in &call.changes {
             self.add(group, change);
         }
+        if outcome.number() == Some(2) {
+            self.bad_record(call, &before.record);
+        }
         match outcome {
             Outcome::Answer(answer) if answer.number != 0 => self.refused(call, before, answer),
             Outcome::Answer(answer) => self.taken(call, before, answer),
@@ -420,11 +499,126 @@ impl Coverage {
         self.add(call.word(), REFUSED[usize::from(number)]);
     }
 
+    /// A record that a call said 2 to, where its rotation or its leading R is the only cause.
+    fn bad_record(&mut self, call: &Call, record: &Record) {
+        let lends_masks = !matches!(call.what, What::Read(_) | What::Fetch(_));
+        let masks = lends_masks.then_some(call.masks_len);
+        let holds = |rotation| {
+            let other = Record {
+                rotation,
+                ..*record
+            };
+            record_holds(&other, call.log_len, masks)
+        };
+        let f = record.f.clamp(1, MOST_F);
+        let n = cards(f) as usize;
+        let mut next = in_turn(f);
+        next[..n].rotate_left(1);
+        if !holds(in_turn(f)) && !holds(next) {
+            return;
+        }
+        let (used, past) = record.rotation.split_at(n);
+        let fine = is_rotation(used, f);
+        let in_range = used.iter().all(|&card| usize::from(card) < n);
+        let leads = fine && past.iter().all(|&byte| byte == 0);
+        let reached = [
+            !fine && in_range,
+            !fine && !in_range && different(used) == n,
+            fine && past.first().is_some_and(|&byte| byte != 0),
+            fine && past.last().is_some_and(|&byte| byte != 0),
+            leads && by_number(record.round, f) != record.own,
+        ];
+        self.add_all(call.word(), &zip(reached, SEATS));
+    }
+
     fn refused(&mut self, call: &Call, before: &Before, answer: &Answer) {
         self.refusal(call, answer.number);
-        let What::Blames(bytes) = &call.what else {
+        match &call.what {
+            What::Open(setup, rotation) => self.refused_open(call, setup, rotation, answer.number),
+            What::Branch(frames) if answer.number == 8 => {
+                self.bad_signer(slots(frames), before, answer.place as usize);
+            }
+            What::Blames(bytes) => self.refused_set(bytes, before, answer),
+            _ => {}
+        }
+    }
+
+    /// An open with a rotation that is none.
+    fn refused_open(&mut self, call: &Call, setup: &Setup, rotation: &[u8], number: u8) {
+        let known_n = (1..=MOST_F).contains(&setup.f);
+        if !known_n || is_rotation(rotation, setup.f) {
             return;
-        };
+        }
+        if number == 1 {
+            self.add("open", "set-up, and rotation");
+            return;
+        }
+        let n = cards(setup.f) as usize;
+        let (short, long) = (call.out_len < LEAST_OUT, call.entry.len() > MOST_ENTRY);
+        let first_fine = rotation.len() > n && is_rotation(&rotation[..n], setup.f);
+        self.add_all(
+            "open",
+            &[
+                (rotation.is_empty(), "rotation empty"),
+                (rotation.len() == n - 1, "rotation one short"),
+                (rotation.len() == n + 1, "rotation one long"),
+                (rotation.len() > MOST_CARDS, "rotation over 15 long"),
+                (rotation.len() == n + 256, "rotation 256 longer"),
+                (first_fine, "rotation long, first n fine"),
+                (short && !long, "rotation, and short tray"),
+                (!short && long, "rotation, and long entry"),
+                (short && long, "rotation, short tray, long entry"),
+            ],
+        );
+        if rotation.len() == n {
+            self.bad_seats(rotation, n);
+        }
+    }
+
+    /// n seats that are no rotation.
+    fn bad_seats(&mut self, seats: &[u8], n: usize) {
+        let mut alien = seats.iter().filter(|&&card| usize::from(card) >= n);
+        let missing = (0..n as u8).find(|card| !seats.contains(card)).unwrap_or(0);
+        let (first, others) = (alien.next().copied(), alien.count());
+        // The one number that is no card's, all others being cards with a seat each.
+        let lone = first.filter(|_| others == 0 && different(seats) == n);
+        let is = |number: usize| lone.is_some_and(|lone| usize::from(lone) == number);
+        let missing = usize::from(missing);
+        self.add_all(
+            "open",
+            &[
+                (
+                    first.is_none() && different(seats) == n - 1,
+                    "rotation with a card twice",
+                ),
+                (different(seats) < n - 1, "rotation with many alike"),
+                (is(n), "rotation with n for a card"),
+                (is(15), "rotation with 15 for a card"),
+                (is(16), "rotation with 16 for a card"),
+                (is(255), "rotation with 255 for a card"),
+                (is(missing | 16), "rotation with a card and 16"),
+                (is(missing | 32), "rotation with a card and 32"),
+                (is(missing | 64), "rotation with a card and 64"),
+                (is(missing | 128), "rotation with a card and 128"),
+            ],
+        );
+    }
+
+    /// A block that is in form but for its signer, who leads its round in the old turn.
+    fn bad_signer(&mut self, frames: &[Frame], before: &Before, place: usize) {
+        let (record, mut frame) = (&before.record, frames[place]);
+        let (signer, round) = (frame::signer(&frame), frame::round(&frame));
+        if round == 0 || signer != by_number(round, record.f) {
+            return;
+        }
+        frame[1] = leader(round, record.f, &record.rotation);
+        if block_in_form(record, &frame) {
+            self.add("branch", "form, signer by number");
+            self.add_all("branch", &[(place > 0, "form, later signer by number")]);
+        }
+    }
+
+    fn refused_set(&mut self, bytes: &[u8], before: &Before, answer: &Answer) {
         let frames = slots(bytes);
         match answer.number {
             6 => self.cut_set(bytes.len()),
@@ -526,14 +720,42 @@ impl Coverage {
         if matches!(call.what, What::Blame(_) | What::Blames(_) | What::Tick) {
             self.commits(call.word(), before, record);
         }
+        self.leaders(call, before, answer);
         match &call.what {
-            What::Open(_) if answer.frames == 1 => self.add("open", "taken, leads round 1"),
-            What::Open(_) => self.add("open", "taken, does not lead"),
+            What::Open(_, rotation) => self.open(rotation, answer),
             What::Branch(frames) => self.branch(slots(frames), before, answer),
             What::Blame(frame) => self.blames("blame", slots(frame), before, answer),
             What::Blames(frames) => self.set(slots(frames), before, answer),
             _ => self.tick(before, answer),
         }
+    }
+
+    fn open(&mut self, rotation: &[u8], answer: &Answer) {
+        let leads = answer.frames == 1;
+        let other = rotation != seats(&self.rotation, answer.record.f);
+        self.add_all(
+            "open",
+            &[
+                (leads, "taken, leads round 1"),
+                (!leads, "taken, does not lead"),
+                (other, "taken, not the list's rotation"),
+            ],
+        );
+    }
+
+    /// Who leads the round before R, if it was entered in this call, and R.
+    fn leaders(&mut self, call: &Call, before: &Before, answer: &Answer) {
+        let Record { own, f, round, .. } = answer.record;
+        let entered = matches!(call.what, What::Open(..)) || round > before.record.round;
+        let blames = u8::from(matches!(call.what, What::Tick));
+        let put_out = entered && answer.frames > blames;
+        let told = answer.leader != NOBODY;
+        let reached = [
+            told && answer.leader != by_number(round, f),
+            put_out && by_number(round - 1, f) != own,
+            entered && !put_out && told && by_number(round, f) == own,
+        ];
+        self.add_all(call.word(), &zip(reached, LEADERS));
     }
 
     /// What a blame, a set of blames or a tick did to the committed round.
@@ -549,11 +771,7 @@ impl Coverage {
             after.committed_round < record.committed_round,
             after.round == record.round && before.another_due,
         ];
-        for (row, reached) in COMMITS.iter().zip(reached) {
-            if reached {
-                self.add(call, row);
-            }
-        }
+        self.add_all(call, &zip(reached, COMMITS));
     }
 
     fn branch(&mut self, frames: &[Frame], before: &Before, answer: &Answer) {
@@ -564,9 +782,11 @@ impl Coverage {
             frame::round(&frames[frames.len() - 1]),
         );
         let gap = |pair: &[Frame]| frame::round(&pair[1]) > frame::round(&pair[0]) + 1;
+        let seated = |frame| frame::signer(frame) != by_number(frame::round(frame), record.f);
         self.add_all(
             "branch",
             &[
+                (frames.iter().any(seated), "taken, signer not by number"),
                 (attach == 0, "taken onto the genesis"),
                 (attach > 0, "taken onto a slot"),
                 (frames.len() == 1, "taken, one frame"),

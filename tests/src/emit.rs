@@ -8,7 +8,8 @@
 //! buffer of 6,144 bytes. LOG, MASKS and OUT say how many of them, from the start, a call is lent.
 //! An entry has at most 512 bytes, the frames of a call at most 8,192, other bytes at most 512.
 //! RECORD is ten numbers: own number, f, wait, T, R, ticks left, tip round, tip height, committed
-//! round, committed height.
+//! round, committed height; and then the rotation, 15 bytes. ROTATION has any number of bytes up to
+//! 512.
 //!
 //! ```text
 //!     n                                  a new list: all records, logs and masks become zero
@@ -16,22 +17,23 @@
 //!     s CARD ROUND BYTES                 512 bytes for a slot of the card's log
 //!     m CARD ROUND NUMBER                a mask of the card
 //!     g RECORD                           the next call gets this record instead of the card's
-//!     o CARD OWN F WAIT T LOG MASKS OUT ENTRY    open
-//!     b CARD LOG MASKS OUT ENTRY FRAMES          branch
-//!     v CARD LOG MASKS OUT ENTRY FRAME           blame
-//!     a CARD LOG MASKS OUT ENTRY FRAMES          blames
-//!     t CARD LOG MASKS OUT ENTRY                 tick
-//!     q CARD LOG HEIGHT                          read
-//!     f CARD LOG OUT HEIGHT                      fetch, as many frames as fit
-//!     h BYTES                                    digest
+//!     o CARD OWN F WAIT T ROTATION LOG MASKS OUT ENTRY    open
+//!     b CARD LOG MASKS OUT ENTRY FRAMES                   branch
+//!     v CARD LOG MASKS OUT ENTRY FRAME                    blame
+//!     a CARD LOG MASKS OUT ENTRY FRAMES                   blames
+//!     t CARD LOG MASKS OUT ENTRY                          tick
+//!     q CARD LOG HEIGHT                                   read
+//!     f CARD LOG OUT HEIGHT                               fetch, as many frames as fit
+//!     h BYTES                                             digest
 //! ```
 //!
 //! Before each call the lent part of the out buffer is filled with bytes of 165. If open, branch,
 //! blame, blames or tick is taken, the record of its answer becomes the card's; else the card keeps
 //! its own.
 //!
-//! The output has a line for each call, from `o` to `h`. DIGEST is in lower-case hex; it is that of
-//! the lent log, then the lent masks with two bytes each, the higher first, then the lent out buffer.
+//! The output has a line for each call, from `o` to `h`. The rotation of its RECORD is 30 lower-case
+//! hex digits. DIGEST is in lower-case hex too; it is that of the lent log, then the lent masks with
+//! two bytes each, the higher first, then the lent out buffer.
 //!
 //! ```text
 //!     o b v a t  NUMBER PLACE FRAMES LEADER RECORD DIGEST
@@ -162,7 +164,7 @@ impl Emitted {
     }
 
     fn state(&mut self, card: usize, state: &State) {
-        self.line('w', &[card.to_string(), record(&state.record)]);
+        self.line('w', &[card.to_string(), given(&state.record)]);
         for (slot, round) in slots(&state.log).iter().zip(1..) {
             if *slot != [0; SIZE] {
                 self.line('s', &[card.to_string(), round.to_string(), bytes(slot)]);
@@ -180,16 +182,16 @@ impl Emitted {
 
     fn call(&mut self, call: &Call) {
         check_sizes(call);
-        if let (Some(given), false) = (&call.record, matches!(call.what, What::Digest(_))) {
-            self.line('g', &[record(given)]);
+        if let (Some(record), false) = (&call.record, matches!(call.what, What::Digest(_))) {
+            self.line('g', &[given(record)]);
         }
         let card = call.card.to_string();
         let (log, out) = (call.log_len.to_string(), call.out_len.to_string());
         let lent = format!("{log} {} {out} {}", call.masks_len, bytes(&call.entry));
         match &call.what {
-            What::Open(s) => {
+            What::Open(s, rotation) => {
                 let setup = format!("{} {} {} {}", s.own, s.f, s.wait, s.term);
-                self.line('o', &[card, setup, lent]);
+                self.line('o', &[card, setup, bytes(rotation), lent]);
             }
             What::Branch(frames) => self.line('b', &[card, lent, bytes(frames)]),
             What::Blame(frame) => self.line('v', &[card, lent, bytes(frame)]),
@@ -219,9 +221,9 @@ impl Emitted {
         let digest = hex(&sha256::digest(&lent));
         self.output += &match (outcome, &call.what) {
             (Outcome::Answer(a), _) => {
-                let record = record(&a.record);
+                let (record, rotation) = (numbers(&a.record), hex(&a.record.rotation));
                 let (number, place, frames, leader) = (a.number, a.place, a.frames, a.leader);
-                format!("{number} {place} {frames} {leader} {record} {digest}\n")
+                format!("{number} {place} {frames} {leader} {record} {rotation} {digest}\n")
             }
             (Outcome::Part(p), _) => format!("{} {} {} {digest}\n", p.number, p.start, p.length),
             (Outcome::Fetched(f, _), _) => format!("{} {} {digest}\n", f.number, f.count),
@@ -235,12 +237,18 @@ impl Emitted {
 fn check_sizes(call: &Call) {
     assert!(call.log_len <= LOG && call.masks_len <= MASKS && call.out_len <= OUT);
     assert!(call.entry.len() <= BYTES && call.handed().len() <= FRAMES);
-    if let What::Digest(of) = &call.what {
-        assert!(of.len() <= BYTES);
+    if let What::Digest(bytes) | What::Open(_, bytes) = &call.what {
+        assert!(bytes.len() <= BYTES);
     }
 }
 
-fn record(r: &Record) -> String {
+/// A record for the program to read.
+fn given(record: &Record) -> String {
+    format!("{} {}", numbers(record), bytes(&record.rotation))
+}
+
+/// A record's numbers.
+fn numbers(r: &Record) -> String {
     let mut words = format!("{} {} {} {}", r.own, r.f, r.wait, r.term);
     for number in [
         r.round,

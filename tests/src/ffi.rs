@@ -1,7 +1,7 @@
 //! The C interface of the library: its structs and functions, and the archives behind `Library`. The
 //! search has an archive of its own, which no host links.
 
-use crate::model::Record;
+use crate::model::{Record, Rotation};
 #[cfg(apollo_lib)]
 use crate::{
     library::Library,
@@ -39,6 +39,7 @@ pub struct ApolloReplica {
     pub tip_height: ApolloHeight,
     pub committed_round: ApolloRound,
     pub committed_height: ApolloHeight,
+    pub rotation: Rotation,
 }
 
 #[repr(C)]
@@ -79,6 +80,8 @@ extern "C" {
         f: u8,
         timeout: ApolloTicks,
         last_round: ApolloRound,
+        rotation: *const u8,
+        rotation_len: usize,
         log: *mut u8,
         log_len: usize,
         masks: *mut u16,
@@ -180,6 +183,7 @@ impl From<Record> for ApolloReplica {
             tip_height: height(record.tip_height),
             committed_round: round(record.committed_round),
             committed_height: height(record.committed_height),
+            rotation: record.rotation,
         }
     }
 }
@@ -197,6 +201,7 @@ impl From<ApolloReplica> for Record {
             tip_height: replica.tip_height.value,
             committed_round: replica.committed_round.value,
             committed_height: replica.committed_height.value,
+            rotation: replica.rotation,
         }
     }
 }
@@ -258,13 +263,15 @@ fn hand_in(call: HandIn, record: Record, frames: &[u8], lent: Lent) -> Answer {
 
 #[cfg(apollo_lib)]
 impl Library for Archive {
-    fn open(&self, setup: Setup, lent: Lent) -> Answer {
+    fn open(&self, setup: Setup, rotation: &[u8], lent: Lent) -> Answer {
         let answer = unsafe {
             apollo_open(
                 setup.own,
                 setup.f,
                 ApolloTicks { value: setup.wait },
                 ApolloRound { value: setup.term },
+                rotation.as_ptr(),
+                rotation.len(),
                 lent.log.as_mut_ptr(),
                 lent.log.len(),
                 lent.masks.as_mut_ptr(),
@@ -359,11 +366,12 @@ mod tests {
         assert_eq!(size_of::<ApolloRound>(), 4);
         assert_eq!(size_of::<ApolloHeight>(), 4);
         assert_eq!(size_of::<ApolloTicks>(), 4);
-        assert_eq!(size_of::<ApolloReplica>(), 36);
+        assert_eq!(size_of::<ApolloReplica>(), 52);
         assert_eq!(offset_of!(ApolloReplica, timeout), 4);
         assert_eq!(offset_of!(ApolloReplica, round), 12);
         assert_eq!(offset_of!(ApolloReplica, committed_height), 32);
-        assert_eq!(size_of::<ApolloAnswer>(), 44);
+        assert_eq!(offset_of!(ApolloReplica, rotation), 36);
+        assert_eq!(size_of::<ApolloAnswer>(), 60);
         assert_eq!(offset_of!(ApolloAnswer, place), 4);
         assert_eq!(offset_of!(ApolloAnswer, replica), 8);
         assert_eq!(size_of::<ApolloPart>(), 24);
@@ -387,6 +395,7 @@ mod tests {
             tip_height: 8,
             committed_round: 9,
             committed_height: 10,
+            rotation: std::array::from_fn(|seat| 11 + seat as u8),
         };
         assert_eq!(Record::from(ApolloReplica::from(record)), record);
     }

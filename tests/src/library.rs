@@ -4,7 +4,7 @@ use crate::model::{self, Answer, Fetched, Lent, Part, Record, Search, Setup};
 use crate::sha256;
 
 pub trait Library {
-    fn open(&self, setup: Setup, lent: Lent) -> Answer;
+    fn open(&self, setup: Setup, rotation: &[u8], lent: Lent) -> Answer;
     fn branch(&self, record: Record, frames: &[u8], lent: Lent) -> Answer;
     fn blame(&self, record: Record, frame: &[u8], lent: Lent) -> Answer;
     fn blames(&self, record: Record, frames: &[u8], lent: Lent) -> Answer;
@@ -20,8 +20,8 @@ pub trait Library {
 pub struct Model;
 
 impl Library for Model {
-    fn open(&self, setup: Setup, lent: Lent) -> Answer {
-        model::open(setup, lent)
+    fn open(&self, setup: Setup, rotation: &[u8], lent: Lent) -> Answer {
+        model::open(setup, rotation, lent)
     }
 
     fn branch(&self, record: Record, frames: &[u8], lent: Lent) -> Answer {

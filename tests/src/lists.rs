@@ -2,7 +2,7 @@
 
 use crate::cabinet::Cabinet;
 use crate::call::{Call, Head, Step};
-use crate::model::cards;
+use crate::model::{cards, in_turn, Rotation};
 use crate::rng::Rng;
 use crate::runner::{Outcome, Side};
 use crate::wild::Wild;
@@ -27,9 +27,17 @@ impl Maker {
         let mut rng = Rng::new(seed.wrapping_mul(0xd134_2543_de82_ef95) ^ 0x5bf0_3635);
         let f = choose_f(&mut rng, sizes);
         let term = choose_term(&mut rng, sizes);
+        let rotation = choose_rotation(&mut rng, f);
         let kind = rng.below(if term > 1_024 { 50 } else { 100 });
         if kind < 25 {
-            return Maker::wild(rng, f, term, sizes);
+            let head = Head {
+                f,
+                term,
+                cards: 1,
+                sound: 0,
+                rotation,
+            };
+            return Maker::wild(rng, head, sizes);
         }
         let strict = kind < 72;
         let n = cards(f) as usize;
@@ -40,6 +48,7 @@ impl Maker {
             term,
             cards: n,
             sound,
+            rotation,
         };
         let most = match (sizes, term) {
             (Sizes::Small, _) => 220,
@@ -51,14 +60,8 @@ impl Maker {
         Maker::Cabinet(Box::new(cabinet), strict)
     }
 
-    fn wild(rng: Rng, f: u8, term: u32, sizes: Sizes) -> Maker {
-        let head = Head {
-            f,
-            term,
-            cards: 1,
-            sound: 0,
-        };
-        let steps = match (sizes, term) {
+    fn wild(rng: Rng, head: Head, sizes: Sizes) -> Maker {
+        let steps = match (sizes, head.term) {
             (Sizes::Small, _) => 60,
             (_, 257..) => 150,
             _ => 400,
@@ -115,6 +118,15 @@ fn choose_term(rng: &mut Rng, sizes: Sizes) -> u32 {
         994..=996 => rng.within(1_025, 4_095),
         _ => 4_096,
     }
+}
+
+/// The old turn or any other.
+fn choose_rotation(rng: &mut Rng, f: u8) -> Rotation {
+    let mut rotation = in_turn(f);
+    if rng.chance(85) {
+        rng.shuffle(&mut rotation[..cards(f) as usize]);
+    }
+    rotation
 }
 
 /// The sound cards and the cards whose frames are made up.

@@ -14,6 +14,11 @@ pub const MOST_WAIT: u32 = 60_000;
 pub const MOST_TERM: u32 = 4_096;
 /// The largest set of blames, for any number of cards.
 pub const MOST_BLAMES: usize = 15;
+/// n for the largest f.
+pub const MOST_CARDS: usize = 15;
+
+/// The card on each seat, zero past n.
+pub type Rotation = [u8; MOST_CARDS];
 
 /// What the host keeps for a card between calls, beside its book and masks.
 #[derive(Clone, Copy, Debug, Default, PartialEq, Eq)]
@@ -32,6 +37,7 @@ pub struct Record {
     pub tip_height: u32,
     pub committed_round: u32,
     pub committed_height: u32,
+    pub rotation: Rotation,
 }
 
 /// The numbers that open is handed.
@@ -107,9 +113,31 @@ pub fn cards(f: u8) -> u32 {
     2 * u32::from(f) + 1
 }
 
-/// The leader of a round from 1 on.
-pub fn leader(round: u32, f: u8) -> u8 {
-    ((round - 1) % cards(f)) as u8
+/// The leader of a round from 1 on: the card on seat (round - 1) mod n.
+pub fn leader(round: u32, f: u8, rotation: &Rotation) -> u8 {
+    rotation[((round - 1) % cards(f)) as usize]
+}
+
+/// The old turn: 0, 1, 2 and so on.
+pub fn in_turn(f: u8) -> Rotation {
+    let mut rotation = Rotation::default();
+    for (seat, card) in rotation.iter_mut().zip(0..cards(f) as u8) {
+        *seat = card;
+    }
+    rotation
+}
+
+/// The seats in use: n of them.
+pub fn seats(rotation: &Rotation, f: u8) -> &[u8] {
+    &rotation[..cards(f) as usize]
+}
+
+/// Whether each card below n has a seat and there are n seats, so that no card has two.
+pub fn is_rotation(seats: &[u8], f: u8) -> bool {
+    let n = cards(f);
+    let bit = |&card: &u8| 1u32.checked_shl(card.into()).unwrap_or(0);
+    let all_seated = || seats.iter().map(bit).fold(0, |cards, card| cards | card) == (1 << n) - 1;
+    seats.len() == n as usize && all_seated()
 }
 
 /// Whether a mask shows its round; bits from n on do not count.
@@ -185,11 +213,11 @@ fn all_zero(bytes: &[u8]) -> bool {
 }
 
 /// Opens a card on a book and masks that it wipes.
-pub fn open(setup: Setup, lent: Lent) -> Answer {
-    if let Err(refusal) = judge_open(&setup, &lent) {
+pub fn open(setup: Setup, rotation: &[u8], lent: Lent) -> Answer {
+    if let Err(refusal) = judge_open(&setup, rotation, &lent) {
         return refused(Record::default(), refusal);
     }
-    let record = Record {
+    let mut record = Record {
         own: setup.own,
         f: setup.f,
         wait: setup.wait,
@@ -198,6 +226,7 @@ pub fn open(setup: Setup, lent: Lent) -> Answer {
         left: setup.wait,
         ..Record::default()
     };
+    record.rotation[..rotation.len()].copy_from_slice(rotation);
     let mut card = Card::new(record, lent);
     card.lent.log.fill(0);
     card.lent.masks.fill(0);
@@ -339,7 +368,7 @@ fn setup_holds(setup: &Setup, log: usize, masks: Option<usize>) -> bool {
 }
 
 /// The ranges of all fields of a record, and that the card does not lead the round it waits for.
-fn record_holds(record: &Record, log: usize, masks: Option<usize>) -> bool {
+pub fn record_holds(record: &Record, log: usize, masks: Option<usize>) -> bool {
     let setup = Setup {
         own: record.own,
         f: record.f,
@@ -354,12 +383,19 @@ fn record_holds(record: &Record, log: usize, masks: Option<usize>) -> bool {
         && record.committed_height <= record.committed_round
         && record.committed_round <= record.tip_round
         && record.committed_height <= record.tip_height
+        && rotation_holds(record)
         && !leads(record)
+}
+
+fn rotation_holds(record: &Record) -> bool {
+    let (seats, past) = record.rotation.split_at(cards(record.f) as usize);
+    is_rotation(seats, record.f) && all_zero(past)
 }
 
 /// Whether the card leads R, inside the term.
 fn leads(record: &Record) -> bool {
-    record.round <= record.term && leader(record.round, record.f) == record.own
+    record.round <= record.term
+        && leader(record.round, record.f, &record.rotation) == record.own
 }
 
 /// 4 and 5.
@@ -373,9 +409,12 @@ fn judge_tray(lent: &Lent) -> Result<(), Refusal> {
     Ok(())
 }
 
-fn judge_open(setup: &Setup, lent: &Lent) -> Result<(), Refusal> {
+fn judge_open(setup: &Setup, rotation: &[u8], lent: &Lent) -> Result<(), Refusal> {
     if !setup_holds(setup, lent.log.len(), Some(lent.masks.len())) {
         return refuse(1);
+    }
+    if !is_rotation(rotation, setup.f) {
+        return refuse(17);
     }
     judge_tray(lent)
 }
@@ -447,14 +486,15 @@ fn judge_frames(record: &Record, frames: &[Frame]) -> Result<(), Refusal> {
     Ok(())
 }
 
-fn block_in_form(record: &Record, block: &Frame) -> bool {
+/// Whether a frame with a right check is not 8 in a branch.
+pub fn block_in_form(record: &Record, block: &Frame) -> bool {
     let round = frame::round(block);
     let length = frame::length(block);
     frame::kind(block) == frame::BLOCK
         && length <= MOST_ENTRY
         && (1..=record.term).contains(&round)
         && (1..=round).contains(&frame::height(block))
-        && frame::signer(block) == leader(round, record.f)
+        && frame::signer(block) == leader(round, record.f, &record.rotation)
         && all_zero(&block[ENTRY_AT + length..frame::CHECK_AT])
 }
 
@@ -580,7 +620,7 @@ impl<'a> Card<'a> {
     fn taken(self) -> Answer {
         let record = self.record;
         let leader = if record.round <= record.term {
-            leader(record.round, record.f)
+            leader(record.round, record.f, &record.rotation)
         } else {
             NOBODY
         };

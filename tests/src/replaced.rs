@@ -6,7 +6,7 @@ use crate::sha256;
 
 /// A call of the machine.
 pub enum Ask<'a> {
-    Open(Setup),
+    Open(Setup, &'a [u8]),
     Branch(Record, &'a [u8]),
     Blame(Record, &'a [u8]),
     Blames(Record, &'a [u8]),
@@ -16,7 +16,7 @@ pub enum Ask<'a> {
 impl Ask<'_> {
     pub fn record(&self) -> Record {
         match *self {
-            Ask::Open(_) => Record::default(),
+            Ask::Open(..) => Record::default(),
             Ask::Branch(record, _) | Ask::Blame(record, _) => record,
             Ask::Blames(record, _) | Ask::Tick(record) => record,
         }
@@ -68,8 +68,8 @@ impl Replaced {
 }
 
 impl Library for Replaced {
-    fn open(&self, setup: Setup, lent: Lent) -> Answer {
-        (self.machine)(&Ask::Open(setup), lent)
+    fn open(&self, setup: Setup, rotation: &[u8], lent: Lent) -> Answer {
+        (self.machine)(&Ask::Open(setup, rotation), lent)
     }
 
     fn branch(&self, record: Record, frames: &[u8], lent: Lent) -> Answer {
@@ -108,7 +108,7 @@ impl Library for Replaced {
 /// The model's own answer.
 pub fn honest(ask: &Ask, lent: Lent) -> Answer {
     match *ask {
-        Ask::Open(setup) => model::open(setup, lent),
+        Ask::Open(setup, rotation) => model::open(setup, rotation, lent),
         Ask::Branch(record, frames) => model::branch(record, frames, lent),
         Ask::Blame(record, frame) => model::blame(record, frame, lent),
         Ask::Blames(record, frames) => model::blames(record, frames, lent),

@@ -37,7 +37,7 @@ impl Rules {
     ) -> Result<(), String> {
         let taken = outcome.answer().is_some_and(|answer| answer.number == 0);
         match &call.what {
-            What::Open(setup) if taken => {
+            What::Open(setup, _) if taken => {
                 self.lists[call.card] = (setup.term == self.term).then(Vec::new);
             }
             _ if taken && call.record.is_some() => self.written(call.card),

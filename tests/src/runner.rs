@@ -168,7 +168,7 @@ pub struct Runner<'l> {
     model_out: Buffer<u8>,
     /// The library's copies of what it may only read.
     entry: Vec<u8>,
-    handed: Vec<u8>,
+    given: Vec<u8>,
     /// Fills the out buffers before a call, and what is added to it each time.
     fill: u8,
     stride: u8,
@@ -195,7 +195,7 @@ impl<'l> Runner<'l> {
             tried_out: out(),
             model_out: out(),
             entry: Vec::new(),
-            handed: Vec::new(),
+            given: Vec::new(),
             fill: 0,
             stride: 37,
             term: head.term,
@@ -263,8 +263,8 @@ impl<'l> Runner<'l> {
         self.model_out.lent(call.out_len).fill(self.fill);
         self.entry.clear();
         self.entry.extend_from_slice(&call.entry);
-        self.handed.clear();
-        self.handed.extend_from_slice(call.handed());
+        self.given.clear();
+        self.given.extend_from_slice(call.given());
     }
 
     /// Open, branch, blame, blames or tick.
@@ -273,14 +273,14 @@ impl<'l> Runner<'l> {
         let tried = &mut self.tried[call.card];
         let record = call.record.unwrap_or(tried.record);
         let lent = lend(tried, call, &self.entry, &mut self.tried_out);
-        let answer = ask(self.library, call, record, &self.handed, lent);
+        let answer = ask(self.library, call, record, &self.given, lent);
         if let Some(alone) = alone {
             alone.same_as(&answer, tried, &self.tried_out)?;
         }
         let model = &mut self.model[call.card];
         let record = call.record.unwrap_or(model.record);
         let lent = lend(model, call, &call.entry, &mut self.model_out);
-        let expected = ask(self.reference, call, record, call.handed(), lent);
+        let expected = ask(self.reference, call, record, call.given(), lent);
         same("answer", answer, expected)?;
         if answer.number == 0 {
             tried.record = answer.record;
@@ -297,7 +297,7 @@ impl<'l> Runner<'l> {
         let (mut side, mut out) = (self.tried[call.card].clone(), self.tried_out.clone());
         let record = call.record.unwrap_or(side.record);
         let lent = lend(&mut side, call, &self.entry, &mut out);
-        let answer = self.library.blame(record, &self.handed, lent);
+        let answer = self.library.blame(record, &self.given, lent);
         Some(Alone { answer, side, out })
     }
 
@@ -383,8 +383,8 @@ impl<'l> Runner<'l> {
         if self.entry != call.entry {
             return Err("the lent entry was changed".into());
         }
-        if self.handed != call.handed() {
-            return Err("the handed frames were changed".into());
+        if self.given != call.given() {
+            return Err("the handed frames, or the lent rotation, were changed".into());
         }
         Ok(())
     }
@@ -408,12 +408,12 @@ fn lend<'a>(side: &'a mut Side, call: &Call, entry: &'a [u8], out: &'a mut Buffe
     }
 }
 
-fn ask(library: &dyn Library, call: &Call, record: Record, handed: &[u8], lent: Lent) -> Answer {
+fn ask(library: &dyn Library, call: &Call, record: Record, given: &[u8], lent: Lent) -> Answer {
     match &call.what {
-        What::Open(setup) => library.open(*setup, lent),
-        What::Branch(_) => library.branch(record, handed, lent),
-        What::Blame(_) => library.blame(record, handed, lent),
-        What::Blames(_) => library.blames(record, handed, lent),
+        What::Open(setup, _) => library.open(*setup, given, lent),
+        What::Branch(_) => library.branch(record, given, lent),
+        What::Blame(_) => library.blame(record, given, lent),
+        What::Blames(_) => library.blames(record, given, lent),
         _ => library.tick(record, lent),
     }
 }

@@ -4,7 +4,7 @@ use std::fmt;
 
 use crate::call::{Call, List, State, Step, What};
 use crate::frame::{self, Frame, CHECK_AT, SIZE};
-use crate::model::{slots, Record};
+use crate::model::{slots, Record, Setup};
 
 impl fmt::Display for List {
     fn fmt(&self, f: &mut fmt::Formatter) -> fmt::Result {
@@ -13,8 +13,9 @@ impl fmt::Display for List {
         let (last, cards) = (head.term, head.cards);
         writeln!(
             f,
-            "f = {}, T = {last}, books for {cards}, meant to be sound: {sound:?}",
-            head.f
+            "f = {}, T = {last}, rotation {:?}, books for {cards}, meant to be sound: {sound:?}",
+            head.f,
+            head.seats()
         )?;
         for (index, step) in self.steps.iter().enumerate() {
             writeln!(f, "{:>4}. {step}", index + 1)?;
@@ -54,11 +55,11 @@ impl fmt::Display for Call {
         }
         write!(f, "card {}: {}", self.card, self.word())?;
         match &self.what {
-            What::Open(setup) => write!(
-                f,
-                " own {} f {} wait {} T {}",
-                setup.own, setup.f, setup.wait, setup.term
-            )?,
+            What::Open(setup, rotation) => {
+                let Setup { own, f: most, wait, term } = setup;
+                write!(f, " own {own} f {most} wait {wait} T {term}")?;
+                write!(f, " rotation [{}]", hex(rotation))?;
+            }
             What::Read(height) => return write!(f, " height {height}, log {}", self.log_len),
             What::Fetch(height) => write!(f, " above height {height}")?,
             _ => {}
@@ -96,7 +97,8 @@ impl fmt::Display for Fields<'_> {
         )?;
         write!(f, " R {} left {}", r.round, r.left)?;
         write!(f, " tip {}/{}", r.tip_round, r.tip_height)?;
-        write!(f, " committed {}/{}", r.committed_round, r.committed_height)
+        write!(f, " committed {}/{}", r.committed_round, r.committed_height)?;
+        write!(f, " rotation [{}]", hex(&r.rotation))
     }
 }
 

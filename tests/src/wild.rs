@@ -1,9 +1,10 @@
 //! Records, books and masks that no call made, and calls on them.
 
 use crate::call::{Call, Head, State, Step, What};
-use crate::changes::{change, edge, Hand};
-use crate::frame::{self, Frame, Name, GENESIS, SIZE};
-use crate::model::{cards, leader, slots, Record, Setup, LEAST_OUT, MOST_TERM};
+use crate::changes::{change, edge, rotation, Hand};
+use crate::frame::{self, Frame, Name, GENESIS, MOST_ENTRY, SIZE};
+use crate::model::{cards, in_turn, leader, seats, slots};
+use crate::model::{Record, Rotation, Setup, LEAST_OUT, MOST_TERM};
 use crate::rng::Rng;
 use crate::runner::Side;
 
@@ -13,12 +14,15 @@ pub struct Wild {
     steps: usize,
     /// Calls until the next state.
     calls: usize,
+    /// Who signs the blocks that are made.
+    signers: Rotation,
 }
 
 impl Wild {
     pub fn new(rng: Rng, head: Head, steps: usize) -> Wild {
         Wild {
             rng,
+            signers: head.rotation,
             head,
             steps,
             calls: 0,
@@ -80,7 +84,7 @@ impl Wild {
             return;
         }
         if round < term && self.rng.chance(60) {
-            record.own = leader(round + 1, f);
+            record.own = leader(round + 1, f, &record.rotation);
         }
         record.left = 1;
         let mut mask = 0u16;
@@ -105,6 +109,7 @@ impl Wild {
 
     fn book(&mut self, tidy: bool) -> Vec<u8> {
         let mut book: Vec<Frame> = Vec::with_capacity(self.head.term as usize);
+        self.signers = self.head.rotation;
         let gaps = self.rng.pick(&[0, 10, 40, 90]);
         let mut top: Option<usize> = None;
         for round in 1..=self.head.term {
@@ -147,7 +152,7 @@ impl Wild {
     fn block(&mut self, parent: &Name, round: u32, height: u32) -> Frame {
         let length = self.rng.pick(&[0, 0, 2, 5, 399, 400]);
         let entry = self.rng.bytes(length);
-        let signer = leader(round.max(1), self.head.f);
+        let signer = leader(round.max(1), self.head.f, &self.signers);
         frame::block(signer, round, height, parent, &entry)
     }
 
@@ -188,7 +193,8 @@ impl Wild {
             1 => 1,
             _ => self.rng.within(1, term + 1),
         };
-        let lead = leader(round, f);
+        let rotation = self.rotation(10);
+        let lead = leader(round, f, &rotation);
         let mut own = self.rng.within(0, cards(f) - 1) as u8;
         if own == lead && round <= term {
             own = ((u32::from(own) + 1) % cards(f)) as u8;
@@ -216,7 +222,17 @@ impl Wild {
             tip_height,
             committed_round,
             committed_height: self.height_at(log, committed_round, most),
+            rotation,
         }
+    }
+
+    /// The list's rotation, or in so many of a hundred cases another.
+    fn rotation(&mut self, percent: usize) -> Rotation {
+        let (n, mut rotation) = (cards(self.head.f) as usize, self.head.rotation);
+        if self.rng.chance(percent) {
+            self.rng.shuffle(&mut rotation[..n]);
+        }
+        rotation
     }
 
     /// Mostly the highest filled round up to a limit, else any round up to it.
@@ -246,7 +262,7 @@ impl Wild {
             65..=77 => What::Tick,
             78..=87 => What::Read(self.height(side)),
             88..=96 => What::Fetch(self.height(side)),
-            _ => self.open(),
+            _ => return self.open(side),
         };
         let mut call = Call::new(&self.head, 0, what);
         let length = self.rng.pick(&[0, 0, 1, 4, 400]);
@@ -258,13 +274,28 @@ impl Wild {
         call
     }
 
-    fn open(&mut self) -> What {
-        What::Open(Setup {
+    /// An open, at times with a rotation that is none, and then at times with other faults.
+    fn open(&mut self, side: &Side) -> Call {
+        let setup = Setup {
             own: self.rng.within(0, cards(self.head.f) - 1) as u8,
             f: self.head.f,
             wait: self.rng.pick(&[1, 2, 60_000]),
             term: self.head.term,
-        })
+        };
+        let seats = seats(&self.rotation(40), self.head.f).to_vec();
+        let mut call = Call::new(&self.head, 0, What::Open(setup, seats));
+        let length = self.rng.pick(&[0, 0, 1, 4, 400]);
+        call.entry = self.rng.bytes(length);
+        if self.rng.chance(30) {
+            rotation(&mut self.hand(side.record), &mut call);
+            if self.rng.chance(20) {
+                call.out_len = self.rng.pick(&[0, 512, LEAST_OUT - 1]);
+            }
+            if self.rng.chance(20) {
+                call.entry = self.rng.bytes(MOST_ENTRY + 1);
+            }
+        }
+        call
     }
 
     /// A height near one that stands in the book.
@@ -320,6 +351,10 @@ impl Wild {
     fn branch(&mut self, side: &Side) -> Vec<u8> {
         let book = slots(side.log.part(SIZE * self.head.term as usize));
         let start = self.start(side, book);
+        self.signers = self.head.rotation;
+        if self.rng.chance(6) {
+            self.signers = in_turn(self.head.f);
+        }
         let mut frames: Vec<Frame> = Vec::new();
         if self.rng.chance(40) {
             frames = held(book, start);
