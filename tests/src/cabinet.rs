@@ -14,7 +14,7 @@ use crate::runner::{Outcome, Side};
 struct Pool {
     frames: Vec<Frame>,
     by_name: HashMap<Name, usize>,
-    /// Round r at index r; a call may be lent a term of one round more.
+    /// The leaders' alone. Round r at index r; a call may be lent a term of one round more.
     blocks: Vec<Vec<usize>>,
     blames: Vec<Vec<usize>>,
 }
@@ -30,7 +30,8 @@ impl Pool {
         }
     }
 
-    fn add(&mut self, frame: &Frame) -> usize {
+    /// Takes a frame in, with the leader of its round.
+    fn add(&mut self, frame: &Frame, leader: u8) -> usize {
         if let Some(&index) = self.by_name.get(frame::name(frame)) {
             return index;
         }
@@ -38,10 +39,10 @@ impl Pool {
         self.frames.push(*frame);
         self.by_name.insert(*frame::name(frame), index);
         let round = frame::round(frame) as usize;
-        if frame::kind(frame) == frame::BLOCK {
-            self.blocks[round].push(index);
-        } else {
+        if frame::kind(frame) == frame::BLAME {
             self.blames[round].push(index);
+        } else if frame::signer(frame) == leader {
+            self.blocks[round].push(index);
         }
         index
     }
@@ -186,13 +187,16 @@ impl Cabinet {
     }
 
     fn choose(&mut self, sides: &[Side]) -> Call {
-        let neighbour = self.neighbour.map_or(0, |(card, _)| 1 << card);
+        let neighbour: u16 = self.neighbour.map_or(0, |(card, _)| 1 << card);
         let closed = (self.head.sound | neighbour) & !self.open;
         if closed != 0 && (self.open == 0 || self.rng.chance(self.habits.opening)) {
             let card = self.rng.bit(closed);
             return self.open(card);
         }
-        let card = usize::from(self.rng.bit(self.open));
+        let mut card = usize::from(self.rng.bit(self.open));
+        if neighbour >> card & 1 == 1 {
+            card = usize::from(self.rng.bit(self.open));
+        }
         if self.makers != 0 && self.rng.chance(self.habits.busy) {
             self.make(sides);
         }
@@ -452,7 +456,7 @@ impl Cabinet {
         let round = self.rng.within(low.min(high), high);
         let maker = self.rng.bit(self.makers);
         if self.rng.chance(35) {
-            let index = self.pool.add(&frame::blame(maker, round));
+            let index = self.add(&frame::blame(maker, round));
             self.send(index, None);
         } else {
             self.make_blocks(maker, round);
@@ -480,7 +484,7 @@ impl Cabinet {
             let length = self.rng.pick(&[0, 1, 3, 400]);
             let entry = self.rng.bytes(length);
             let block = frame::block(maker, round, height, &parent, &entry);
-            let index = self.pool.add(&block);
+            let index = self.add(&block);
             if !self.rng.chance(self.habits.withhold) {
                 self.send(index, None);
             }
@@ -498,6 +502,11 @@ impl Cabinet {
             return (*frame::name(parent), frame::height(parent) + 1);
         }
         (GENESIS, 1)
+    }
+
+    fn add(&mut self, frame: &Frame) -> usize {
+        let leader = self.head.leader(frame::round(frame));
+        self.pool.add(frame, leader)
     }
 
     /// Puts a frame on the cables to all other cards.
@@ -522,7 +531,7 @@ impl Cabinet {
                     self.open |= 1 << call.card;
                 }
                 for frame in &slots(out)[..usize::from(answer.frames)] {
-                    let index = self.pool.add(frame);
+                    let index = self.add(frame);
                     self.send(index, Some(call.card));
                 }
             }
@@ -552,7 +561,7 @@ impl Cabinet {
 /// In some lists a maker that is not sound, and another rotation than the list's.
 fn choose_neighbour(rng: &mut Rng, head: &Head, makers: u16) -> Option<(u8, Rotation)> {
     let unsound = makers & !head.sound;
-    if unsound == 0 || !rng.chance(30) {
+    if unsound == 0 || !rng.chance(20) {
         return None;
     }
     let mut rotation = in_turn(head.f);

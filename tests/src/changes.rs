@@ -631,7 +631,7 @@ const SETUP_FIELDS: &[(&str, SetupEdge)] = &[
 
 /// Changes what an open is handed; in a strict run nothing that it may be taken with.
 fn opening(hand: &mut Hand, call: &mut Call) -> bool {
-    if hand.strict || hand.rng.chance(50) {
+    if hand.strict || hand.rng.chance(30) {
         rotation(hand, call)
     } else {
         setup(hand, call)

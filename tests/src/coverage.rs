@@ -69,6 +69,7 @@ const WAYS: &[Row] = &[
     ("open", "taken, leads round 1"),
     ("open", "taken, does not lead"),
     ("open", "taken, not the list's rotation"),
+    ("open", "taken, a neighbour's rotation"),
     ("branch", "form, signer by number"),
     ("branch", "form, later signer by number"),
     ("branch", "taken, signer not by number"),
@@ -391,6 +392,8 @@ pub struct Coverage {
     above: Option<Record>,
     /// The list's.
     rotation: Rotation,
+    /// Bit i: card i is not sound, beside others that are.
+    neighbours: u16,
 }
 
 pub type Row = (&'static str, &'static str);
@@ -433,6 +436,7 @@ impl Coverage {
             due: false,
             above: None,
             rotation: Rotation::default(),
+            neighbours: 0,
         }
     }
 
@@ -459,6 +463,7 @@ impl Coverage {
     pub fn list(&mut self, head: &Head) {
         self.above = None;
         self.rotation = head.rotation;
+        self.neighbours = if head.sound == 0 { 0 } else { !head.sound };
         let rows: Vec<_> = SIZES.iter().map(|(row, fits)| (fits(head), *row)).collect();
         self.add_all("list", &rows);
     }
@@ -722,7 +727,7 @@ impl Coverage {
         }
         self.leaders(call, before, answer);
         match &call.what {
-            What::Open(_, rotation) => self.open(rotation, answer),
+            What::Open(_, rotation) => self.open(call.card, rotation, answer),
             What::Branch(frames) => self.branch(slots(frames), before, answer),
             What::Blame(frame) => self.blames("blame", slots(frame), before, answer),
             What::Blames(frames) => self.set(slots(frames), before, answer),
@@ -730,15 +735,17 @@ impl Coverage {
         }
     }
 
-    fn open(&mut self, rotation: &[u8], answer: &Answer) {
+    fn open(&mut self, card: usize, rotation: &[u8], answer: &Answer) {
         let leads = answer.frames == 1;
         let other = rotation != seats(&self.rotation, answer.record.f);
+        let neighbour = self.neighbours >> card & 1 == 1;
         self.add_all(
             "open",
             &[
                 (leads, "taken, leads round 1"),
                 (!leads, "taken, does not lead"),
                 (other, "taken, not the list's rotation"),
+                (other && neighbour, "taken, a neighbour's rotation"),
             ],
         );
     }

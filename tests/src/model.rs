@@ -394,8 +394,7 @@ fn rotation_holds(record: &Record) -> bool {
 
 /// Whether the card leads R, inside the term.
 fn leads(record: &Record) -> bool {
-    record.round <= record.term
-        && leader(record.round, record.f, &record.rotation) == record.own
+    record.round <= record.term && leader(record.round, record.f, &record.rotation) == record.own
 }
 
 /// 4 and 5.

@@ -56,7 +56,12 @@ impl fmt::Display for Call {
         write!(f, "card {}: {}", self.card, self.word())?;
         match &self.what {
             What::Open(setup, rotation) => {
-                let Setup { own, f: most, wait, term } = setup;
+                let Setup {
+                    own,
+                    f: most,
+                    wait,
+                    term,
+                } = setup;
                 write!(f, " own {own} f {most} wait {wait} T {term}")?;
                 write!(f, " rotation [{}]", hex(rotation))?;
             }
