@@ -1,7 +1,16 @@
-//! One card on the library, for terms that are counted and not timed.
+//! One card on the library, for terms that are counted and not timed; and the rotation of all that is run here.
 
 use beside::frame::SIZE;
-use beside::model::{Answer, Lent, Record, LEAST_OUT};
+use beside::model::{cards, Answer, Lent, Record, Rotation, LEAST_OUT};
+
+/// The seats are shuffled, always in the same way: 1, 3, 5 and so on, then 0, 2, 4 and so on.
+pub fn rotation(f: u8) -> Rotation {
+    let (mut rotation, n) = (Rotation::default(), cards(f) as u8);
+    for (seat, i) in rotation.iter_mut().zip(0..n) {
+        *seat = (2 * i + 1) % n;
+    }
+    rotation
+}
 
 pub struct Card {
     pub record: Record,

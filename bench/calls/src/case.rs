@@ -1,13 +1,12 @@
 //! What is timed: calls that are taken. Each leaves a state on which the same call, with the record as it was, does the same
 //! work again, but for the mask of the round blamed, which is set back before each call.
 
+use crate::card::rotation;
 use beside::frame::{self, GENESIS, SIZE};
-use beside::model::{leader, Record};
+use beside::model::{self, Record, MOST_F};
 
-/// f of every case but the sets of blames: five cards.
+/// f of every case that does not say it: five cards. That of the sets of blames is 7: fifteen cards.
 const F: u8 = 2;
-/// f of the sets of blames: fifteen cards.
-const MOST_F: u8 = 7;
 const TIMEOUT: u32 = 100;
 /// The bytes of an entry.
 const ENTRY: u32 = 100;
@@ -69,6 +68,10 @@ impl Case {
     }
 }
 
+fn leader(round: u32, f: u8) -> u8 {
+    model::leader(round, f, &rotation(f))
+}
+
 fn entry(seed: u32) -> Vec<u8> {
     (0..ENTRY)
         .map(|i| (i * 167 + seed * 31 + 13) as u8)
@@ -101,6 +104,7 @@ fn record(f: u8, term: u32, tip: u32) -> Record {
         tip_height: tip,
         committed_round: committed,
         committed_height: committed,
+        rotation: rotation(f),
     }
 }
 
@@ -221,6 +225,8 @@ pub fn cases(term: u32) -> Vec<Case> {
     vec![
         open(term),
         case("tick", Call::Tick, term, term / 2),
+        case_of(1, "tick, f = 1", Call::Tick, term, term / 2),
+        case_of(MOST_F, "tick, f = 7", Call::Tick, term, term / 2),
         tick_that_blames(term),
         blame_that_sets_a_bit(term),
         blame_that_passes(term),

@@ -1,17 +1,17 @@
 //! How long an entry waits until it is committed where cards are dead, on the library. Counted, not timed: all frames under way
 //! are delivered in one step, and when there are none every living card gets a tick.
 
-use crate::card::Card;
+use crate::card::{rotation, Card};
 use beside::ffi::Archive;
 use beside::frame::{BLOCK, SIZE};
 use beside::library::Library;
-use beside::model::{Answer, Lent, Record, Setup};
+use beside::model::{seats, Answer, Lent, Record, Setup};
 use std::mem::take;
 
 /// Ticks until a card blames the round that it waits for.
 pub const TIMEOUT: u32 = 4;
 
-/// What is run: card 0 proposes the entry in round r = n + 1, the first of the second turn.
+/// What is run: the card on seat 0 proposes the entry in round r = n + 1, the first of the second turn.
 #[derive(Clone, Copy, Debug)]
 pub struct Case {
     pub f: u8,
@@ -63,9 +63,9 @@ impl Case {
         self.entry_round() + self.after()
     }
 
-    /// Whether a card is dead, or the leader of the round so many after r.
-    fn is_dead(self, card: u32) -> bool {
-        (self.first..self.first + self.dead).contains(&(card % self.cards()))
+    /// Whether the card on a seat is dead, or the leader of the round so many after r.
+    fn is_dead(self, seat: u32) -> bool {
+        (self.first..self.first + self.dead).contains(&(seat % self.cards()))
     }
 
     /// By the paper: each of so many rounds after r is passed with its block or, after a timeout, with blames.
@@ -84,7 +84,7 @@ impl Case {
 }
 
 struct Cabinet {
-    /// By number; none for a dead one.
+    /// By seat; none for a dead one.
     cards: Vec<Option<Card>>,
     /// Frames and the cards that they go to.
     under_way: Vec<(usize, Vec<u8>)>,
@@ -92,19 +92,22 @@ struct Cabinet {
 
 impl Cabinet {
     fn open(case: Case) -> Cabinet {
-        let card = |own| (!case.is_dead(own)).then(|| Card::closed(case.term()));
+        let card = |seat| (!case.is_dead(seat)).then(|| Card::closed(case.term()));
         let mut cabinet = Cabinet {
             cards: (0..case.cards()).map(card).collect(),
             under_way: Vec::new(),
         };
-        for own in cabinet.numbers() {
+        let rotation = rotation(case.f);
+        for seat in cabinet.seats() {
             let setup = Setup {
-                own: own as u8,
+                own: rotation[seat],
                 f: case.f,
                 wait: TIMEOUT,
                 term: case.term(),
             };
-            cabinet.call(own, |_, lent| Archive.open(setup, lent));
+            cabinet.call(seat, |_, lent| {
+                Archive.open(setup, seats(&rotation, case.f), lent)
+            });
         }
         cabinet
     }
@@ -118,9 +121,9 @@ impl Cabinet {
         self.living().all(|card| is_so(&card.record))
     }
 
-    /// The living cards' numbers.
-    fn numbers(&self) -> Vec<usize> {
-        let lives = |&number: &usize| self.cards[number].is_some();
+    /// The living cards' seats.
+    fn seats(&self) -> Vec<usize> {
+        let lives = |&seat: &usize| self.cards[seat].is_some();
         (0..self.cards.len()).filter(lives).collect()
     }
 
@@ -129,8 +132,8 @@ impl Cabinet {
         let card = self.cards[at].as_mut().expect("a living card");
         let number = if is_over(&card.record) { 3 } else { 0 };
         let (answer, frames) = card.call(&[at as u8], call);
-        assert_eq!(answer.number, number, "card {at}");
-        for to in self.numbers().into_iter().filter(|&to| to != at) {
+        assert_eq!(answer.number, number, "the card on seat {at}");
+        for to in self.seats().into_iter().filter(|&to| to != at) {
             let copies = frames.iter().map(|frame| (to, frame.clone()));
             self.under_way.extend(copies);
         }
@@ -146,7 +149,7 @@ impl Cabinet {
     }
 
     fn tick(&mut self) {
-        for at in self.numbers() {
+        for at in self.seats() {
             self.call(at, |record, lent| Archive.tick(record, lent));
         }
     }

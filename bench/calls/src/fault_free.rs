@@ -1,9 +1,9 @@
 //! A term without faults, on the library: every card sound, every frame delivered at once, and no clock needed.
 
-use crate::card::Card;
+use crate::card::{rotation, Card};
 use beside::ffi::Archive;
 use beside::library::Library;
-use beside::model::{Answer, Lent, Record, Setup, NOBODY};
+use beside::model::{seats, Answer, Lent, Record, Setup, NOBODY};
 use std::collections::VecDeque;
 
 /// What a term took.
@@ -83,7 +83,9 @@ pub fn run(f: u8, term: u32) -> Counts {
             wait: 1,
             term,
         };
-        let answer = cabinet.call(usize::from(own), |_, lent| Archive.open(setup, lent));
+        let answer = cabinet.call(usize::from(own), |_, lent| {
+            Archive.open(setup, seats(&rotation(f), f), lent)
+        });
         assert_eq!(answer.number, 0, "open");
     }
     while let Some(copy) = cabinet.cables.pop_front() {

@@ -2,6 +2,7 @@
 //! reads every slot allowed, and its own search downward. Before a case is timed, all three must find the same slot, and both
 //! searches read as many.
 
+use crate::card::rotation;
 use crate::side::timed;
 use crate::{head, median, ratio, time, BATCH, PASSES, TERMS};
 use beside::ffi::{self, ApolloSearch};
@@ -28,7 +29,8 @@ fn case(name: &'static str, term: u32, skipped: impl Fn(u32) -> bool) -> Case {
     for (slot, round) in log.as_chunks_mut().0.iter_mut().zip(1..=term) {
         if !skipped(round) {
             height += 1;
-            frame::write_block(slot, leader(round, F), round, height, &parent, &[]);
+            let signer = leader(round, F, &rotation(F));
+            frame::write_block(slot, signer, round, height, &parent, &[]);
             parent = *frame::name(slot);
         }
     }

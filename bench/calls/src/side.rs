@@ -3,7 +3,7 @@
 use crate::case::{Call, Case, Lent};
 use beside::ffi::{self, ApolloAnswer, ApolloFetched, ApolloHeight, ApolloPart, ApolloReplica};
 use beside::frame::{CHECK_AT, SIZE};
-use beside::model::{self, Answer, Fetched, Part, Setup};
+use beside::model::{self, seats, Answer, Fetched, Part, Setup};
 use beside::sha256;
 use std::hint::black_box;
 use std::time::Instant;
@@ -69,11 +69,15 @@ pub fn ours(case: &mut Case, times: usize) -> (f64, Outcome) {
     let (out, out_len) = (case.lent.out.as_mut_ptr(), case.lent.out.len());
     let (entry, entry_len) = (case.entry.as_ptr(), case.entry.len());
     let (frames, frames_len) = (case.frames.as_ptr(), case.frames.len());
+    let rotation = seats(&case.record.rotation, case.record.f);
     match case.call {
         Call::Open => answer(timed(times, || {
             let ApolloReplica { id, f, timeout, last_round, .. } = *black_box(&replica);
+            let (seats, seats_len) = (black_box(rotation).as_ptr(), rotation.len());
             unsafe {
-                ffi::apollo_open(id, f, timeout, last_round, log, log_len, masks, masks_len, entry, entry_len, out, out_len)
+                ffi::apollo_open(
+                    id, f, timeout, last_round, seats, seats_len, log, log_len, masks, masks_len, entry, entry_len, out, out_len,
+                )
             }
         })),
         Call::Branch => answer(timed(times, || {
@@ -137,9 +141,10 @@ pub fn rust(case: &mut Case, times: usize) -> (f64, Outcome) {
     let (frames, entry) = (&case.frames[..], &case.entry[..]);
     let waited_for = record.round as usize - 1;
     let setup = Setup { own: record.own, f: record.f, wait: record.wait, term: record.term };
+    let rotation = seats(&record.rotation, record.f);
     let answer = |(seconds, a)| (seconds, Outcome::Answer(a));
     match case.call {
-        Call::Open => answer(timed(times, || model::open(*black_box(&setup), lend(lent, entry)))),
+        Call::Open => answer(timed(times, || model::open(*black_box(&setup), black_box(rotation), lend(lent, entry)))),
         Call::Branch => answer(timed(times, || model::branch(*black_box(&record), frames, lend(lent, entry)))),
         Call::Blame { mask } => answer(timed(times, || {
             lent.masks[waited_for] = mask;
