@@ -474,7 +474,10 @@ const RECORD_FIELDS: &[(&str, Edge)] = &[
     }),
     ("a seat out of range", |hand, record| {
         let (seat, _) = two_seats(hand);
-        record.rotation[seat] = no_card(hand, record.rotation[seat]);
+        record.rotation[seat] = match hand.rng.chance(50) {
+            true => no_card(hand),
+            false => more_bits(hand, record.rotation[seat]),
+        };
     }),
     ("a byte past n", |hand, record| {
         let n = hand.cards() as usize;
@@ -498,11 +501,15 @@ fn two_seats(hand: &mut Hand) -> (usize, usize) {
     (one, (one + 1 + hand.rng.below(n - 1)) % n)
 }
 
-/// A number from n on, at times one that becomes the card where bits are lost.
-fn no_card(hand: &mut Hand, card: u8) -> u8 {
-    let (n, card) = (hand.cards(), u32::from(card));
-    let edges = [n, 15, 16, 255, card | 16, card | 32, card | 64, card | 128];
-    hand.pick(&edges) as u8
+/// A number from n on.
+fn no_card(hand: &mut Hand) -> u8 {
+    let n = hand.cards();
+    hand.pick(&[n, 15, 16, 255]) as u8
+}
+
+/// A number from 16 on that becomes a card's where bits are lost.
+fn more_bits(hand: &mut Hand, card: u8) -> u8 {
+    card | hand.pick(&[16, 32, 64, 128]) as u8
 }
 
 /// Makes a rotation one that open has to refuse.
@@ -534,7 +541,11 @@ const ROTATIONS: &[(&str, Spoil)] = &[
     }),
     ("no card's number", |hand, seats| {
         let (seat, _) = two_seats(hand);
-        seats[seat] = no_card(hand, seats[seat]);
+        seats[seat] = no_card(hand);
+    }),
+    ("a card's number with a bit more", |hand, seats| {
+        let (seat, _) = two_seats(hand);
+        seats[seat] = more_bits(hand, seats[seat]);
     }),
     ("all alike", |hand, seats| {
         let card = hand.rng.pick(seats);

@@ -70,7 +70,7 @@ pub struct Emitted {
 }
 
 /// How many seeds are looked at for lists that reach much.
-const SEEDS: u64 = 600;
+const SEEDS: u64 = 1_200;
 
 /// Lists of small cards from a seed on, until there are so many calls: each time the one that
 /// reaches most that is new for its length, in the end any.
@@ -126,7 +126,7 @@ impl Trial {
 fn points(count: u64) -> usize {
     match count {
         0 => 0,
-        _ => 16 + count.min(5) as usize,
+        _ => 24 + count.min(6) as usize,
     }
 }
 

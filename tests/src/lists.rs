@@ -51,7 +51,7 @@ impl Maker {
             rotation,
         };
         let most = match (sizes, term) {
-            (Sizes::Small, _) => 220,
+            (Sizes::Small, _) => 150,
             (_, 0..=256) => 2_500,
             _ => 1_200,
         };
@@ -62,7 +62,7 @@ impl Maker {
 
     fn wild(rng: Rng, head: Head, sizes: Sizes) -> Maker {
         let steps = match (sizes, head.term) {
-            (Sizes::Small, _) => 60,
+            (Sizes::Small, _) => 40,
             (_, 257..) => 150,
             _ => 400,
         };

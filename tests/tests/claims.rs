@@ -1,24 +1,28 @@
-//! Which frames the premises of the claims count: those of a buffer that is not cut, whatever the call answers. And when the
-//! claims about the search are due.
+//! Which frames the premises of the claims count: those of a buffer that is not cut, whatever the call answers. Which rotations
+//! they allow. And when the claims about leaders and about the search are due.
 
 use beside::call::{Call, Head, State, Step, What};
 use beside::coverage::Coverage;
 use beside::frame::{blame, block, name, Frame, GENESIS, SIZE};
 use beside::library::Model;
-use beside::model::{self, Search, Setup};
-use beside::replaced::{Find, Replaced};
+use beside::model::{self, in_turn, seats, Answer, Lent, Rotation, Search, Setup};
+use beside::replaced::{honest, Ask, Find, Machine, Replaced};
 use beside::runner::{Runner, Side};
 
-const HEAD: Head = Head {
-    f: 1,
-    term: 4,
-    cards: 3,
-    sound: 0b111,
-};
+fn three_sound() -> Head {
+    Head {
+        f: 1,
+        term: 4,
+        cards: 3,
+        sound: 0b111,
+        rotation: in_turn(1),
+    }
+}
 
 /// The premise that breaks when frames go to card 1, and the answer to them.
 fn hand_in(what: What, out_len: usize) -> (Option<&'static str>, u8) {
-    let mut runner = Runner::new(&Model, &HEAD);
+    let head = three_sound();
+    let mut runner = Runner::new(&Model, &head);
     let mut coverage = Coverage::new();
     let setup = Setup {
         own: 1,
@@ -26,8 +30,8 @@ fn hand_in(what: What, out_len: usize) -> (Option<&'static str>, u8) {
         wait: 1,
         term: 4,
     };
-    let open = Call::new(&HEAD, 1, What::Open(setup));
-    let mut call = Call::new(&HEAD, 1, what);
+    let open = Call::new(&head, 1, What::Open(setup, head.seats().to_vec()));
+    let mut call = Call::new(&head, 1, what);
     call.out_len = out_len;
     let mut number = 0;
     for call in [open, call] {
@@ -84,6 +88,91 @@ fn a_wrong_check_forges_nothing() {
     assert_eq!(hand_in(set(&frames, 2 * SIZE), 1024), (None, 7));
 }
 
+/// Cards 0 and 1 are opened, each with a rotation: the premise that breaks, and card 1's number.
+fn open_both(sound: u16, rotations: [&[u8]; 2]) -> (Option<&'static str>, u8) {
+    let head = Head {
+        sound,
+        rotation: rotation(&[2, 0, 1]),
+        ..three_sound()
+    };
+    let mut runner = Runner::new(&Model, &head);
+    let mut number = 0;
+    for (own, seats) in (0..).zip(rotations) {
+        let setup = Setup {
+            own,
+            f: 1,
+            wait: 1,
+            term: 4,
+        };
+        let open = Call::new(&head, own.into(), What::Open(setup, seats.to_vec()));
+        let outcome = runner.step(&Step::Call(open), &mut Coverage::new());
+        let outcome = outcome.expect("the model is itself");
+        number = outcome.number().expect("an answer");
+    }
+    (runner.claims.broken(), number)
+}
+
+fn rotation(seats: &[u8]) -> Rotation {
+    let mut rotation = Rotation::default();
+    rotation[..seats.len()].copy_from_slice(seats);
+    rotation
+}
+
+#[test]
+fn sound_cards_share_the_rotation() {
+    let shared: &[u8] = &[2, 0, 1];
+    assert_eq!(open_both(0b111, [shared, shared]), (None, 0));
+    let other = Some("a sound card was opened with another rotation");
+    assert_eq!(open_both(0b111, [shared, &[0, 1, 2]]), (other, 0));
+    assert_eq!(open_both(0b111, [&[0, 1, 2], &[0, 1, 2]]), (other, 0));
+    for refused in [&[2, 0][..], &[2, 0, 0], &[2, 0, 1, 1], &[]] {
+        assert_eq!(open_both(0b111, [shared, refused]), (None, 17));
+    }
+    assert_eq!(open_both(0b101, [shared, &[0, 1, 2]]), (None, 0));
+}
+
+/// Tells card 2 whatever the round.
+fn tells_card_2(ask: &Ask, lent: Lent) -> Answer {
+    let answer = honest(ask, lent);
+    let leader = answer.leader.max(2);
+    Answer { leader, ..answer }
+}
+
+/// Tells the card before the leader, but card 1 the leader.
+fn tells_two(ask: &Ask, lent: Lent) -> Answer {
+    let answer = honest(ask, lent);
+    match (answer.leader, answer.record.own) {
+        (255, _) | (_, 1) => answer,
+        (leader, _) => Answer {
+            leader: (leader + 2) % 3,
+            ..answer
+        },
+    }
+}
+
+/// What is told of the leaders when cards 1 and 2 are opened and card 1 takes block 1, so that it waits for round 3.
+fn leaders_told(machine: Machine, sound: u16) -> Option<String> {
+    let library = Replaced::machine(machine);
+    let mut runner = Runner::beside(&library, &library, &head(sound));
+    let first = block(0, 1, 1, &GENESIS, b"");
+    let mut calls = beside_a_dead_card()[..2].to_vec();
+    calls.push(Call::new(&head(0), 1, What::Branch(first.to_vec())));
+    let step = |call| runner.step(&Step::Call(call), &mut Coverage::new()).err();
+    calls.into_iter().find_map(step)
+}
+
+#[test]
+fn one_leader_is_told_for_a_round_and_another_for_the_next() {
+    let same = "claim: card 2 was told as the leader of rounds 3 and 1";
+    assert_eq!(leaders_told(tells_card_2, 0b110).as_deref(), Some(same));
+    let two = "claim: leaders 0 and 2 were told of round 1";
+    assert_eq!(leaders_told(tells_two, 0b110).as_deref(), Some(two));
+    for machine in [tells_card_2, tells_two] {
+        assert_eq!(leaders_told(machine, 0), None, "no card is sound");
+    }
+    assert_eq!(leaders_told(honest, 0b110), None);
+}
+
 fn one_slot_more(log: &[u8], limit: u32) -> Search {
     let search = model::search(log, limit);
     Search {
@@ -105,18 +194,20 @@ fn head(sound: u16) -> Head {
         term: 8,
         cards: 3,
         sound,
+        rotation: in_turn(1),
     }
 }
 
 /// Card 0 is dead: the others blame rounds 1 and 4, and put out blocks for rounds 2, 3 and 5.
 fn beside_a_dead_card() -> Vec<Call> {
     let open = |own| {
-        What::Open(Setup {
+        let setup = Setup {
             own,
             f: 1,
             wait: 1,
             term: 8,
-        })
+        };
+        What::Open(setup, seats(&in_turn(1), 1).to_vec())
     };
     let hear = |signer, round| What::Blame(blame(signer, round).to_vec());
     let second = block(1, 2, 1, &GENESIS, b"");

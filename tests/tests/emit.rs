@@ -2,7 +2,7 @@
 
 use std::sync::OnceLock;
 
-use beside::coverage::Coverage;
+use beside::coverage::{Coverage, Row};
 use beside::emit::{emit, Emitted};
 use beside::frame::SIZE;
 use beside::model::{self, Answer, Lent, Record, Setup};
@@ -56,6 +56,7 @@ impl Words<'_> {
             tip_height: self.number(),
             committed_round: self.number(),
             committed_height: self.number(),
+            rotation: self.bytes().try_into().expect("15 bytes"),
         }
     }
 }
@@ -114,13 +115,16 @@ impl Program {
 
     fn machine(&mut self, letter: &str, words: &mut Words) {
         let index = words.size();
-        let mut setup = || Setup {
-            own: words.number() as u8,
-            f: words.number() as u8,
-            wait: words.number(),
-            term: words.number(),
+        let opening = |words: &mut Words| {
+            let setup = Setup {
+                own: words.number() as u8,
+                f: words.number() as u8,
+                wait: words.number(),
+                term: words.number(),
+            };
+            (setup, words.bytes())
         };
-        let setup = (letter == "o").then(&mut setup);
+        let opening = (letter == "o").then(|| opening(words));
         let (log, masks, out) = (words.size(), words.size(), words.size());
         let entry = words.bytes();
         self.out[..out].fill(165);
@@ -132,8 +136,8 @@ impl Program {
             entry: &entry,
             out: &mut self.out[..out],
         };
-        let answer = match (setup, letter) {
-            (Some(setup), _) => model::open(setup, lent),
+        let answer = match (opening, letter) {
+            (Some((setup, rotation)), _) => model::open(setup, &rotation, lent),
             (_, "b") => model::branch(record, &words.bytes(), lent),
             (_, "v") => model::blame(record, &words.bytes(), lent),
             (_, "a") => model::blames(record, &words.bytes(), lent),
@@ -159,6 +163,7 @@ impl Program {
         ]);
         self.print(&[r.round, r.left, r.tip_round, r.tip_height]);
         self.print(&[r.committed_round, r.committed_height]);
+        self.printed += &(hex(&r.rotation) + " ");
     }
 
     fn read(&mut self, words: &mut Words) {
@@ -257,6 +262,20 @@ fn an_emitted_list_commits_in_every_way() {
             let count = coverage.count(&(call, row));
             assert!(count >= least, "{call}: {row}: {count}");
         }
+    }
+}
+
+/// Each way of a rotation that is none is there, in open and in the records of all calls.
+#[test]
+fn an_emitted_list_refuses_rotations_in_every_way() {
+    let (_, coverage) = list();
+    let of_open = |row: &Row| row.0 == "open" && row.1.contains("rotation");
+    let of_a_record = |row: &Row| row.1.contains(" seat") || row.1.contains(" byte n");
+    let refused = |row: &&Row| of_open(row) || row.1.starts_with("refused  2") && of_a_record(row);
+    let rows: Vec<_> = coverage.rows().iter().filter(refused).collect();
+    assert_eq!(rows.len(), 23 + 3 * 6);
+    for row in rows {
+        assert!(coverage.count(row) > 0, "{row:?}");
     }
 }
 
