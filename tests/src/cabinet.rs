@@ -558,7 +558,7 @@ impl Cabinet {
     }
 }
 
-/// In some lists a maker that is not sound, and another rotation than the list's.
+/// In some lists a maker that is not sound, and a rotation of its own.
 fn choose_neighbour(rng: &mut Rng, head: &Head, makers: u16) -> Option<(u8, Rotation)> {
     let unsound = makers & !head.sound;
     if unsound == 0 || !rng.chance(20) {

@@ -48,6 +48,8 @@ pub struct Due {
     pub two_blocks: bool,
     /// Another card waits for the same round on a tip of another round.
     pub two_tips: bool,
+    /// The leaders of n rounds in a row were told, the last of them by this call.
+    pub leaders: bool,
 }
 
 impl Claims {
@@ -144,12 +146,16 @@ impl Claims {
         }
         let answer = outcome.answer();
         let block = answer.and_then(|answer| self.note(call, answer, out));
-        if let (Some(answer), None) = (answer, self.broken) {
-            self.check_leader(answer)?;
-        }
+        let leaders = match (answer, self.broken) {
+            (Some(answer), None) => self.check_leader(answer)?,
+            _ => false,
+        };
         let others = cards(self.f) - self.open.count_ones();
         if self.broken.is_some() || others > u32::from(self.f) {
-            return Ok(Due::default());
+            return Ok(Due {
+                leaders,
+                ..Due::default()
+            });
         }
         if self.answered_12 {
             return Err("claim: a sound card answered 12".into());
@@ -158,7 +164,10 @@ impl Claims {
         self.check_search(call.card, search)?;
         self.due = true;
         self.checked += 1;
-        Ok(self.tips(call.card, sides))
+        Ok(Due {
+            leaders,
+            ..self.tips(call.card, sides)
+        })
     }
 
     /// All claims but the search's, after a call at a card that may have put out a block.
@@ -199,6 +208,7 @@ impl Claims {
             claims: true,
             two_blocks: tip > 0 && sides.iter().any(other_block),
             two_tips: sides.iter().enumerate().any(other_tip),
+            leaders: false,
         }
     }
 
@@ -232,14 +242,15 @@ impl Claims {
     }
 
     /// One leader for a round, whichever sound card tells it, and another for each round less than n
-    /// away: so f + 1 rounds in a row have different leaders.
-    fn check_leader(&mut self, answer: &Answer) -> Result<(), String> {
+    /// away: so f + 1 rounds in a row have different leaders. Whether n rounds up to this one, told
+    /// for the first time, have been told.
+    fn check_leader(&mut self, answer: &Answer) -> Result<bool, String> {
         if answer.leader == NOBODY {
-            return Ok(());
+            return Ok(false);
         }
         let (leader, round) = (answer.leader, answer.record.round as usize);
         match self.told[round - 1].replace(leader) {
-            Some(before) if before == leader => return Ok(()),
+            Some(before) if before == leader => return Ok(false),
             Some(before) => {
                 return Err(format!(
                     "claim: leaders {before} and {leader} were told of round {round}"
@@ -252,7 +263,7 @@ impl Claims {
         let last = self.told.len().min(round + apart);
         let same = |&other: &usize| other != round && self.told[other - 1] == Some(leader);
         match (first..=last).find(same) {
-            None => Ok(()),
+            None => Ok(round > apart && self.told[first - 1..round].iter().all(Option::is_some)),
             Some(other) => Err(format!(
                 "claim: card {leader} was told as the leader of rounds {round} and {other}"
             )),

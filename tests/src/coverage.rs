@@ -278,6 +278,7 @@ const TWO_BLOCKS: Row = ("claims", "cards hold two blocks of a round");
 const TWO_TIPS: Row = ("claims", "tips of two rounds at one R");
 const TWO_ENDS: Row = ("claims", "tips of two rounds at R = T + 1");
 const SET_OF_ONE: Row = ("claims", "a set of one beside a blame");
+const LEADERS_TOLD: Row = ("claims", "leaders of n rounds in a row");
 
 /// A size of lists and how it is told.
 type Size = (&'static str, fn(&Head) -> bool);
@@ -428,7 +429,7 @@ impl Coverage {
         for &(_, group, claimed) in CLAIMED {
             rows.extend(claimed.iter().map(|row| (group, *row)));
         }
-        rows.extend([TWO_BLOCKS, TWO_TIPS, TWO_ENDS, SET_OF_ONE]);
+        rows.extend([TWO_BLOCKS, TWO_TIPS, TWO_ENDS, SET_OF_ONE, LEADERS_TOLD]);
         rows.extend(SIZES.iter().map(|size| ("list", size.0)));
         Coverage {
             rows,
@@ -478,6 +479,7 @@ impl Coverage {
             (due.two_tips, TWO_TIPS.1),
             (due.two_tips && ends, TWO_ENDS.1),
             (call.is_set_of_one(), SET_OF_ONE.1),
+            (due.leaders, LEADERS_TOLD.1),
         ];
         self.add_all("claims", &rows);
         let follows = self.above == Some(before.record) && call.lends_all(before.record.term);
