@@ -1,3 +1,3 @@
 pub mod Seen
-pub mod Pass
+pub mod Words
 pub mod Fill
