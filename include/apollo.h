@@ -4,14 +4,15 @@
  * machine. It keeps nothing between calls, allocates nothing and never blocks: all state is in the record, the log and the masks, which
  * the host holds and lends to each call. The archive needs nothing but memset: cc -Idist host.c dist/libhost.a. What follows is the
  * host's part: the agreement of the lists rests on it. docs/HOSTS.md has the life of a card step by step, the reasons and a table for
- * the repairer; examples/card.c is a host that keeps these rules. T is the last round of a term, R the round that a card waits for.
+ * the repairer; examples/card.c is a host that keeps these rules. T is the last round of a term, R the round that a card waits for; the
+ * rotation is the order in which the cards lead, each card's number once.
  *
  * State
  *   - One record, one log of 512 * T bytes and one array of T masks for each card. Hand each call the record, log and masks exactly as
  *     that card's last call left them; nobody else writes them meanwhile. `answer.replica` is the record for the next call, also after
  *     a refusal.
- *   - Call apollo_open once per card and term, with the card's own number and the f and T that all cards share. The record of a refused
- *     open is all zeros: hand it to no call.
+ *   - Call apollo_open once per card and term, with the card's own number and the f, T and rotation that all cards share. The record of
+ *     a refused open is all zeros: hand it to no call.
  *   - A card that is to go on after a restart writes its state to disk before it sends what a call emitted. One that lost its state, or
  *     has an older one, counts among the f that fail until the term ends. It may be opened afresh to follow the list, if nothing that
  *     it emits is sent: it would sign a second block for a round.
@@ -21,13 +22,15 @@
  * Terms
  *   - Each term has a number above all earlier ones', which every datagram names. A term is over for a card at R = T + 1; no 3 need be
  *     seen. The next is opened then, or when f + 1 cards have sent datagrams of it, with a record, log and masks of its own: two terms
- *     run side by side, and a card may be behind in the old one. A frame is handed in to the card of its own term and to no other.
+ *     run side by side, and a card may be behind in the old one. A frame is handed in to the card of its own term and to no other. Each
+ *     term has a rotation of its own: a new one comes with a new term, for all cards together, and never within one.
  *   - Answer in the old term until every other card has told R = T + 1 there, or the next one is over too.
  *
  * Signatures
  *   - A frame travels with the signature of its signer (byte 1), whoever sends it: cards pass on each other's frames. It covers the
- *     whole frame, a word for this use, and what all cards share: n, f, T, the term's number and all public keys. Frames carry no term,
- *     and the last term's block 1 would be answered 0 in the next.
+ *     whole frame, a word for this use, and what all cards share: n, f, T, the rotation, the term's number and all public keys. Frames
+ *     carry no term and no rotation: where the same card leads round 1, the last term's block 1 would be answered 0 in the next, and a
+ *     blame is taken whatever rotation its signer goes by.
  *   - Sign the frames that the card's calls emit, the first `answer.frames` of 512 bytes in the out buffer, and no other frame ever.
  *   - Authenticate the sender of every datagram as well, under another word: blocks are kept and questions answered by sender, and that
  *     is who sent them, not who signed the frames. The sender's word says nothing about a frame.
@@ -121,7 +124,7 @@ extern "C" {
 
 /* Header and archive belong together: a host starts only where apollo_version() == APOLLO_VERSION. The number grows with every change
  * of a declaration here, or of what a call does. */
-#define APOLLO_VERSION 3u
+#define APOLLO_VERSION 4u
 uint32_t apollo_version(void);
 
 enum {
@@ -129,15 +132,16 @@ enum {
   APOLLO_OUT = 1024,        /* an out buffer's least size: two frames */
   APOLLO_ENTRY = 400,       /* an entry's most bytes */
   APOLLO_DIGEST = 32,       /* bytes of a digest */
-  APOLLO_MAX_F = 7,         /* most cards that may fail: n = 2 f + 1 is at most 15 */
+  APOLLO_MAX_F = 7,         /* most cards that may fail: n = 2 f + 1 */
+  APOLLO_MAX_CARDS = 15,    /* most cards, n */
   APOLLO_MAX_BLAMES = 15,   /* most frames of a set of blames, whatever n is */
   APOLLO_MAX_ROUNDS = 4096, /* most rounds of a term, T */
   APOLLO_MAX_TIMEOUT = 60000,
   APOLLO_NO_LEADER = 255    /* the leader told after a refusal, or when the term is over */
 };
 
-/* A frame: 512 bytes, numbers big-endian. What is not named is zero. The leader of round r is card (r - 1) mod n: a block of that round
- * names no other signer. The calls judge every byte.
+/* A frame: 512 bytes, numbers big-endian. What is not named is zero. The leader of round r is card rotation[(r - 1) mod n]: a block of
+ * that round names no other signer. The calls judge every byte.
  *     0         kind: APOLLO_BLOCK or APOLLO_BLAME
  *     1         signer, a card's number
  *     2 to 3    in a block: length of the entry
@@ -148,11 +152,12 @@ enum {
  *     480 to 511 the frame's digest: SHA-256 of bytes 0 to 479 */
 enum { APOLLO_BLOCK = 1, APOLLO_BLAME = 2 };
 
-/* Refusals. The word in quotes is the one on the repair sheets, which have none for 16. */
+/* Refusals. The word in quotes is the one on the repair sheets, which have none for 16 and 17. */
 typedef enum {
   APOLLO_TAKEN = 0,
   APOLLO_BAD_SETUP = 1,          /* "set-up": open: a number outside its range, or a log or masks of another length */
-  APOLLO_BAD_REPLICA = 2,        /* "record": the other calls: the same, or a field out of range; the record is no card's */
+  APOLLO_BAD_REPLICA = 2,        /* "record": the other calls: the same, or a field out of range, or a rotation that 17 refuses or that
+                                  * is not zero past n; the record is no card's */
   APOLLO_ROUNDS_OVER = 3,        /* "term over": branch, blame, blames, tick: every round has been passed */
   APOLLO_OUT_TOO_SHORT = 4,      /* "short tray": the out buffer has less than 1,024 bytes */
   APOLLO_ENTRY_TOO_LONG = 5,     /* "long entry": the entry has more than 400 bytes */
@@ -166,7 +171,8 @@ typedef enum {
   APOLLO_NOT_CERTIFIED = 13,     /* "unshown": a skipped round lacks f + 1 blames; place: that round. Again when it has them */
   APOLLO_EARLY = 14,             /* "early": blames for a round above the one waited for. Again when that has come */
   APOLLO_ABSENT = 15,            /* "absent": read: no such committed height; fetch: no frame above that height */
-  APOLLO_NOT_A_SET = 16          /* blames: frames of two rounds, or a signer twice: the host's own mistake */
+  APOLLO_NOT_A_SET = 16,         /* blames: frames of two rounds, or a signer twice: the host's own mistake */
+  APOLLO_BAD_ROTATION = 17       /* open: the rotation is not n bytes, lacks a card below n or has one twice */
 } apollo_number;
 
 /* 12 means that a premise of the agreement (docs/AGREEMENT.md) is broken: more than f cards failed in this term, a frame was forged, or
@@ -192,6 +198,7 @@ typedef struct {
                                    * with a new block or without. This card will never undo it, nor will any other while the
                                    * premises hold */
   apollo_height committed_height;
+  uint8_t rotation[APOLLO_MAX_CARDS]; /* who leads: card rotation[(r - 1) % n] round r. Zeros from rotation[n] on */
 } apollo_replica;
 
 typedef struct {
@@ -214,14 +221,18 @@ typedef struct {
 } apollo_fetched;
 
 /* Opens a card: zeroes log and masks and waits for round 1, or proposes at once if it leads round 1. Nothing is committed yet.
+ * rotation: the numbers of all cards, 0 to n - 1, each once, in the order in which they lead, and rotation_len is n. Its first card
+ * leads round 1, the next round 2, and after the last comes the first again. 0, 1, 2 and so on is one; docs/HOSTS.md says which are
+ * good. All cards are given the same, and keep it for the term: it is copied into the record, and the lent bytes are not needed again.
  * log_len is 512 * T, masks_len is T, out_len at least 1,024, here and below. entry: what the card proposes if it comes to lead, 0 to
  * 400 bytes.
  * Slot r of the log, for the block of round r, begins at log[512 * (r - 1)] and is filled if that byte is 1. The filled slots are one
  * chain: a block's parent is in the next lower one. masks[r - 1] is round r's: bit i for card i's blame. A host may read both between
- * calls. Of the entries lent to open only card 0's is used.
- * Refuses 1, 4, 5. */
-apollo_answer apollo_open(uint8_t id, uint8_t f, apollo_ticks timeout, apollo_round last_round, uint8_t *log, size_t log_len,
-                          uint16_t *masks, size_t masks_len, const uint8_t *entry, size_t entry_len, uint8_t *out, size_t out_len);
+ * calls. Of the entries lent to open only that of the rotation's first card is used.
+ * Refuses 1, 17, 4, 5. */
+apollo_answer apollo_open(uint8_t id, uint8_t f, apollo_ticks timeout, apollo_round last_round, const uint8_t *rotation,
+                          size_t rotation_len, uint8_t *log, size_t log_len, uint16_t *masks, size_t masks_len, const uint8_t *entry,
+                          size_t entry_len, uint8_t *out, size_t out_len);
 
 /* Hands in a branch: 1 to T block frames end to end, each the child of the one before. Taken, it replaces what the log held above its
  * parent. The card then waits for the next round, or proposes if it leads it, with the lent entry, and waits for the one after. The
