@@ -26,9 +26,9 @@ enum {
 };
 
 /* How a card fails. A deaf one hears nothing for a while, a mute one is not heard. A lost one loses its state, is opened afresh and
- * only follows: it asks, and sends no frame any more. From TWO on a card lies. */
-typedef enum { NONE, DEAD, DEAF, MUTE, LOST, TWO, BLAMES, JUNK, HIDE, ALL, MASK, MIXED, FAULTS } fault;
-static const char *const fault_names[FAULTS] = {"none",   "dead", "deaf", "mute", "lost", "two",
+ * only follows: it asks, and sends no frame any more. One that is set apart goes by another rotation. From TWO on a card lies. */
+typedef enum { NONE, DEAD, DEAF, MUTE, LOST, APART, TWO, BLAMES, JUNK, HIDE, ALL, MASK, MIXED, FAULTS } fault;
+static const char *const fault_names[FAULTS] = {"none",   "dead", "deaf", "mute", "lost", "apart", "two",
                                                 "blames", "junk", "hide", "all",  "mask", "mixed"};
 
 typedef struct {
@@ -45,16 +45,19 @@ static struct {
   int n, f, show_list;
   fault kind;
   uint32_t rounds, seed, timeout, delay, loss, now;
-  uint8_t key[MAX_CARDS][APOLLO_DIGEST];
-  card cards[MAX_CARDS];
-  int is_open[MAX_CARDS], given[MAX_CARDS];
-  uint32_t behind[MAX_CARDS]; /* how many rounds a deaf card was behind when it came back, a lost one when it began again, */
-  int late[MAX_CARDS];        /* and whether the term was over then */
-  uint32_t start[MAX_CARDS];  /* the tick at which a card is opened */
-  fault faults[MAX_CARDS];
-  cable in[MAX_CARDS];
-  uint32_t *acts[MAX_CARDS], acted[MAX_CARDS]; /* the rounds whose entries a card acted on */
-  uint32_t alarms[ALARM_KINDS], lies;          /* lies: packets made up, changed or withheld */
+  const char *asked; /* for the rotation, in the arguments */
+  uint8_t rotation[APOLLO_MAX_CARDS];
+  uint8_t key[APOLLO_MAX_CARDS][APOLLO_DIGEST];
+  card cards[APOLLO_MAX_CARDS];
+  int is_open[APOLLO_MAX_CARDS], given[APOLLO_MAX_CARDS];
+  uint32_t behind[APOLLO_MAX_CARDS]; /* how many rounds a deaf card was behind when it came back, a lost one when it began again, */
+  int late[APOLLO_MAX_CARDS];        /* and whether the term was over then */
+  uint32_t start[APOLLO_MAX_CARDS];  /* the tick at which a card is opened */
+  fault faults[APOLLO_MAX_CARDS];
+  cable in[APOLLO_MAX_CARDS];
+  uint32_t *acts[APOLLO_MAX_CARDS], acted[APOLLO_MAX_CARDS]; /* the rounds whose entries a card acted on */
+  uint32_t alarms[ALARM_KINDS], lies;                        /* lies: packets made up, changed or withheld */
+  uint32_t missed;                                           /* turns that a card left empty though an entry waited */
 } cabinet;
 
 static _Noreturn void stop(const char *why) {
@@ -74,36 +77,57 @@ static int is_cut_now(int i, fault how) {
 }
 static int lies(int i) { return cabinet.faults[i] >= TWO; }
 static int follows(int i) { return cabinet.faults[i] == LOST && cabinet.now >= CUT_FROM; }
-/* Deaf, mute and lost cards do, though they are counted among the f that fail: their lists must agree with the others'. */
-static int keeps_rules(int i) { return cabinet.faults[i] == NONE || cabinet.faults[i] == LOST || is_cut(i); }
-static int leader_of(uint32_t round) { return (int)((round - 1) % (uint32_t)cabinet.n); }
+/* Deaf, mute and lost cards do, though they are counted among the f that fail: they catch up. */
+static int catches_up(int i) { return cabinet.faults[i] == NONE || cabinet.faults[i] == LOST || is_cut(i); }
+/* One with another rotation keeps all rules but that one, and neither hears the others nor is heard. All these lists must agree. */
+static int keeps_rules(int i) { return catches_up(i) || cabinet.faults[i] == APART; }
+static int leader_of(uint32_t round) { return cabinet.rotation[(round - 1) % (uint32_t)cabinet.n]; }
 static const uint8_t *slot(int i, uint32_t round) { return cabinet.cards[i].log + (size_t)(round - 1) * APOLLO_FRAME; }
+static uint32_t get32(const uint8_t *p) { return (uint32_t)p[0] << 24 | (uint32_t)p[1] << 16 | (uint32_t)p[2] << 8 | p[3]; }
+
+/* ---- turns */
+
+/* Does a correct card leave its turn empty though an entry waits? It may in the term's last f rounds, and while it is behind: another
+ * correct card has passed that round then. */
+static void note_turn(int i, const uint8_t *frame) {
+  const card *c = &cabinet.cards[i];
+  uint32_t round = get32(frame + 4);
+  int waits = 0;
+  if (cabinet.faults[i] != NONE || frame[0] != APOLLO_BLOCK || frame[2] || frame[3] || round + c->setup.f > cabinet.rounds) return;
+  for (int j = 0; j < cabinet.n; j++)
+    if (j != i && cabinet.faults[j] == NONE && cabinet.cards[j].record.round.value > round) return;
+  for (size_t k = 0; k < c->lined; k++) waits |= c->line[k].round == 0;
+  cabinet.missed += (uint32_t)waits;
+}
 
 /* ---- keys */
 
-/* A signature covers all that the cards share: n, f, T and the term (and the public keys, where there are some). Without the term
- * an old term's block 1 would be taken again. */
-static void sign_in_term(int signer, uint8_t term, const uint8_t *frame, uint8_t signature[SIGNATURE]) {
-  uint8_t text[APOLLO_DIGEST + 8 + APOLLO_FRAME] = {0};
-  uint8_t *shared = text + APOLLO_DIGEST;
+/* A signature covers all that the cards share: n, f, T, the rotation and the term (and the public keys, where there are some). Without
+ * the term an old term's block 1 would be taken again; without the rotation the blames of a card that goes by another one would count.
+ */
+static void sign_in_term(const card_setup *shared, int signer, uint8_t term, const uint8_t *frame, uint8_t signature[SIGNATURE]) {
+  uint8_t text[APOLLO_DIGEST + 5 + APOLLO_MAX_CARDS + APOLLO_FRAME] = {0};
+  uint8_t *to = text + APOLLO_DIGEST;
   memcpy(text, cabinet.key[signer], APOLLO_DIGEST);
-  shared[0] = (uint8_t)cabinet.n;
-  shared[1] = (uint8_t)cabinet.f;
-  shared[2] = (uint8_t)(cabinet.rounds >> 8);
-  shared[3] = (uint8_t)cabinet.rounds;
-  shared[4] = term;
-  memcpy(shared + 8, frame, APOLLO_FRAME);
+  to[0] = (uint8_t)(2 * shared->f + 1);
+  to[1] = shared->f;
+  to[2] = (uint8_t)(shared->rounds >> 8);
+  to[3] = (uint8_t)shared->rounds;
+  to[4] = term;
+  memcpy(to + 5, shared->rotation, APOLLO_MAX_CARDS);
+  memcpy(to + 5 + APOLLO_MAX_CARDS, frame, APOLLO_FRAME);
   apollo_digest(text, sizeof text, signature);
 }
 
-void host_sign(int signer, const uint8_t frame[APOLLO_FRAME], uint8_t signature[SIGNATURE]) {
-  sign_in_term(signer, TERM, frame, signature);
+void host_sign(const card_setup *setup, const uint8_t frame[APOLLO_FRAME], uint8_t signature[SIGNATURE]) {
+  sign_in_term(setup, setup->id, TERM, frame, signature);
+  note_turn(setup->id, frame);
 }
 
-int host_verify(const uint8_t frame[APOLLO_FRAME], const uint8_t signature[SIGNATURE]) {
+int host_verify(const card_setup *setup, const uint8_t frame[APOLLO_FRAME], const uint8_t signature[SIGNATURE]) {
   uint8_t right[SIGNATURE];
   if (frame[1] >= cabinet.n) return 0;
-  sign_in_term(frame[1], TERM, frame, right);
+  sign_in_term(setup, frame[1], TERM, frame, right);
   return memcmp(signature, right, SIGNATURE) == 0;
 }
 
@@ -172,8 +196,6 @@ static void put32(uint8_t *p, uint32_t v) {
   for (int k = 0; k < 4; k++) p[k] = (uint8_t)(v >> (24 - 8 * k));
 }
 
-static uint32_t get32(const uint8_t *p) { return (uint32_t)p[0] << 24 | (uint32_t)p[1] << 16 | (uint32_t)p[2] << 8 | p[3]; }
-
 /* Changes a block's entry, and makes its check and the liar's signature again. */
 static void make_twin(int liar, signed_block *b) {
   static const char other[] = "a twin";
@@ -182,7 +204,7 @@ static void make_twin(int liar, signed_block *b) {
   b->frame[2] = 0;
   b->frame[3] = sizeof other - 1;
   apollo_digest(b->frame, 480, b->frame + 480);
-  host_sign(liar, b->frame, b->signature);
+  host_sign(&cabinet.cards[liar].setup, b->frame, b->signature);
 }
 
 /* The liar's own blocks: one for the odd cards and another for the even ones, or hidden from all but one card. 0: not sent. */
@@ -208,7 +230,7 @@ static void blame_all(int from) {
       apollo_digest(frame, 480, frame + 480);
       p.blames.round = r;
       p.blames.signers = (uint16_t)(1u << from);
-      host_sign(from, frame, p.blames.signature[from]);
+      host_sign(&cabinet.cards[from].setup, frame, p.blames.signature[from]);
       if (to == from) continue;
       host_send(from, to, &p);
       cabinet.lies++;
@@ -231,7 +253,7 @@ static void junk_block(int from, signed_block *b) {
   if (way == 5) b->frame[450] = 1; /* not zero where it must be */
   apollo_digest(b->frame, 480, b->frame + 480);
   if (way == 6) b->frame[480] ^= 1; /* a wrong check */
-  sign_in_term(from, way == 0 ? TERM - 1 : TERM, b->frame, b->signature);
+  sign_in_term(&cabinet.cards[from].setup, from, way == 0 ? TERM - 1 : TERM, b->frame, b->signature);
 }
 
 static void send_junk(int from, int to) {
@@ -258,7 +280,7 @@ static void mask_as_newest(int from) {
   p.block.frame[1] = (uint8_t)from;
   put32(p.block.frame + 4, round);
   memcpy(p.block.frame + 12, slot(from, newest) + 480, APOLLO_DIGEST);
-  host_sign(from, p.block.frame, p.block.signature);
+  host_sign(&cabinet.cards[from].setup, p.block.frame, p.block.signature);
   for (int to = 0; to < cabinet.n; to++)
     if (to != from) carry(from, to, &p);
   cabinet.lies++;
@@ -278,16 +300,24 @@ static void lie(int from) {
 /* f cards in a row fail, so that their rounds follow each other. */
 static void choose_faults(void) {
   static const fault mixed[] = {DEAD, DEAF, ALL, MUTE, LOST, TWO, HIDE};
-  int first = (int)chance((uint32_t)cabinet.n);
-  for (int k = 0; k < cabinet.f; k++) cabinet.faults[(first + k) % cabinet.n] = cabinet.kind == MIXED ? mixed[k] : cabinet.kind;
+  uint32_t first = 1 + chance((uint32_t)cabinet.n);
+  for (int k = 0; k < cabinet.f; k++) cabinet.faults[leader_of(first + (uint32_t)k)] = cabinet.kind == MIXED ? mixed[k] : cabinet.kind;
 }
 
 static size_t entry_text(int i, int k, char text[TEXT]) {
   return (size_t)snprintf(text, TEXT, "card %d: group %d to night service", i, 100 * i + k);
 }
 
+/* A card that is set apart has the rotation backwards. */
 static void open_card(int i) {
-  card_setup setup = {(uint8_t)i, (uint8_t)cabinet.f, cabinet.rounds, cabinet.timeout, RETRY, IDLE, GRACE};
+  card_setup setup = {.f = (uint8_t)cabinet.f,
+                      .rounds = cabinet.rounds,
+                      .id = (uint8_t)i,
+                      .timeout = cabinet.timeout,
+                      .retry = RETRY,
+                      .idle = IDLE,
+                      .grace = GRACE};
+  for (int k = 0; k < cabinet.n; k++) setup.rotation[k] = cabinet.rotation[cabinet.faults[i] == APART ? cabinet.n - 1 - k : k];
   if (!card_open(&cabinet.cards[i], setup)) stop("a card cannot be opened");
   cabinet.is_open[i] = 1;
 }
@@ -329,7 +359,7 @@ static void turn(int i) {
 
 static int is_over(void) {
   for (int i = 0; i < cabinet.n; i++)
-    if (keeps_rules(i) && !(cabinet.is_open[i] && card_is_over(&cabinet.cards[i]))) return 0;
+    if (catches_up(i) && !(cabinet.is_open[i] && card_is_over(&cabinet.cards[i]))) return 0;
   return cabinet.now > SKEW;
 }
 
@@ -392,7 +422,7 @@ static int report_lists(int best) {
         printf("LISTS DIFFER: cards %d and %d part at round %u\n", j, i, parting(i, j));
         good = 0;
       }
-    if (keeps_rules(i) && good && !(card_is_over(&cabinet.cards[i]) && same_list(i, best))) {
+    if (catches_up(i) && good && !(card_is_over(&cabinet.cards[i]) && same_list(i, best))) {
       printf("NOT CAUGHT UP: card %d\n", i);
       good = 0;
     }
@@ -420,7 +450,8 @@ static int in_line(int i, const char *text, size_t len) {
   return 0;
 }
 
-/* Each entry of a card that keeps the rules and its state is on the list once, or still in its card's line for the next term. */
+/* Each entry of a card that keeps the rules and its state is on the list once, or still in its card's line for the next term; and none
+ * waited while a correct card left its turn empty. */
 static int report_entries(int best) {
   int all = 0, listed = 0, waiting = 0, lost = 0, twice = 0;
   uint32_t again = 0;
@@ -438,9 +469,9 @@ static int report_entries(int best) {
       twice += times + waits > 1;
     }
   }
-  printf("entries: %d given, %d on the list, %d wait for the next term, %u proposed again, %d lost, %d twice\n", all, listed, waiting,
-         again, lost, twice);
-  return listed > 0 && lost == 0 && twice == 0;
+  printf("entries: %d given, %d on the list, %d wait for the next term, %u proposed again, %d lost, %d twice, %u turns missed\n", all,
+         listed, waiting, again, lost, twice, cabinet.missed);
+  return listed > 0 && lost == 0 && twice == 0 && cabinet.missed == 0;
 }
 
 /* Premise: no correct card blamed a correct one's round. Deaf and mute cards are counted among the f. */
@@ -486,7 +517,7 @@ static void print_list(int i) {
 static int report(void) {
   int best = 0;
   for (int i = 0; i < cabinet.n; i++)
-    if (keeps_rules(i) && (!keeps_rules(best) || cabinet.acted[i] > cabinet.acted[best])) best = i;
+    if (catches_up(i) && (!catches_up(best) || cabinet.acted[i] > cabinet.acted[best])) best = i;
   if (cabinet.show_list) print_list(best);
   report_answers();
   int lists = report_lists(best), entries = report_entries(best), patient = report_blames();
@@ -503,9 +534,11 @@ static const char usage[] =
     "  --cards N      3 to 15, odd (3)\n"
     "  --seed S       of the random numbers (1)\n"
     "  --rounds T     of the term, 30 to 4096 (120)\n"
+    "  --rotation R   who leads: the number of every card, in turn, as in 2,0,1; or shuffled, by the seed (0,1,2 and so on)\n"
     "  --fault KIND   how f = (N - 1) / 2 cards fail (dead): none, dead, deaf or mute (for 900 ticks, then back), lost (the state:\n"
-    "                 they follow), two (blocks for one round), blames (of everybody), junk, hide (a block shown to one card only),\n"
-    "                 all (these four lies), mask (blocks with another's check), mixed (one of each, without mask)\n"
+    "                 they follow), apart (set up with another rotation: they stand still), two (blocks for one round), blames (of\n"
+    "                 everybody), junk, hide (a block shown to one card only), all (these four lies), mask (blocks with another's\n"
+    "                 check), mixed (one of each, without apart and mask)\n"
     "  --delay D      packets come after 1 to D ticks (6)\n"
     "  --loss K       one packet in K is lost, 0 for none (8)\n"
     "  --timeout W    ticks until a leader is blamed (by the rule of docs/HOSTS.md)\n"
@@ -531,6 +564,59 @@ static fault fault_named(const char *text) {
   wrong_usage();
 }
 
+/* A card's number in the rotation that was asked for. */
+static uint8_t card_named(const char *text, size_t len) {
+  unsigned long card = strtoul(text, NULL, 10);
+  int is_number = len > 0 && strspn(text, "0123456789") == len;
+  if (is_number && card < (unsigned long)cabinet.n) return (uint8_t)card;
+  fprintf(stderr, "cabinet: --rotation %s: \"%.*s\" is no %s\n", cabinet.asked, (int)len, text, is_number ? "card" : "number");
+  exit(2);
+}
+
+/* Every card must be there once. Where that is not so, says all that is wrong. */
+static void judge_rotation(int count, const int times[APOLLO_MAX_CARDS]) {
+  int right = 1;
+  for (int i = 0; i < cabinet.n; i++) right = right && times[i] == 1;
+  if (right) return;
+  fprintf(stderr, "cabinet: --rotation %s: %d numbers for %d cards", cabinet.asked, count, cabinet.n);
+  for (int i = 0; i < cabinet.n; i++)
+    if (times[i] != 1) fprintf(stderr, ", card %d is %s", i, times[i] ? "there more than once" : "missing");
+  fputc('\n', stderr);
+  exit(2);
+}
+
+static void read_rotation(void) {
+  int count = 0, times[APOLLO_MAX_CARDS] = {0};
+  for (const char *at = cabinet.asked; at; count++) {
+    size_t len = strcspn(at, ",");
+    uint8_t card = card_named(at, len);
+    times[card]++;
+    if (count < cabinet.n) cabinet.rotation[count] = card;
+    at = at[len] ? at + len + 1 : NULL;
+  }
+  judge_rotation(count, times);
+}
+
+static void shuffle_rotation(void) {
+  for (int k = cabinet.n - 1; k > 0; k--) {
+    uint32_t with = chance((uint32_t)k + 1);
+    uint8_t card = cabinet.rotation[k];
+    cabinet.rotation[k] = cabinet.rotation[with];
+    cabinet.rotation[with] = card;
+  }
+}
+
+/* The rotation that was asked for, which is printed if it is another than 0, 1, 2 and so on. */
+static void choose_rotation(void) {
+  int other = 0;
+  for (int k = 0; k < cabinet.n; k++) cabinet.rotation[k] = (uint8_t)k;
+  if (cabinet.asked && strcmp(cabinet.asked, "shuffled") == 0) shuffle_rotation();
+  else if (cabinet.asked) read_rotation();
+  for (int k = 0; k < cabinet.n; k++) other |= cabinet.rotation[k] != k;
+  for (int k = 0; other && k < cabinet.n; k++)
+    printf("%s%d%s", k ? "," : "rotation ", cabinet.rotation[k], k + 1 < cabinet.n ? "" : "\n");
+}
+
 /* Reads one option; the count of words that it took. */
 static int option(const char *word, const char *value) {
   if (strcmp(word, "--help") == 0) {
@@ -544,12 +630,13 @@ static int option(const char *word, const char *value) {
     return 1;
   }
   if (strcmp(word, "--fault") == 0) cabinet.kind = fault_named(value);
-  else if (strcmp(word, "--cards") == 0) cabinet.n = (int)number(value, 3, MAX_CARDS);
+  else if (strcmp(word, "--cards") == 0) cabinet.n = (int)number(value, 3, APOLLO_MAX_CARDS);
   else if (strcmp(word, "--seed") == 0) cabinet.seed = number(value, 0, UINT32_MAX);
   else if (strcmp(word, "--rounds") == 0) cabinet.rounds = number(value, LEAST_ROUNDS, APOLLO_MAX_ROUNDS);
   else if (strcmp(word, "--delay") == 0) cabinet.delay = number(value, 1, 1000);
   else if (strcmp(word, "--loss") == 0) cabinet.loss = number(value, 0, 1000);
   else if (strcmp(word, "--timeout") == 0) cabinet.timeout = number(value, 1, APOLLO_MAX_TIMEOUT);
+  else if (strcmp(word, "--rotation") == 0 && value) cabinet.asked = value;
   else wrong_usage();
   return 2;
 }
@@ -572,6 +659,7 @@ static void read_options(int argc, char **argv) {
   }
   if (cabinet.n % 2 == 0) wrong_usage();
   cabinet.f = (cabinet.n - 1) / 2;
+  choose_rotation();
   if (!cabinet.rounds) cabinet.rounds = 120;
   if (!cabinet.timeout) cabinet.timeout = safe_timeout();
   if (cabinet.timeout < safe_timeout())

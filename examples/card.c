@@ -13,7 +13,7 @@ static const uint8_t *digest_of(const uint8_t *frame) { return frame + 480; }
 static int same(const uint8_t *a, const uint8_t *b) { return memcmp(a, b, APOLLO_DIGEST) == 0; }
 
 static int cards(const card *c) { return 2 * c->setup.f + 1; }
-static int leader_of(const card *c, uint32_t round) { return (int)((round - 1) % (uint32_t)cards(c)); }
+static int leader_of(const card *c, uint32_t round) { return c->setup.rotation[(round - 1) % (uint32_t)cards(c)]; }
 static uint32_t waited(const card *c) { return c->record.round.value; }
 static uint32_t committed(const card *c) { return c->record.committed_round.value; }
 static size_t log_len(const card *c) { return (size_t)c->setup.rounds * APOLLO_FRAME; }
@@ -100,12 +100,16 @@ static proposal *next_proposal(card *c) {
   return NULL;
 }
 
+/* The next round that the card leads: the rotation has its number once. */
+static uint32_t next_led(const card *c) {
+  uint32_t r = waited(c);
+  while (leader_of(c, r) != c->setup.id) r++;
+  return r;
+}
+
 /* What the next call may propose. Nothing while the card is behind: it may then come to lead a round that the others passed over long
  * ago. Nothing for the term's last f rounds, which are not committed: it is proposed in the next term. */
-static proposal *lend(card *c) {
-  uint32_t turns = (uint32_t)(c->setup.id + cards(c) - leader_of(c, waited(c))) % (uint32_t)cards(c);
-  return is_behind(c) || waited(c) + turns + c->setup.f > c->setup.rounds ? NULL : next_proposal(c);
-}
+static proposal *lend(card *c) { return is_behind(c) || next_led(c) + c->setup.f > c->setup.rounds ? NULL : next_proposal(c); }
 
 /* Hands on what was committed since the last call, whichever it was: blames and ticks commit too. An own entry leaves the line when its
  * block is among that; where the slot does not hold that block, it was passed over for good, and the entry is proposed again. */
@@ -146,10 +150,10 @@ static void sign(card *c, const uint8_t *frame, proposal *lent) {
   uint32_t r = round_of(frame);
   int me = c->setup.id;
   if (frame[0] == APOLLO_BLAME) {
-    host_sign(me, frame, c->blames[r - 1].signature[me]);
+    host_sign(&c->setup, frame, c->blames[r - 1].signature[me]);
     c->blames[r - 1].signers |= bit(me);
   } else {
-    host_sign(me, frame, c->signature[r - 1]);
+    host_sign(&c->setup, frame, c->signature[r - 1]);
     if (!lent) return;
     lent->round = r;
     memcpy(lent->digest, digest_of(frame), APOLLO_DIGEST);
@@ -303,7 +307,7 @@ static void hear_block(card *c, int from, const signed_block *b) {
   kept_block *k = &c->kept[from][r % WINDOW];
   if (memcmp(slot(c, r), b->frame, APOLLO_FRAME) == 0 || (k->used && memcmp(k->block.frame, b->frame, APOLLO_FRAME) == 0)) return;
   apollo_digest(b->frame, 480, digest);
-  if (!same(digest, digest_of(b->frame)) || !host_verify(b->frame, b->signature)) return;
+  if (!same(digest, digest_of(b->frame)) || !host_verify(&c->setup, b->frame, b->signature)) return;
   see(c, b->frame[1], r);
   if (r > committed(c) + WINDOW) c->ask |= bit(from); /* too far ahead: what comes before it is needed first */
   else *k = (kept_block){.block = *b, .used = 1};
@@ -316,7 +320,7 @@ static void hear_blames(card *c, const signed_blames *b) {
     uint8_t frame[APOLLO_FRAME];
     if (!((b->signers & ~set->signers) >> i & 1)) continue;
     make_blame(b->round, i, frame);
-    if (!host_verify(frame, b->signature[i])) continue;
+    if (!host_verify(&c->setup, frame, b->signature[i])) continue;
     memcpy(set->signature[i], b->signature[i], SIGNATURE);
     set->signers |= bit(i);
     see(c, i, b->round);
@@ -397,15 +401,15 @@ int card_open(card *c, card_setup setup) {
   uint8_t out[APOLLO_OUT];
   memset(c, 0, sizeof *c);
   c->setup = setup;
-  if (apollo_version() != APOLLO_VERSION || t < 1 || t > APOLLO_MAX_ROUNDS || setup.retry < 1) return 0;
+  if (apollo_version() != APOLLO_VERSION || t < 1 || t > APOLLO_MAX_ROUNDS || setup.f > APOLLO_MAX_F || setup.retry < 1) return 0;
   c->log = malloc(t * APOLLO_FRAME);
   c->masks = malloc(t * sizeof *c->masks);
   c->signature = calloc(t, sizeof *c->signature);
   c->blames = calloc(t, sizeof *c->blames);
   if (!c->log || !c->masks || !c->signature || !c->blames) return 0;
   for (uint32_t r = 1; r <= setup.rounds; r++) c->blames[r - 1].round = r;
-  apollo_answer a = apollo_open(setup.id, setup.f, (apollo_ticks){setup.timeout}, (apollo_round){setup.rounds}, c->log, log_len(c),
-                                c->masks, t, NULL, 0, out, sizeof out);
+  apollo_answer a = apollo_open(setup.id, setup.f, (apollo_ticks){setup.timeout}, (apollo_round){setup.rounds}, setup.rotation,
+                                (size_t)cards(c), c->log, log_len(c), c->masks, t, NULL, 0, out, sizeof out);
   take(c, a, out, NULL);
   return a.number == APOLLO_TAKEN;
 }

@@ -7,11 +7,10 @@
 #include "apollo.h"
 
 enum {
-  NUMBERS = APOLLO_NOT_A_SET + 1, /* that the library answers: 0 and the refusals */
-  MAX_CARDS = 2 * APOLLO_MAX_F + 1,
-  SIGNATURE = 32, /* bytes of a signature: 64 for Ed25519 */
-  WINDOW = 32,    /* rounds above the committed one whose blocks are kept, and that an answer has: 2 f + 1 at least (docs/HOSTS.md) */
-  LINE = 64       /* entries that wait to be proposed */
+  NUMBERS = APOLLO_BAD_ROTATION + 1, /* that the library answers: 0 and the refusals */
+  SIGNATURE = 32,                    /* bytes of a signature: 64 for Ed25519 */
+  WINDOW = 32, /* rounds above the committed one whose blocks are kept, and that an answer has: 2 f + 1 at least (docs/HOSTS.md) */
+  LINE = 64    /* entries that wait to be proposed */
 };
 
 /* ---- what travels between hosts */
@@ -28,7 +27,7 @@ typedef struct {
 typedef struct {
   uint32_t round;
   uint16_t signers;
-  uint8_t signature[MAX_CARDS][SIGNATURE];
+  uint8_t signature[APOLLO_MAX_CARDS][SIGNATURE];
 } signed_blames;
 
 /* Where a card stands. It asks a card that is ahead for what is missing, and shows whether two lists have parted. */
@@ -53,8 +52,12 @@ typedef struct {
 /* ---- one card */
 
 typedef struct {
-  uint8_t id, f;
-  uint32_t rounds;  /* T */
+  /* What all cards of a term share, and every signature covers. */
+  uint8_t f;
+  uint8_t rotation[APOLLO_MAX_CARDS]; /* the numbers of all cards, 2 f + 1 of them, in the order in which they lead */
+  uint32_t rounds;                    /* T */
+  /* The card's own. */
+  uint8_t id;
   uint32_t timeout; /* ticks until a round's leader is blamed: the rule is in docs/HOSTS.md */
   uint32_t retry;   /* ticks without a new round until all is sent and asked for again */
   uint32_t idle;    /* ticks that the card puts its round off while no entry waits */
@@ -82,17 +85,17 @@ typedef struct {
   apollo_replica record; /* record, log and masks are the card's state: no one but the calls changes them */
   uint8_t *log;
   uint16_t *masks;
-  uint8_t (*signature)[SIGNATURE];       /* of the block in each slot */
-  signed_blames *blames;                 /* of each round; the masks say which of them the library has */
-  kept_block kept[MAX_CARDS][WINDOW];    /* by sender and round: no sender pushes out what another sent */
-  uint8_t frames[WINDOW * APOLLO_FRAME]; /* of the call under way: a branch, or the blames of a round */
-  proposal line[LINE];                   /* entries until they are on the list, oldest first */
+  uint8_t (*signature)[SIGNATURE];           /* of the block in each slot */
+  signed_blames *blames;                     /* of each round; the masks say which of them the library has */
+  kept_block kept[APOLLO_MAX_CARDS][WINDOW]; /* by sender and round: no sender pushes out what another sent */
+  uint8_t frames[WINDOW * APOLLO_FRAME];     /* of the call under way: a branch, or the blames of a round */
+  proposal line[LINE];                       /* entries until they are on the list, oldest first */
   size_t lined;
-  uint32_t now, moved;        /* ticks since the opening, and at the last new round */
-  uint32_t closed[MAX_CARDS]; /* until when a card's questions are not answered again */
-  uint32_t seen[MAX_CARDS];   /* the highest round in a frame that this card signed */
-  uint32_t acted;             /* rounds whose entries were handed to host_act */
-  uint16_t heard, ask;        /* cards that were heard; cards to ask at the end of the tick */
+  uint32_t now, moved;               /* ticks since the opening, and at the last new round */
+  uint32_t closed[APOLLO_MAX_CARDS]; /* until when a card's questions are not answered again */
+  uint32_t seen[APOLLO_MAX_CARDS];   /* the highest round in a frame that this card signed */
+  uint32_t acted;                    /* rounds whose entries were handed to host_act */
+  uint16_t heard, ask;               /* cards that were heard; cards to ask at the end of the tick */
   int next_peer;
   uint32_t progress;         /* grows with every new frame and every new round: only then is anything tried again */
   uint32_t again;            /* entries put back in line because their blocks were passed over */
@@ -115,9 +118,11 @@ int card_is_over(const card *c);
 /* ---- what your program brings */
 
 void host_send(int from, int to, const packet *p);
-void host_sign(int signer, const uint8_t frame[APOLLO_FRAME], uint8_t signature[SIGNATURE]);
-/* Is it the signature of the frame's signer, byte 1, for this term? */
-int host_verify(const uint8_t frame[APOLLO_FRAME], const uint8_t signature[SIGNATURE]);
+/* Signs a frame of the card that is set up so, for this term. The signature covers what all cards share: n, f, T and the rotation, as
+ * this card has them, the term's number and all public keys. */
+void host_sign(const card_setup *setup, const uint8_t frame[APOLLO_FRAME], uint8_t signature[SIGNATURE]);
+/* Is it the signature of the frame's signer, byte 1, for this term and for what the card that asks shares with the others? */
+int host_verify(const card_setup *setup, const uint8_t frame[APOLLO_FRAME], const uint8_t signature[SIGNATURE]);
 /* An entry is on the list for good: act on it. In the order of the list, each once. An empty entry is not told. */
 void host_act(int id, uint32_t round, const uint8_t *entry, size_t len);
 /* Something that a repairer must see. */

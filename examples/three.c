@@ -10,6 +10,8 @@
 
 enum { CARDS = 3, F = 1, T = 8, QUEUE = 16 };
 
+static const uint8_t rotation[CARDS] = {0, 1, 2}; /* who leads round 1, 2 and 3, then again: the same at all cards */
+
 typedef struct {
   apollo_replica record; /* record, log and masks: a card's state */
   uint8_t log[APOLLO_FRAME * T];
@@ -67,8 +69,8 @@ int main(void) {
   for (int i = 0; i < CARDS; i++) {
     card *c = &cards[i];
     size_t len = next_entry(i);
-    apollo_answer a =
-        apollo_open((uint8_t)i, F, timeout, last_round, c->log, sizeof c->log, c->masks, T, entry, len, out, sizeof out);
+    apollo_answer a = apollo_open((uint8_t)i, F, timeout, last_round, rotation, CARDS, c->log, sizeof c->log, c->masks, T, entry, len,
+                                  out, sizeof out);
     if (after(i, a) != APOLLO_TAKEN) return 1;
   }
   for (int t = 0; t < 20; t++)
