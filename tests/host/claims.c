@@ -1,6 +1,6 @@
 /* What the header tells a host's engineer beyond each call is so: slots, masks and leaders; which frames may be needed again; what an
- * old term's frames do; what a blame is, and a set of them; which calls commit, and what. Three cards, f = 1. Exits with 0 if all is
- * so. */
+ * old term's frames do; what a blame is, and a set of them; which calls commit, and what; what a rotation is, and what it decides.
+ * Three cards, f = 1, where nothing else is said. Exits with 0 if all is so. */
 #include "apollo.h"
 #include "expect.h"
 
@@ -16,13 +16,16 @@ typedef struct {
 
 static uint8_t out[APOLLO_OUT];
 
-static apollo_answer open_card(card *c, uint8_t id, const char *entry) {
-  apollo_answer a = apollo_open(id, 1, (apollo_ticks){2}, (apollo_round){T}, c->log, LOG, c->masks, T, (const uint8_t *)entry,
-                                strlen(entry), out, sizeof out);
+static apollo_answer open_in(card *c, uint8_t id, const uint8_t rotation[3], const char *entry) {
+  apollo_answer a = apollo_open(id, 1, (apollo_ticks){2}, (apollo_round){T}, rotation, 3, c->log, LOG, c->masks, T,
+                                (const uint8_t *)entry, strlen(entry), out, sizeof out);
   EXPECT(a.number == APOLLO_TAKEN);
   c->record = a.replica;
   return a;
 }
+
+static const uint8_t in_order[3] = {0, 1, 2};
+static apollo_answer open_card(card *c, uint8_t id, const char *entry) { return open_in(c, id, in_order, entry); }
 
 static apollo_answer branch(card *c, const uint8_t *frames, size_t count) {
   apollo_answer a =
@@ -75,7 +78,7 @@ static int same_record(apollo_replica a, apollo_replica b) {
   return a.id == b.id && a.f == b.f && a.timeout.value == b.timeout.value && a.last_round.value == b.last_round.value &&
          a.round.value == b.round.value && a.timer.value == b.timer.value && a.tip_round.value == b.tip_round.value &&
          a.tip_height.value == b.tip_height.value && a.committed_round.value == b.committed_round.value &&
-         a.committed_height.value == b.committed_height.value;
+         a.committed_height.value == b.committed_height.value && memcmp(a.rotation, b.rotation, sizeof a.rotation) == 0;
 }
 
 static card zero, other, one, two;
@@ -97,7 +100,7 @@ static void stale_parent(void) {
   EXPECT(branch(&two, pair, 2).number == APOLLO_TAKEN);
 }
 
-/* Slot r begins at byte 512 (r - 1), bit i of mask r - 1 is card i's blame, a part lies in its slot, the leader is (R - 1) mod n. */
+/* Slot r begins at byte 512 (r - 1), bit i of mask r - 1 is card i's blame, a part lies in its slot, the leader sits at (R - 1) mod n. */
 static void layout_of_state(void) {
   uint8_t first[APOLLO_FRAME];
   apollo_answer a = open_card(&zero, 0, "A");
@@ -234,7 +237,8 @@ static void what_calls_leave(void) {
   EXPECT(tick(&two).number == APOLLO_TAKEN && tick(&two).frames == 1 && two.record.timer.value == 0 && two.record.round.value == 1);
   EXPECT(branch(&two, first, 1).number == APOLLO_TAKEN && two.record.round.value == 2 && two.record.timer.value == 2);
   EXPECT(branch(&zero, second, 1).number == APOLLO_TAKEN && zero.record.committed_round.value == 1);
-  EXPECT(apollo_open(0, 1, (apollo_ticks){2}, (apollo_round){1}, zero.log, APOLLO_FRAME, zero.masks, 1, NULL, 0, out, sizeof out)
+  EXPECT(apollo_open(0, 1, (apollo_ticks){2}, (apollo_round){1}, in_order, 3, zero.log, APOLLO_FRAME, zero.masks, 1, NULL, 0, out,
+                     sizeof out)
              .number == APOLLO_TAKEN);
 }
 
@@ -348,6 +352,173 @@ static void terms_and_lag(void) {
   EXPECT(branch(&two, late, 1).number == APOLLO_STALE);
 }
 
+/* What open is lent, its rotation apart. */
+typedef struct {
+  uint8_t id, f;
+  uint32_t timeout;
+  size_t log_len, masks_len, entry_len, out_len;
+} lent;
+
+static const lent right = {0, 1, 2, LOG, T, 3, APOLLO_OUT};
+
+/* How open answers. A refusal leaves the buffers as they were and gives a record of zeros. */
+static int opens(lent l, const uint8_t *rotation, size_t rotation_len) {
+  static const uint8_t entry[APOLLO_ENTRY + 1];
+  static const apollo_replica zeros;
+  static card before;
+  static uint8_t tray[APOLLO_OUT];
+  memset(&before, 5, sizeof before);
+  memset(&other, 5, sizeof other);
+  memset(tray, 5, sizeof tray);
+  memset(out, 5, sizeof out);
+  apollo_answer a = apollo_open(l.id, l.f, (apollo_ticks){l.timeout}, (apollo_round){T}, rotation, rotation_len, other.log, l.log_len,
+                                other.masks, l.masks_len, entry, l.entry_len, out, l.out_len);
+  if (a.number == APOLLO_TAKEN) return a.number;
+  EXPECT(a.frames == 0 && a.leader == APOLLO_NO_LEADER && a.place == 0 && same_record(a.replica, zeros));
+  EXPECT(memcmp(&other, &before, sizeof other) == 0 && memcmp(out, tray, sizeof out) == 0);
+  return a.number;
+}
+
+/* A rotation has every card once: of all triples of numbers up to 3 the six orders of 0, 1, 2 are taken, and no other length is. */
+static void rotations(void) {
+  static const uint8_t five[APOLLO_MAX_CARDS + 2] = {1, 2, 0, 3, 4};
+  uint8_t seats[APOLLO_MAX_CARDS];
+  int taken = 0;
+  for (int k = 0; k < 64; k++) {
+    const uint8_t triple[3] = {(uint8_t)(k & 3), (uint8_t)(k >> 2 & 3), (uint8_t)(k >> 4)};
+    int number = opens(right, triple, 3), has = 1 << triple[0] | 1 << triple[1] | 1 << triple[2];
+    EXPECT(number == (has == 7 ? APOLLO_TAKEN : APOLLO_BAD_ROTATION));
+    taken += number == APOLLO_TAKEN;
+  }
+  EXPECT(taken == 6);
+  for (size_t len = 0; len <= sizeof five; len++) EXPECT(opens(right, five, len) == (len == 3 ? APOLLO_TAKEN : APOLLO_BAD_ROTATION));
+  for (int seat = 0; seat < 3; seat++)
+    for (int number = 3; number < 256; number++) {
+      memcpy(seats, in_order, 3);
+      seats[seat] = (uint8_t)number;
+      EXPECT(opens(right, seats, 3) == APOLLO_BAD_ROTATION);
+    }
+}
+
+/* 15 cards, with the last one first; no card may be there in place of another. */
+static void most_cards(void) {
+  uint8_t seats[APOLLO_MAX_CARDS];
+  lent l = right;
+  l.f = APOLLO_MAX_F;
+  for (int k = 0; k < APOLLO_MAX_CARDS; k++) seats[k] = (uint8_t)(APOLLO_MAX_CARDS - 1 - k);
+  apollo_answer a = apollo_open(14, 7, (apollo_ticks){2}, (apollo_round){T}, seats, sizeof seats, zero.log, LOG, zero.masks, T, NULL, 0,
+                                out, sizeof out);
+  EXPECT(a.number == APOLLO_TAKEN && a.frames == 1 && a.leader == 13 && memcmp(a.replica.rotation, seats, sizeof seats) == 0);
+  EXPECT(opens(l, seats, sizeof seats) == APOLLO_TAKEN && opens(l, seats, sizeof seats - 1) == APOLLO_BAD_ROTATION);
+  for (int k = 0; k < APOLLO_MAX_CARDS; k++) {
+    seats[k] ^= 1; /* another card's number, or 15 */
+    EXPECT(opens(l, seats, sizeof seats) == APOLLO_BAD_ROTATION);
+    seats[k] ^= 1;
+  }
+}
+
+/* 17 comes after 1 and before 4 and 5. */
+static void order_of_refusals(void) {
+  static const uint8_t twice[3] = {0, 1, 1};
+  const lent wrong[] = {{3, 1, 2, LOG, T, 3, APOLLO_OUT},
+                        {0, 0, 2, LOG, T, 3, APOLLO_OUT},
+                        {0, 8, 2, LOG, T, 3, APOLLO_OUT},
+                        {0, 1, 0, LOG, T, 3, APOLLO_OUT},
+                        {0, 1, APOLLO_MAX_TIMEOUT + 1, LOG, T, 3, APOLLO_OUT},
+                        {0, 1, 2, LOG - 1, T, 3, APOLLO_OUT},
+                        {0, 1, 2, LOG, T - 1, 3, APOLLO_OUT}};
+  for (size_t k = 0; k < sizeof wrong / sizeof *wrong; k++)
+    EXPECT(opens(wrong[k], in_order, 3) == APOLLO_BAD_SETUP && opens(wrong[k], twice, 3) == APOLLO_BAD_SETUP);
+  lent l = right;
+  l.entry_len = APOLLO_ENTRY + 1;
+  EXPECT(opens(l, twice, 3) == APOLLO_BAD_ROTATION && opens(l, in_order, 3) == APOLLO_ENTRY_TOO_LONG);
+  l.out_len = APOLLO_OUT - 1;
+  EXPECT(opens(l, twice, 3) == APOLLO_BAD_ROTATION && opens(l, in_order, 3) == APOLLO_OUT_TOO_SHORT);
+}
+
+/* A whole term by a rotation, without faults: its card proposes each round, and its card is told as the leader. The record keeps it. */
+static void lead_by(const uint8_t rotation[3]) {
+  static const uint8_t none[APOLLO_MAX_CARDS - 3];
+  card *const cards[3] = {&zero, &one, &two};
+  uint8_t block[APOLLO_FRAME] = {0}, next[APOLLO_FRAME] = {0};
+  for (uint8_t i = 0; i < 3; i++) {
+    apollo_answer a = open_in(cards[i], i, rotation, "A");
+    EXPECT(a.frames == (i == rotation[0]) && a.leader == rotation[a.frames] && cards[i]->record.round.value == 1u + a.frames);
+    if (a.frames) memcpy(block, out, APOLLO_FRAME);
+  }
+  EXPECT(block[44] == 'A');
+  for (uint8_t round = 1; round <= T; round++) {
+    EXPECT(block[1] == rotation[(round - 1) % 3] && block[7] == round);
+    for (uint8_t i = 0; i < 3; i++) {
+      if (i == block[1]) continue;
+      apollo_answer a = branch(cards[i], block, 1);
+      EXPECT(a.number == APOLLO_TAKEN && a.frames == (round < T && i == rotation[round % 3]));
+      EXPECT(a.leader == (round + a.frames < T ? rotation[(round + a.frames) % 3] : APOLLO_NO_LEADER));
+      if (a.frames) memcpy(next, out, APOLLO_FRAME);
+    }
+    memcpy(block, next, APOLLO_FRAME);
+  }
+  for (int i = 0; i < 3; i++)
+    EXPECT(memcmp(cards[i]->record.rotation, rotation, 3) == 0 && memcmp(cards[i]->record.rotation + 3, none, sizeof none) == 0);
+}
+
+static void leaders(void) {
+  static const uint8_t all[6][3] = {{0, 1, 2}, {0, 2, 1}, {1, 0, 2}, {1, 2, 0}, {2, 0, 1}, {2, 1, 0}};
+  for (int k = 0; k < 6; k++) lead_by(all[k]);
+}
+
+/* Does every call with card 2's log and masks refuse this record with 2, and hand it back? */
+static int is_no_record(apollo_replica r) {
+  static uint8_t frame[APOLLO_FRAME];
+  apollo_answer a[4];
+  card c = two;
+  a[0] = apollo_branch(r, c.log, LOG, c.masks, T, frame, sizeof frame, NULL, 0, out, sizeof out);
+  a[1] = apollo_blame(r, c.log, LOG, c.masks, T, frame, sizeof frame, NULL, 0, out, sizeof out);
+  a[2] = apollo_blames(r, c.log, LOG, c.masks, T, frame, sizeof frame, NULL, 0, out, sizeof out);
+  a[3] = apollo_tick(r, c.log, LOG, c.masks, T, NULL, 0, out, sizeof out);
+  for (int k = 0; k < 4; k++)
+    if (a[k].number != APOLLO_BAD_REPLICA || !same_record(a[k].replica, r)) return 0;
+  return apollo_read(r, c.log, LOG, (apollo_height){1}).number == APOLLO_BAD_REPLICA &&
+         apollo_fetch(r, c.log, LOG, (apollo_height){0}, out, sizeof out).number == APOLLO_BAD_REPLICA;
+}
+
+/* A record whose rotation is none, is not zero past n or gives the card the round that it waits for is answered 2 by every call. That
+ * the host put another rotation there no call can see. */
+static void rotation_of_record(void) {
+  apollo_replica r;
+  open_card(&two, 2, "");
+  for (int k = 0; k < APOLLO_MAX_CARDS; k++)
+    for (int number = 1; number < 256; number++) {
+      r = two.record;
+      r.rotation[k] = (uint8_t)(r.rotation[k] + number);
+      EXPECT(is_no_record(r));
+    }
+  r = two.record;
+  memset(r.rotation, 0, sizeof r.rotation);
+  EXPECT(is_no_record(r));
+  memcpy(r.rotation, (const uint8_t[]){2, 1, 0}, 3); /* round 1 would be its own */
+  EXPECT(is_no_record(r));
+  memcpy(r.rotation, (const uint8_t[]){1, 0, 2}, 3);
+  two.record = r;
+  EXPECT(tick(&two).leader == 1 && two.record.timer.value == 1);
+}
+
+/* A card that was opened with another rotation takes no block of the others, and they none of its; but blames go both ways. */
+static void another_rotation(void) {
+  static const uint8_t exchanged[3] = {1, 0, 2};
+  uint8_t ours[APOLLO_FRAME], its[APOLLO_FRAME];
+  open_card(&zero, 0, "A");
+  memcpy(ours, out, APOLLO_FRAME);
+  open_card(&two, 2, "");
+  open_in(&one, 1, exchanged, "B");
+  memcpy(its, out, APOLLO_FRAME);
+  EXPECT(its[1] == 1 && its[7] == 1 && branch(&two, its, 1).number == APOLLO_BAD_FORM && branch(&two, ours, 1).number == APOLLO_TAKEN);
+  open_in(&one, 2, exchanged, "");
+  apollo_answer a = branch(&one, ours, 1);
+  EXPECT(a.number == APOLLO_BAD_FORM && a.place == 0 && branch(&one, its, 1).number == APOLLO_TAKEN);
+  EXPECT(blame(&one, 2, 0).number == APOLLO_TAKEN && blame(&two, 2, 1).number == APOLLO_TAKEN);
+}
+
 int main(void) {
   EXPECT(apollo_version() == APOLLO_VERSION);
   stale_parent();
@@ -362,6 +533,12 @@ int main(void) {
   false_height();
   skipped_round();
   terms_and_lag();
+  rotations();
+  most_cards();
+  order_of_refusals();
+  leaders();
+  rotation_of_record();
+  another_rotation();
   puts("what the header tells a host is so");
   return 0;
 }

@@ -7,6 +7,7 @@
 
 enum { T = 6, LOG = APOLLO_FRAME * T };
 
+static const uint8_t rotation[3] = {0, 1, 2};
 static uint8_t log_[LOG], out[APOLLO_OUT];
 static uint16_t masks[T];
 
@@ -20,7 +21,7 @@ static int proposed(apollo_answer a, uint8_t round) {
 }
 
 static apollo_answer open_card(uint8_t id) {
-  return apollo_open(id, 1, (apollo_ticks){1}, (apollo_round){T}, log_, LOG, masks, T, NULL, 0, out, sizeof out);
+  return apollo_open(id, 1, (apollo_ticks){1}, (apollo_round){T}, rotation, 3, log_, LOG, masks, T, NULL, 0, out, sizeof out);
 }
 
 static uint8_t block[APOLLO_FRAME], blame[APOLLO_FRAME]; /* card 0's block of round 1 and blame of round 2 */
@@ -56,9 +57,12 @@ int main(void) {
   uint8_t digest[APOLLO_DIGEST];
   apollo_ticks one = {1};
   apollo_round last = {T};
-  EXPECT(apollo_open(0, 1, one, last, NULL, 0, masks, T, NULL, 0, out, sizeof out).number == APOLLO_BAD_SETUP);
-  EXPECT(apollo_open(0, 1, one, last, log_, LOG, NULL, 0, NULL, 0, out, sizeof out).number == APOLLO_BAD_SETUP);
-  EXPECT(apollo_open(0, 1, one, last, log_, LOG, masks, T, NULL, 0, NULL, 0).number == APOLLO_OUT_TOO_SHORT);
+  EXPECT(apollo_open(0, 1, one, last, rotation, 3, NULL, 0, masks, T, NULL, 0, out, sizeof out).number == APOLLO_BAD_SETUP);
+  EXPECT(apollo_open(0, 1, one, last, rotation, 3, log_, LOG, NULL, 0, NULL, 0, out, sizeof out).number == APOLLO_BAD_SETUP);
+  EXPECT(apollo_open(0, 1, one, last, NULL, 0, log_, LOG, masks, T, NULL, 0, out, sizeof out).number == APOLLO_BAD_ROTATION);
+  EXPECT(apollo_open(0, 1, one, last, NULL, 0, NULL, 0, NULL, 0, NULL, 0, NULL, 0).number == APOLLO_BAD_SETUP);
+  EXPECT(apollo_open(0, 1, one, last, NULL, 0, log_, LOG, masks, T, NULL, 0, NULL, 0).number == APOLLO_BAD_ROTATION);
+  EXPECT(apollo_open(0, 1, one, last, rotation, 3, log_, LOG, masks, T, NULL, 0, NULL, 0).number == APOLLO_OUT_TOO_SHORT);
   apollo_answer a = open_card(0);
   EXPECT(proposed(a, 1));
   memcpy(block, out, sizeof block);
