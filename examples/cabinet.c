@@ -544,7 +544,8 @@ static const char usage[] =
     "  --timeout W    ticks until a leader is blamed (by the rule of docs/HOSTS.md)\n"
     "  --impatient    no fault but a timeout of 2 ticks: correct cards blame each other, and the lists part\n"
     "  --list         print the committed list\n"
-    "Ends with 0 if all lists agree, no entry is lost and every premise was kept; with 1 if not.\n";
+    "Ends with 0 if all lists agree, no entry is lost or misses a turn and every premise was kept; with 1 if not; with 2 if it cannot\n"
+    "run: a wrong option, say.\n";
 
 static _Noreturn void wrong_usage(void) {
   fputs(usage, stderr);
@@ -569,7 +570,8 @@ static uint8_t card_named(const char *text, size_t len) {
   unsigned long card = strtoul(text, NULL, 10);
   int is_number = len > 0 && strspn(text, "0123456789") == len;
   if (is_number && card < (unsigned long)cabinet.n) return (uint8_t)card;
-  fprintf(stderr, "cabinet: --rotation %s: \"%.*s\" is no %s\n", cabinet.asked, (int)len, text, is_number ? "card" : "number");
+  fprintf(stderr, "cabinet: --rotation %s: \"%.*s\" is no %s, cards are 0 to %d\n", cabinet.asked, (int)len, text,
+          is_number ? "card" : "number", cabinet.n - 1);
   exit(2);
 }
 
