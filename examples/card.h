@@ -102,7 +102,7 @@ typedef struct {
   uint32_t answers[NUMBERS]; /* of the library, by number */
 } card;
 
-/* 0 if the library refused, the archive is of another version or memory is short. Close it in any case. */
+/* 0 if the set-up is refused, the archive is of another version or memory is short. Close it in any case. */
 int card_open(card *c, card_setup setup);
 void card_close(card *c);
 /* Puts an entry of 1 to 400 bytes in line; 0 if it does not fit. It stays in `line` until it is on the list; what is left there when
