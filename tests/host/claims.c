@@ -519,6 +519,23 @@ static void another_rotation(void) {
   EXPECT(blame(&one, 2, 0).number == APOLLO_TAKEN && blame(&two, 2, 1).number == APOLLO_TAKEN);
 }
 
+/* Two cards with a rotation each, and nobody lies: both lead round 1, both pass over round 2, and their lists part (AGREEMENT.md). */
+static void parted_by_rotations(void) {
+  static const uint8_t first[3] = {0, 2, 1}, second[3] = {1, 2, 0};
+  uint8_t blocks[2][APOLLO_FRAME];
+  card *const cards[2] = {&zero, &one};
+  for (uint8_t i = 0; i < 2; i++) {
+    EXPECT(open_in(cards[i], i, i ? second : first, i ? "B" : "A").leader == 2);
+    memcpy(blocks[i], out, APOLLO_FRAME);
+  }
+  for (uint8_t i = 0; i < 2; i++) {
+    EXPECT(branch(cards[i], blocks[1 - i], 1).number == APOLLO_BAD_FORM);
+    EXPECT(tick(cards[i]).frames == 0 && tick(cards[i]).frames == 1);
+    EXPECT(blame(cards[i], 2, (uint8_t)(1 - i)).number == APOLLO_TAKEN && stands(cards[i], 3, 1, 1));
+  }
+  EXPECT(zero.log[44] == 'A' && one.log[44] == 'B');
+}
+
 int main(void) {
   EXPECT(apollo_version() == APOLLO_VERSION);
   stale_parent();
@@ -539,6 +556,7 @@ int main(void) {
   leaders();
   rotation_of_record();
   another_rotation();
+  parted_by_rotations();
   puts("what the header tells a host is so");
   return 0;
 }
