@@ -4,9 +4,12 @@ use mathlib.Core.Bool.{Bool, _&&_, not}
 use mathlib.Core.List.{List}
 use Prim.Native.Nat.{ℕ}
 use lib.Dec.{eqb, leb}
+use lib.ListN.{take}
 use Rattle.apollo.specs.declared.Replica.{Replica}
 use Rattle.apollo.specs.declared.Setup.{Setup}
-use Rattle.apollo.specs.Setup.{setupOf, leader, validRotation}
+use Rattle.apollo.specs.Bytes.{blank}
+use Rattle.apollo.specs.Rotation.{isRotation}
+use Rattle.apollo.specs.Setup.{setupOf, replicas, leader, validRotation}
 use Rattle.apollo.specs.Replica.{leads, validSetup, validRounds, validReplica}
 
 -- the test of a leader, from what the code found it to be
@@ -16,7 +19,8 @@ unfolding leads
 leads-test r s l d e = rw (e, d)
 
 -- the test of a record, from its four parts
-pub replica-test : (r : Replica) (log : List ℕ) {s t v l : Bool} {u : Setup} → s ≡ validSetup r log → u ≡ setupOf r
-    → t ≡ validRotation u → v ≡ validRounds r → l ≡ leads r → s && t && v && not l ≡ validReplica r log
-unfolding validReplica
-replica-test r log a u b c d = rw (a, b, u, c, d)
+pub replica-test : (r : Replica) (log : List ℕ) {s t v l : Bool} → s ≡ validSetup r log
+    → t ≡ isRotation (replicas (setupOf r)) (take (replicas (setupOf r)) (r .rotation)) && blank (r .rotation) (replicas (setupOf r)) 15
+    → v ≡ validRounds r → l ≡ leads r → s && t && v && not l ≡ validReplica r log
+unfolding validReplica validRotation
+replica-test r log a b c d = rw (a, b, c, d)

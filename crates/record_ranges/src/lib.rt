@@ -51,7 +51,9 @@ fn valid_rounds(r: Replica) -> bool
 pub fn valid_replica(r: Replica, log: &[u8]) -> bool
     ensures { λ b. ⌜ b ≡ validReplica r (now (log .entry)) ⌝ }
 {
-    valid_setup(r, log) & rotation::valid_rotation(record::setup(r)) & valid_rounds(r) & !leads(r)
+    let seats = r.rotation;
+    let n = 2 * (r.f as usize) + 1;
+    valid_setup(r, log) & rotation::is_rotation(seats, n) & valid_rounds(r) & !leads(r)
 }
 
 // There is one mask a round.

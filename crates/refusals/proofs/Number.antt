@@ -1,14 +1,16 @@
 -- The numbers by the code's tests. Assumes nothing.
-use mathlib.Core.Path.{_≡_, ap, _∙_}
+use mathlib.Core.Path.{_≡_}
 use mathlib.Core.Bool.{Bool, true, false, _&&_, not}
 use mathlib.Core.List.{List}
 use Prim.Native.Nat.{ℕ, _+_, _≤_, _<_}
 use lib.Dec.{eqb}
+use lib.ListN.{take}
 use borrow.Author.Tests.{eq-eqb, ne-eqb, lt-ltb, le-ltb, not-true, not-false}
 use Rattle.apollo.specs.declared.Replica.{Replica}
-use Rattle.apollo.specs.declared.Setup.{Setup}
 use Rattle.apollo.specs.declared.Verdict.{Verdict}
 use Rattle.apollo.specs.Judging.{verdict}
+use Rattle.apollo.specs.Bytes.{blank}
+use Rattle.apollo.specs.Rotation.{isRotation}
 use Rattle.apollo.specs.Setup.{setupOf, replicas, validRotation}
 use Rattle.apollo.specs.Replica.{validSetup, validReplica, validMasks}
 use Rattle.branch.specs.declared.Judged.{Judged}
@@ -39,15 +41,17 @@ module _ (r : Replica) (log masks : List ℕ) (entry out : ℕ) where
     unfolding openNumber
     open-setup t = rw (← ea, ← eb, not-true (a && b) t)
 
-    module _ (c : Bool) (s : Setup) (es : s ≡ setupOf r) (ec : c ≡ validRotation s) (t : not (a && b) ≡ false) where
+    module _ (c : Bool)
+        (ec : c ≡ isRotation (replicas (setupOf r)) (take (replicas (setupOf r)) (r .rotation)) && blank (r .rotation) (replicas (setupOf r)) 15)
+        (t : not (a && b) ≡ false) where
       pub open-rotation : not (eqb seats (replicas (setupOf r)) && c) ≡ true → 17 ≡ openNumber r seats log masks entry out
-      unfolding openNumber
-      open-rotation u = rw (← ea, ← eb, ← (ec ∙ ap validRotation es), not-false (a && b) t, not-true (eqb seats (replicas (setupOf r)) && c) u)
+      unfolding openNumber validRotation
+      open-rotation u = rw (← ea, ← eb, ← ec, not-false (a && b) t, not-true (eqb seats (replicas (setupOf r)) && c) u)
 
       pub open-room : (n : ℕ) → not (eqb seats (replicas (setupOf r)) && c) ≡ false → n ≡ roomNumber entry out
           → n ≡ openNumber r seats log masks entry out
-      unfolding openNumber
-      open-room n u e = rw (← ea, ← eb, ← (ec ∙ ap validRotation es), not-false (a && b) t, not-false (eqb seats (replicas (setupOf r)) && c) u) e
+      unfolding openNumber validRotation
+      open-room n u e = rw (← ea, ← eb, ← ec, not-false (a && b) t, not-false (eqb seats (replicas (setupOf r)) && c) u) e
 
   -- 2 and 3
   module _ (a b : Bool) (ea : a ≡ validReplica r log) (eb : b ≡ validMasks r masks) where

@@ -29,7 +29,9 @@ pub fn of_open(r: Replica, seats: usize, log: &[u8], masks: &[u16], entry: usize
     if !(record_ranges::valid_setup(r, log) & record_ranges::valid_masks(r, masks)) {
         return apollo::refusal::BAD_SETUP;
     }
-    if !((seats == 2 * (r.f as usize) + 1) & rotation::valid_rotation(record::setup(r))) {
+    let turns = r.rotation;
+    let n = 2 * (r.f as usize) + 1;
+    if !((seats == n) & rotation::is_rotation(turns, n)) {
         return apollo::refusal::BAD_ROTATION;
     }
     judge_room(entry, out)

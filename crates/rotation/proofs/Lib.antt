@@ -1,3 +1,3 @@
 pub mod Seen
-pub mod Words
+pub mod Pass
 pub mod Fill

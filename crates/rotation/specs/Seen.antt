@@ -1,5 +1,5 @@
--- The mask of the cards seen in some seats, and seats as one number.
-use Prim.Native.Nat.{ℕ, zero, suc, _+_, _*_, _/_, _%_, _^_}
+-- The mask of the cards seen in some seats.
+use Prim.Native.Nat.{ℕ, _+_, _%_, _^_}
 use mathlib.Core.List.{List, [], _∷_}
 use mathlib.Core.Bool.{Bool, cond}
 use lib.Dec.{eqb, ltb}
@@ -17,17 +17,3 @@ cardsSeen m (x ∷ xs) = cardsSeen (withCard m x) xs
 -- all bits below n are set
 unfoldable pub allSeen : (n m : ℕ) → Bool
 allSeen n m = eqb (m % 2 ^ n + 1) (2 ^ n)
-
--- bytes as one number, the first the lowest
-unfoldable pub number : List ℕ → ℕ
-number [] = 0
-number (x ∷ xs) = x + 256 * number xs
-
--- the k lowest bytes of a number, and what is left of it above them
-unfoldable pub digits : (k w : ℕ) → List ℕ
-digits zero w = []
-digits (suc k) w = w % 256 ∷ digits k (w / 256)
-
-unfoldable pub shifted : (k w : ℕ) → ℕ
-shifted zero w = w
-shifted (suc k) w = shifted k (w / 256)

@@ -8,14 +8,15 @@ returns : tie.Need-returns
 returns c =
     let v = c .before in
     let t = v .before in
-    let s = t .before in
-    replica-test _ _ (s .before .valid-setup .ensures) (s .setup .ensures) (t .valid-rotation .ensures) (v .valid-rounds .ensures) (c .leads .ensures)
+    replica-test _ _ (t .before .valid-setup .ensures) (t .is-rotation .ensures) (v .valid-rounds .ensures) (c .leads .ensures)
 
 pub valid-replica-spec : {M : Type 1} → statement M
 valid-replica-spec =
     tie.close
     (tie.spec
-    (λ c κs. search needs)
+    (λ c. search needs)
+    (λ c. search needs)
+    (λ c. search needs)
     (λ c κs. search needs)
     (λ c κs. search needs)
     (λ c κs. search needs)

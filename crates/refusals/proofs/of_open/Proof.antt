@@ -18,7 +18,7 @@ returns-2 c =
     let l = i .before in
     let d = l .before in
     let a = d .before .before .before .args in
-    open-rotation (a .r) (a .log .now) (a .masks .now) (a .entry) (a .out) (a .seats) _ _ (d .valid-setup .ensures) (l .valid-masks .ensures) _ _ (t .before .setup .ensures) (t .valid-rotation .ensures) (i .if1 .left) (c .if2 .taken)
+    open-rotation (a .r) (a .log .now) (a .masks .now) (a .entry) (a .out) (a .seats) _ _ (d .valid-setup .ensures) (l .valid-masks .ensures) _ (t .is-rotation .ensures) (i .if1 .left) (c .if2 .taken)
 
 returns-3 : tie.Need-returns-3
 returns-3 c =
@@ -28,7 +28,7 @@ returns-3 c =
     let l = i .before in
     let d = l .before in
     let a = d .before .before .before .args in
-    open-room (a .r) (a .log .now) (a .masks .now) (a .entry) (a .out) (a .seats) _ _ (d .valid-setup .ensures) (l .valid-masks .ensures) _ _ (t .before .setup .ensures) (t .valid-rotation .ensures) (i .if1 .left) _ (u .if2 .left) (c .judge-room .ensures)
+    open-room (a .r) (a .log .now) (a .masks .now) (a .entry) (a .out) (a .seats) _ _ (d .valid-setup .ensures) (l .valid-masks .ensures) _ (t .is-rotation .ensures) (i .if1 .left) _ (u .if2 .left) (c .judge-room .ensures)
 
 pub of-open-spec : {M : Type 1} → statement M
 of-open-spec =
@@ -40,7 +40,6 @@ of-open-spec =
     (λ c. search needs)
     (λ c. search needs)
     (λ c. search needs)
-    (λ c κs. tt)
     (λ c κs. tt)
     returns-2
     (λ c κs. tt)
