@@ -15,7 +15,8 @@ pub fn tick(
     ensures { λ a. ⌜ outcome a (now (log .exit)) (now (masks .exit)) (now (out .exit))
         ≡ tickCall (state replica (now (log .entry)) (now (masks .entry))) (now (entry .entry)) (now (out .entry)) ⌝ }
 {
-    let number = refusals::of_tick(replica, log, masks, entry.len(), out.len());
+    let is_valid = record_ranges::valid_replica(replica, log);
+    let number = refusals::of_tick(is_valid, replica, log, masks, entry.len(), out.len());
     if number != 0 {
         return calls::refused(replica, number, 0);
     }

@@ -5,6 +5,7 @@ use apollo::Verdict;
 use branch::Judged;
 ghost use mathlib.Core.Path.{_≡_};
 ghost use Prim.Native.Nat.{_≤_};
+ghost use Rattle.apollo.specs.Replica.{validReplica};
 ghost use Rattle.refusals.specs.Number.{roomNumber, openNumber, guardNumber};
 ghost use Rattle.refusals.specs.Blames.{guardedSet};
 ghost use Rattle.refusals.specs.Branch.{guardedBranch};
@@ -37,11 +38,19 @@ pub fn of_open(r: Replica, seats: usize, log: &[u8], masks: &[u16], entry: usize
     judge_room(entry, out)
 }
 
-// Tick, and first in branch, blame and blames: 2 to 5.
-pub fn of_tick(r: Replica, log: &[u8], masks: &[u16], entry: usize, out: usize) -> u8
+// Tick, and first in branch, blame and blames: 2 to 5. The caller tests the record, from its own copy: the compiler then makes no other.
+pub fn of_tick(
+    is_valid: bool,
+    r: Replica,
+    log: &[u8],
+    masks: &[u16],
+    entry: usize,
+    out: usize,
+) -> u8
+    requires { ⌜ «is_valid» ≡ validReplica r (now log) ⌝ }
     ensures { λ n. ⌜ n ≡ guardNumber r (now (log .entry)) (now (masks .entry)) entry out ⌝ }
 {
-    if !(record_ranges::valid_replica(r, log) & record_ranges::valid_masks(r, masks)) {
+    if !(is_valid & record_ranges::valid_masks(r, masks)) {
         return apollo::refusal::BAD_REPLICA;
     }
     let round = r.round.0 as u64;
@@ -65,7 +74,8 @@ pub fn of_blames(
     requires { ⌜ most ≤ 15 ⌝ }
     ensures { λ v. ⌜ v ≡ guardedSet most r (now (log .entry)) (now (masks .entry)) (now (frames .entry)) entry out ⌝ }
 {
-    let number = of_tick(r, log, masks, entry, out);
+    let is_valid = record_ranges::valid_replica(r, log);
+    let number = of_tick(is_valid, r, log, masks, entry, out);
     if number != 0 {
         return Verdict { number, place: 0 };
     }
@@ -83,7 +93,8 @@ pub fn of_branch(
 ) -> Judged
     ensures { λ j. ⌜ j ≡ guardedBranch r (now (log .entry)) (now (masks .entry)) (now (frames .entry)) entry out ⌝ }
 {
-    let number = of_tick(r, log, masks, entry, out);
+    let is_valid = record_ranges::valid_replica(r, log);
+    let number = of_tick(is_valid, r, log, masks, entry, out);
     if number != 0 {
         return Judged {
             number,

@@ -8,13 +8,13 @@ use Rattle.refusals.proofs.of_blames.Tie as tie
 returns : tie.Need-returns
 returns c =
     let g = c .before in
-    let a = g .before .before .before .before .args in
+    let a = g .before .before .before .before .before .args in
     set-guarded (a .r) (a .log .now) (a .masks .now) (a .entry) (a .out) _ (g .of-tick .ensures) (a .most) (a .frames .now) (c .if1 .taken)
 
 judge-set-requires : tie.Need-judge-set-requires
 judge-set-requires c κs =
     let g = c .before in
-    let s = g .before .before .before .before in
+    let s = g .before .before .before .before .before in
     let a = s .args in
     (passed (a .r) (a .log .now) (a .masks .now) (a .entry) (a .out) (sym (g .of-tick .ensures) ∙ c .if1 .left) .valid .setup .f-most, s .pre)
 
@@ -22,8 +22,8 @@ returns-2 : tie.Need-returns-2
 returns-2 c =
     let i = c .before in
     let g = i .before in
-    let a = g .before .before .before .before .args in
+    let a = g .before .before .before .before .before .args in
     set-judged (a .r) (a .log .now) (a .masks .now) (a .entry) (a .out) _ (g .of-tick .ensures) (a .most) (a .frames .now) _ (i .if1 .left) (c .judge-set .ensures)
 
 pub of-blames-spec : {M : Type 1} → statement M
-of-blames-spec = tie.close (tie.spec (λ c κs. tt) returns judge-set-requires returns-2)
+of-blames-spec = tie.close (tie.spec (λ c κs. tt) (λ c κs. c .valid-replica .ensures) returns judge-set-requires returns-2)
