@@ -14,6 +14,7 @@ use Rattle.apollo.specs.Rotation.{isRotation, padded}
 use Rattle.apollo.specs.Frame.{height, frames}
 use Rattle.apollo.specs.Log.{genesis, slot, filled}
 use Rattle.apollo.specs.Masks.{bit, mask}
+use Rattle.apollo.proofs.Masks.{bit-zero}
 use Rattle.apollo.specs.Replica.{fresh, validSetup, validMasks}
 use Rattle.apollo.specs.Enter.{State, commitLimit, enterRound}
 use Rattle.apollo.specs.Outcome.{Outcome, refused, taken}
@@ -28,11 +29,6 @@ use Rattle.agreement.proofs.Stored.{Linked}
 use Rattle.agreement.proofs.Good.{Renewed, extends-refl, Fixed, Good}
 use Rattle.agreement.proofs.Effects.{Tidy, enter-kept}
 use Rattle.agreement.proofs.Outcomes.{Fine, taken-fine}
-
-bit-zero : (k : ℕ) → bit k 0 ≡ false
-unfolding bit
-bit-zero zero = refl
-bit-zero (suc k) = bit-zero k
 
 mask-zero : (n q : ℕ) → mask (zeros n) q ≡ 0
 unfolding zeros

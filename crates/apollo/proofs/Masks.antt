@@ -65,6 +65,12 @@ bit-shift (suc i) m =
     let e : m / 2 / 2 ^ i ≡ m / 2 ^ suc i = div-div-eq-div-mul m 2 (2 ^ i) ∙ ap (λ k. m / k) (sym (pow-succ' 2 i)) in
     bit-shift i (m / 2) ∙ ap (λ k. eqb (k % 2) 1) e
 
+-- no bit of 0 is set
+pub bit-zero : (i : ℕ) → bit i 0 ≡ false
+unfolding bit
+bit-zero zero = refl
+bit-zero (suc i) = bit-zero i
+
 -- after a bit is set: that bit, and the others
 pub bit-set-same : (i m : ℕ) → bit i (setBit i m) ≡ true
 unfolding bit setBit

@@ -14,12 +14,8 @@ use Rattle.apollo.specs.declared.Setup.{Setup}
 use Rattle.apollo.specs.Bytes.{zeros, blank}
 use Rattle.apollo.specs.Rotation.{seats, eachOnce, isRotation, inTurn, padded}
 use Rattle.apollo.specs.Setup.{replicas, validRotation}
-use Rattle.apollo.proofs.Tests.{and-first, and-second, both, same-of}
+use Rattle.apollo.proofs.Tests.{and-first, and-second, and-end, both, same-of}
 use Rattle.apollo.proofs.Slots.{part-zeros}
-
-and-end : (a : Bool) → a && true ≡ a
-and-end true = refl
-and-end false = refl
 
 -- how many seats have a card below n
 unfoldable low : ℕ → List ℕ → ℕ

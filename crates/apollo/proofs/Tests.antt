@@ -19,6 +19,14 @@ and-second false b e = absurd (true≢false (sym e))
 pub and-true : (a b : Bool) → (a && b) ≡ true → (a ≡ true) × (b ≡ true)
 and-true a b e = (and-first a b e, and-second a b e)
 
+pub and-end : (a : Bool) → a && true ≡ a
+and-end true = refl
+and-end false = refl
+
+pub and-assoc : (a b c : Bool) → a && (b && c) ≡ a && b && c
+and-assoc true b c = refl
+and-assoc false b c = refl
+
 pub and-no : (b : Bool) → b && false ≡ false
 and-no true = refl
 and-no false = refl

@@ -12,20 +12,13 @@ use lib.Seq.{drop-cons, drop-nil, take-all, length-take-le}
 use borrow.Author.Tests.{ne-eqb}
 use Rattle.apollo.specs.Bytes.{same, zeros, blank}
 use Rattle.apollo.specs.Rotation.{isRotation}
+use Rattle.apollo.proofs.Tests.{and-end, and-assoc}
 use Rattle.rotation.specs.Seen.{withCard, cardsSeen, allSeen}
 use Rattle.rotation.proofs.Seen.{all-rotation}
 
 -- all of some seats are zero
 unfoldable pub zeroAll : List ℕ → Bool
 zeroAll xs = same xs (zeros (length xs))
-
-and-assoc : (a b c : Bool) → a && (b && c) ≡ a && b && c
-and-assoc true b c = refl
-and-assoc false b c = refl
-
-and-end : (a : Bool) → a && true ≡ a
-and-end true = refl
-and-end false = refl
 
 -- the cards of the seats below n, from seat i on, with those seen so far; the seats from n on, likewise
 abbrev pub Cards : (n : ℕ) (seats : List ℕ) (m i : ℕ) → Type 0

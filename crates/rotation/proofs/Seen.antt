@@ -13,7 +13,7 @@ use lib.ListN.{length}
 use borrow.Author.Tests.{eqb-true, eqb-false, eq-eqb, ltb-true, ltb-false, lt-ltb}
 use Rattle.apollo.specs.Masks.{bit, setBit}
 use Rattle.apollo.specs.Rotation.{seats, isRotation}
-use Rattle.apollo.proofs.Masks.{bit-set-same, bit-set-other, bit-kept}
+use Rattle.apollo.proofs.Masks.{bit-zero, bit-set-same, bit-set-other, bit-kept}
 use Rattle.apollo.proofs.Rotation.{none-lacks, lacks-none}
 use Rattle.apollo.proofs.Tests.{by-cond}
 use Rattle.rotation.specs.Seen.{withCard, cardsSeen, allSeen}
@@ -58,11 +58,6 @@ seen-back c m (x ∷ xs) e = ⊎-elim (λ b. ⊎-elim inl here (card-back c m x 
   where
     here : x ≡ c → (bit c m ≡ true) ⊎ (1 ≤ cond (eqb x c) 1 0 + seats c xs)
     here d = inr (rw (eq-eqb x c d) (omega arith))
-
-bit-zero : (c : ℕ) → bit c 0 ≡ false
-unfolding bit
-bit-zero zero = refl
-bit-zero (suc c) = bit-zero c
 
 -- all bits below n, by a remainder
 low-bits : (n m : ℕ) → m % 2 ^ suc n ≡ (m / 2 % 2 ^ n) * 2 + m % 2

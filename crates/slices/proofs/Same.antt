@@ -11,6 +11,7 @@ use lib.ListN.{length, getD, drop, getD-replicate, drop-of-length-le}
 use lib.Seq.{drop-cons}
 use borrow.Author.Tests.{eq-eqb, ne-eqb, eqb-true, eqb-false}
 use Rattle.apollo.specs.Bytes.{same, zeros}
+use Rattle.apollo.proofs.Tests.{and-end, and-assoc}
 use Rattle.apollo.proofs.Slots.{length-zeros}
 
 -- no bit of d is set, and x and y differ in none
@@ -29,14 +30,6 @@ join-differ d x y = by (eqb d 0) refl (eqb x y) refl
         let n : d ≡ 0 → ⊥ = eqb-false d 0 e in
         ne-eqb (bitOr d (bitXor x y)) 0 (omega (arith, or-add-and d (bitXor x y), and-le-r d (bitXor x y)))
 
-and-assoc : (a b c : Bool) → a && (b && c) ≡ a && b && c
-and-assoc true b c = refl
-and-assoc false b c = refl
-
-and-true : (a : Bool) → a && true ≡ a
-and-true true = refl
-and-true false = refl
-
 -- one element more of two lists of one length
 pub same-next : (a b : List ℕ) (i d : ℕ) → i < length a → length a ≡ length b
     → eqb d 0 && same (drop i a) (drop i b)
@@ -50,7 +43,7 @@ same-next a b i d h l =
 pub same-end : (a b : List ℕ) (i d : ℕ) → length a ≤ i → length a ≡ length b
     → eqb d 0 && same (drop i a) (drop i b) ≡ eqb d 0
 unfolding same
-same-end a b i d h l = rw (drop-of-length-le a h, drop-of-length-le b {i = i} (omega arith)) (and-true (eqb d 0))
+same-end a b i d h l = rw (drop-of-length-le a h, drop-of-length-le b {i = i} (omega arith)) (and-end (eqb d 0))
 
 -- lists of different lengths
 pub same-length : (a b : List ℕ) → (length a ≡ length b → ⊥) → same a b ≡ false
