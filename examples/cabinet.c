@@ -46,16 +46,16 @@ static struct {
   fault kind;
   uint32_t rounds, seed, timeout, delay, loss, now;
   const char *asked; /* for the rotation, in the arguments */
-  uint8_t rotation[APOLLO_MAX_CARDS];
-  uint8_t key[APOLLO_MAX_CARDS][APOLLO_DIGEST];
-  card cards[APOLLO_MAX_CARDS];
-  int is_open[APOLLO_MAX_CARDS], given[APOLLO_MAX_CARDS];
-  uint32_t behind[APOLLO_MAX_CARDS]; /* how many rounds a deaf card was behind when it came back, a lost one when it began again, */
-  int late[APOLLO_MAX_CARDS];        /* and whether the term was over then */
-  uint32_t start[APOLLO_MAX_CARDS];  /* the tick at which a card is opened */
-  fault faults[APOLLO_MAX_CARDS];
-  cable in[APOLLO_MAX_CARDS];
-  uint32_t *acts[APOLLO_MAX_CARDS], acted[APOLLO_MAX_CARDS]; /* the rounds whose entries a card acted on */
+  uint8_t rotation[APOLLO_MAX_REPLICAS];
+  uint8_t key[APOLLO_MAX_REPLICAS][APOLLO_DIGEST];
+  card cards[APOLLO_MAX_REPLICAS];
+  int is_open[APOLLO_MAX_REPLICAS], given[APOLLO_MAX_REPLICAS];
+  uint32_t behind[APOLLO_MAX_REPLICAS]; /* how many rounds a deaf card was behind when it came back, a lost one when it began again, */
+  int late[APOLLO_MAX_REPLICAS];        /* and whether the term was over then */
+  uint32_t start[APOLLO_MAX_REPLICAS];  /* the tick at which a card is opened */
+  fault faults[APOLLO_MAX_REPLICAS];
+  cable in[APOLLO_MAX_REPLICAS];
+  uint32_t *acts[APOLLO_MAX_REPLICAS], acted[APOLLO_MAX_REPLICAS]; /* the rounds whose entries a card acted on */
   uint32_t alarms[ALARM_KINDS], lies;                        /* lies: packets made up, changed or withheld */
   uint32_t missed;                                           /* turns that a card left empty though an entry waited */
 } cabinet;
@@ -106,7 +106,7 @@ static void note_turn(int i, const uint8_t *frame) {
  * the term an old term's block 1 would be taken again; without the rotation the blames of a card that goes by another one would count.
  */
 static void sign_in_term(const card_setup *shared, int signer, uint8_t term, const uint8_t *frame, uint8_t signature[SIGNATURE]) {
-  uint8_t text[APOLLO_DIGEST + 5 + APOLLO_MAX_CARDS + APOLLO_FRAME] = {0};
+  uint8_t text[APOLLO_DIGEST + 5 + APOLLO_MAX_REPLICAS + APOLLO_FRAME] = {0};
   uint8_t *to = text + APOLLO_DIGEST;
   memcpy(text, cabinet.key[signer], APOLLO_DIGEST);
   to[0] = (uint8_t)(2 * shared->f + 1);
@@ -114,8 +114,8 @@ static void sign_in_term(const card_setup *shared, int signer, uint8_t term, con
   to[2] = (uint8_t)(shared->rounds >> 8);
   to[3] = (uint8_t)shared->rounds;
   to[4] = term;
-  memcpy(to + 5, shared->rotation, APOLLO_MAX_CARDS);
-  memcpy(to + 5 + APOLLO_MAX_CARDS, frame, APOLLO_FRAME);
+  memcpy(to + 5, shared->rotation, APOLLO_MAX_REPLICAS);
+  memcpy(to + 5 + APOLLO_MAX_REPLICAS, frame, APOLLO_FRAME);
   apollo_digest(text, sizeof text, signature);
 }
 
@@ -576,7 +576,7 @@ static uint8_t card_named(const char *text, size_t len) {
 }
 
 /* Every card must be there once. Where that is not so, says all that is wrong. */
-static void judge_rotation(int count, const int times[APOLLO_MAX_CARDS]) {
+static void judge_rotation(int count, const int times[APOLLO_MAX_REPLICAS]) {
   int right = 1;
   for (int i = 0; i < cabinet.n; i++) right = right && times[i] == 1;
   if (right) return;
@@ -588,7 +588,7 @@ static void judge_rotation(int count, const int times[APOLLO_MAX_CARDS]) {
 }
 
 static void read_rotation(void) {
-  int count = 0, times[APOLLO_MAX_CARDS] = {0};
+  int count = 0, times[APOLLO_MAX_REPLICAS] = {0};
   for (const char *at = cabinet.asked; at; count++) {
     size_t len = strcspn(at, ",");
     uint8_t card = card_named(at, len);
@@ -632,7 +632,7 @@ static int option(const char *word, const char *value) {
     return 1;
   }
   if (strcmp(word, "--fault") == 0) cabinet.kind = fault_named(value);
-  else if (strcmp(word, "--cards") == 0) cabinet.n = (int)number(value, 3, APOLLO_MAX_CARDS);
+  else if (strcmp(word, "--cards") == 0) cabinet.n = (int)number(value, 3, APOLLO_MAX_REPLICAS);
   else if (strcmp(word, "--seed") == 0) cabinet.seed = number(value, 0, UINT32_MAX);
   else if (strcmp(word, "--rounds") == 0) cabinet.rounds = number(value, LEAST_ROUNDS, APOLLO_MAX_ROUNDS);
   else if (strcmp(word, "--delay") == 0) cabinet.delay = number(value, 1, 1000);

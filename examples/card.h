@@ -27,7 +27,7 @@ typedef struct {
 typedef struct {
   uint32_t round;
   uint16_t signers;
-  uint8_t signature[APOLLO_MAX_CARDS][SIGNATURE];
+  uint8_t signature[APOLLO_MAX_REPLICAS][SIGNATURE];
 } signed_blames;
 
 /* Where a card stands. It asks a card that is ahead for what is missing, and shows whether two lists have parted. */
@@ -54,7 +54,7 @@ typedef struct {
 typedef struct {
   /* What all cards of a term share, and every signature covers. */
   uint8_t f;
-  uint8_t rotation[APOLLO_MAX_CARDS]; /* the numbers of all cards, 2 f + 1 of them, in the order in which they lead */
+  uint8_t rotation[APOLLO_MAX_REPLICAS]; /* the numbers of all cards, 2 f + 1 of them, in the order in which they lead */
   uint32_t rounds;                    /* T */
   /* The card's own. */
   uint8_t id;
@@ -87,13 +87,13 @@ typedef struct {
   uint16_t *masks;
   uint8_t (*signature)[SIGNATURE];           /* of the block in each slot */
   signed_blames *blames;                     /* of each round; the masks say which of them the library has */
-  kept_block kept[APOLLO_MAX_CARDS][WINDOW]; /* by sender and round: no sender pushes out what another sent */
+  kept_block kept[APOLLO_MAX_REPLICAS][WINDOW]; /* by sender and round: no sender pushes out what another sent */
   uint8_t frames[WINDOW * APOLLO_FRAME];     /* of the call under way: a branch, or the blames of a round */
   proposal line[LINE];                       /* entries until they are on the list, oldest first */
   size_t lined;
   uint32_t now, moved;               /* ticks since the opening, and at the last new round */
-  uint32_t closed[APOLLO_MAX_CARDS]; /* until when a card's questions are not answered again */
-  uint32_t seen[APOLLO_MAX_CARDS];   /* the highest round in a frame that this card signed */
+  uint32_t closed[APOLLO_MAX_REPLICAS]; /* until when a card's questions are not answered again */
+  uint32_t seen[APOLLO_MAX_REPLICAS];   /* the highest round in a frame that this card signed */
   uint32_t acted;                    /* rounds whose entries were handed to host_act */
   uint16_t heard, ask;               /* cards that were heard; cards to ask at the end of the tick */
   int next_peer;

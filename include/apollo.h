@@ -22,8 +22,8 @@
  * Terms
  *   - Each term has a number above all earlier ones', which every datagram names. A term is over for a card at R = T + 1; no 3 need be
  *     seen. The next is opened then, or when f + 1 cards have sent datagrams of it, with a record, log and masks of its own: two terms
- *     run side by side, and a card may be behind in the old one. A frame is handed in to the card of its own term and to no other. Each
- *     term has a rotation of its own: a new one comes with a new term, for all cards together, and never within one.
+ *     run side by side, and a card may be behind in the old one. A frame is handed in to the card of its own term and to no other. A
+ *     rotation holds for a whole term: another one comes with the next, for all cards together.
  *   - Answer in the old term until every other card has told R = T + 1 there, or the next one is over too.
  *
  * Signatures
@@ -133,7 +133,7 @@ enum {
   APOLLO_ENTRY = 400,       /* an entry's most bytes */
   APOLLO_DIGEST = 32,       /* bytes of a digest */
   APOLLO_MAX_F = 7,         /* most cards that may fail: n = 2 f + 1 */
-  APOLLO_MAX_CARDS = 15,    /* most cards, n */
+  APOLLO_MAX_REPLICAS = 15,    /* most cards, n */
   APOLLO_MAX_BLAMES = 15,   /* most frames of a set of blames, whatever n is */
   APOLLO_MAX_ROUNDS = 4096, /* most rounds of a term, T */
   APOLLO_MAX_TIMEOUT = 60000,
@@ -175,8 +175,8 @@ typedef enum {
   APOLLO_BAD_ROTATION = 17       /* open: the rotation is not n bytes, lacks a card below n or has one twice */
 } apollo_number;
 
-/* 12 means that a premise of the agreement (docs/AGREEMENT.md) is broken: more than f cards failed in this term, a frame was forged, or
- * a correct card blamed a correct one's round. Drop the branch, stop acting on the list, and call for repair. Lists that have parted
+/* 12 means that a premise of the agreement (docs/AGREEMENT.md) is broken: more than f cards failed in this term (one opened with another f,
+ * T or rotation is one of them), a frame was forged, or a correct card blamed a correct one's round. Drop the branch, stop acting on the list, and call for repair. Lists that have parted
  * may also show as a card that stands still on 11 or 13, with no 12 at all: compare lists. */
 
 /* Three counters that must not be mixed up: each is a type of its own. */
@@ -198,7 +198,7 @@ typedef struct {
                                    * with a new block or without. This card will never undo it, nor will any other while the
                                    * premises hold */
   apollo_height committed_height;
-  uint8_t rotation[APOLLO_MAX_CARDS]; /* who leads: card rotation[(r - 1) % n] round r. Zeros from rotation[n] on */
+  uint8_t rotation[APOLLO_MAX_REPLICAS]; /* who leads: card rotation[(r - 1) % n] round r. Zeros from rotation[n] on */
 } apollo_replica;
 
 typedef struct {

@@ -381,8 +381,8 @@ static int opens(lent l, const uint8_t *rotation, size_t rotation_len) {
 
 /* A rotation has every card once: of all triples of numbers up to 3 the six orders of 0, 1, 2 are taken, and no other length is. */
 static void rotations(void) {
-  static const uint8_t five[APOLLO_MAX_CARDS + 2] = {1, 2, 0, 3, 4};
-  uint8_t seats[APOLLO_MAX_CARDS];
+  static const uint8_t five[APOLLO_MAX_REPLICAS + 2] = {1, 2, 0, 3, 4};
+  uint8_t seats[APOLLO_MAX_REPLICAS];
   int taken = 0;
   for (int k = 0; k < 64; k++) {
     const uint8_t triple[3] = {(uint8_t)(k & 3), (uint8_t)(k >> 2 & 3), (uint8_t)(k >> 4)};
@@ -402,15 +402,15 @@ static void rotations(void) {
 
 /* 15 cards, with the last one first; no card may be there in place of another. */
 static void most_cards(void) {
-  uint8_t seats[APOLLO_MAX_CARDS];
+  uint8_t seats[APOLLO_MAX_REPLICAS];
   lent l = right;
   l.f = APOLLO_MAX_F;
-  for (int k = 0; k < APOLLO_MAX_CARDS; k++) seats[k] = (uint8_t)(APOLLO_MAX_CARDS - 1 - k);
+  for (int k = 0; k < APOLLO_MAX_REPLICAS; k++) seats[k] = (uint8_t)(APOLLO_MAX_REPLICAS - 1 - k);
   apollo_answer a = apollo_open(14, 7, (apollo_ticks){2}, (apollo_round){T}, seats, sizeof seats, zero.log, LOG, zero.masks, T, NULL, 0,
                                 out, sizeof out);
   EXPECT(a.number == APOLLO_TAKEN && a.frames == 1 && a.leader == 13 && memcmp(a.replica.rotation, seats, sizeof seats) == 0);
   EXPECT(opens(l, seats, sizeof seats) == APOLLO_TAKEN && opens(l, seats, sizeof seats - 1) == APOLLO_BAD_ROTATION);
-  for (int k = 0; k < APOLLO_MAX_CARDS; k++) {
+  for (int k = 0; k < APOLLO_MAX_REPLICAS; k++) {
     seats[k] ^= 1; /* another card's number, or 15 */
     EXPECT(opens(l, seats, sizeof seats) == APOLLO_BAD_ROTATION);
     seats[k] ^= 1;
@@ -438,7 +438,7 @@ static void order_of_refusals(void) {
 
 /* A whole term by a rotation, without faults: its card proposes each round, and its card is told as the leader. The record keeps it. */
 static void lead_by(const uint8_t rotation[3]) {
-  static const uint8_t none[APOLLO_MAX_CARDS - 3];
+  static const uint8_t none[APOLLO_MAX_REPLICAS - 3];
   card *const cards[3] = {&zero, &one, &two};
   uint8_t block[APOLLO_FRAME] = {0}, next[APOLLO_FRAME] = {0};
   for (uint8_t i = 0; i < 3; i++) {
@@ -487,7 +487,7 @@ static int is_no_record(apollo_replica r) {
 static void rotation_of_record(void) {
   apollo_replica r;
   open_card(&two, 2, "");
-  for (int k = 0; k < APOLLO_MAX_CARDS; k++)
+  for (int k = 0; k < APOLLO_MAX_REPLICAS; k++)
     for (int number = 1; number < 256; number++) {
       r = two.record;
       r.rotation[k] = (uint8_t)(r.rotation[k] + number);
@@ -528,11 +528,9 @@ static void parted_by_rotations(void) {
     EXPECT(open_in(cards[i], i, i ? second : first, i ? "B" : "A").leader == 2);
     memcpy(blocks[i], out, APOLLO_FRAME);
   }
-  for (uint8_t i = 0; i < 2; i++) {
-    EXPECT(branch(cards[i], blocks[1 - i], 1).number == APOLLO_BAD_FORM);
-    EXPECT(tick(cards[i]).frames == 0 && tick(cards[i]).frames == 1);
-    EXPECT(blame(cards[i], 2, (uint8_t)(1 - i)).number == APOLLO_TAKEN && stands(cards[i], 3, 1, 1));
-  }
+  for (uint8_t i = 0; i < 2; i++) EXPECT(branch(cards[i], blocks[1 - i], 1).number == APOLLO_BAD_FORM);
+  for (uint8_t i = 0; i < 2; i++) EXPECT(tick(cards[i]).frames == 0 && tick(cards[i]).frames == 1 && out[0] == APOLLO_BLAME && out[1] == i);
+  for (uint8_t i = 0; i < 2; i++) EXPECT(blame(cards[i], 2, (uint8_t)(1 - i)).number == APOLLO_TAKEN && stands(cards[i], 3, 1, 1));
   EXPECT(zero.log[44] == 'A' && one.log[44] == 'B');
 }
 

@@ -10,7 +10,7 @@
 
 static void sizes(void) {
   EXPECT(sizeof(apollo_round) == 4 && sizeof(apollo_height) == 4 && sizeof(apollo_ticks) == 4);
-  EXPECT(sizeof(apollo_replica) == 52 && sizeof((apollo_replica){0}.rotation) == 15 && APOLLO_MAX_CARDS == 15);
+  EXPECT(sizeof(apollo_replica) == 52 && sizeof((apollo_replica){0}.rotation) == 15 && APOLLO_MAX_REPLICAS == 15);
   AT(apollo_replica, id, 0);
   AT(apollo_replica, f, 1);
   AT(apollo_replica, timeout, 4);

@@ -82,8 +82,8 @@ OnlyGrows =
 abbrev pub CutHandsNothing : Type 0
 CutHandsNothing = (c : State) (a : Act) → answer c a .answer .number ≡ badLength → framesIn c a ≡ []
 
--- Document 02, F-4: "f + 1 rounds in a row have different leaders", and even n have. It is one law for every n and every rotation that passes
--- 17 at open and 2 later, and no list of calls is in it. Of leaders the proof of demand 3 uses this and that their numbers are below n
+-- Document 02, F-4: "f + 1 rounds in a row have different leaders", and n even do. It is one law for every n and every rotation that
+-- passes 17 at open and 2 later, and no list of calls is in it
 abbrev pub LeadersDiffer : Type 0
 LeadersDiffer =
     (s : Setup) → validRotation s ≡ true → (r q : ℕ) → 1 ≤ r → r < q → q < r + replicas s → leader s r ≢ leader s q

@@ -7,9 +7,9 @@ use lib.Dec.{eqb}
 use Rattle.apollo.specs.Bytes.{zeros}
 
 -- how many seats a card has
-unfoldable pub seats : (card : ℕ) (rotation : List ℕ) → ℕ
-seats card [] = 0
-seats card (x ∷ xs) = cond (eqb x card) 1 0 + seats card xs
+unfoldable pub seats : (id : ℕ) (rotation : List ℕ) → ℕ
+seats id [] = 0
+seats id (x ∷ xs) = cond (eqb x id) 1 0 + seats id xs
 
 -- each card below n has one seat: none is lacking, none is there twice
 unfoldable pub eachOnce : (n : ℕ) (rotation : List ℕ) → Bool
@@ -25,6 +25,6 @@ unfoldable pub inTurn : (n : ℕ) → List ℕ
 inTurn zero = []
 inTurn (suc n) = inTurn n ++ (n ∷ [])
 
--- as the record holds it: 15 bytes, zero past its end
+-- as the record holds it: 15 bytes, zero past its end; of a longer one, which 17 refuses, the first 15
 unfoldable pub padded : (rotation : List ℕ) → List ℕ
 padded rotation = take 15 (rotation ++ zeros 15)

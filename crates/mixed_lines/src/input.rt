@@ -94,8 +94,8 @@ fn task_of(l: Line) -> Task {
 }
 
 // The words after a letter by their kinds, the first in the lowest four bits: 1 a replica, 2 bytes of the log, 3 masks,
-// 4 bytes of the out buffer, 5 a round, 6 a mask, 7 bytes, 8 frames or a rotation to open with, 9 an own number or f, a any number. f if there is no
-// such letter.
+// 4 bytes of the out buffer, 5 a round, 6 a mask, 7 bytes, 8 frames or a rotation to open with, 9 an own number or f, a any
+// number. f if there is no such letter.
 fn form(letter: u8) -> u64 {
     match letter {
         b'n' => 0,

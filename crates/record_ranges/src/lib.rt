@@ -53,7 +53,7 @@ pub fn valid_replica(r: Replica, log: &[u8]) -> bool
 {
     let seats = r.rotation;
     let n = 2 * (r.f as usize) + 1;
-    valid_setup(r, log) & rotation::is_rotation(seats, n) & valid_rounds(r) & !leads(r)
+    valid_setup(r, log) & rotation::valid_rotation(seats, n) & valid_rounds(r) & !leads(r)
 }
 
 // There is one mask a round.

@@ -36,22 +36,22 @@ module _ (entry out : ℕ) where
 
 module _ (r : Replica) (log masks : List ℕ) (entry out : ℕ) where
   -- 1 and 17
-  module _ (seats : ℕ) (a b : Bool) (ea : a ≡ validSetup r log) (eb : b ≡ validMasks r masks) where
-    pub open-setup : not (a && b) ≡ true → 1 ≡ openNumber r seats log masks entry out
+  module _ (size : ℕ) (a b : Bool) (ea : a ≡ validSetup r log) (eb : b ≡ validMasks r masks) where
+    pub open-setup : not (a && b) ≡ true → 1 ≡ openNumber r size log masks entry out
     unfolding openNumber
     open-setup t = rw (← ea, ← eb, not-true (a && b) t)
 
     module _ (c : Bool)
         (ec : c ≡ isRotation (replicas (setupOf r)) (take (replicas (setupOf r)) (r .rotation)) && blank (r .rotation) (replicas (setupOf r)) 15)
         (t : not (a && b) ≡ false) where
-      pub open-rotation : not (eqb seats (replicas (setupOf r)) && c) ≡ true → 17 ≡ openNumber r seats log masks entry out
+      pub open-rotation : not (eqb size (replicas (setupOf r)) && c) ≡ true → 17 ≡ openNumber r size log masks entry out
       unfolding openNumber validRotation
-      open-rotation u = rw (← ea, ← eb, ← ec, not-false (a && b) t, not-true (eqb seats (replicas (setupOf r)) && c) u)
+      open-rotation u = rw (← ea, ← eb, ← ec, not-false (a && b) t, not-true (eqb size (replicas (setupOf r)) && c) u)
 
-      pub open-room : (n : ℕ) → not (eqb seats (replicas (setupOf r)) && c) ≡ false → n ≡ roomNumber entry out
-          → n ≡ openNumber r seats log masks entry out
+      pub open-room : (n : ℕ) → not (eqb size (replicas (setupOf r)) && c) ≡ false → n ≡ roomNumber entry out
+          → n ≡ openNumber r size log masks entry out
       unfolding openNumber validRotation
-      open-room n u e = rw (← ea, ← eb, ← ec, not-false (a && b) t, not-false (eqb seats (replicas (setupOf r)) && c) u) e
+      open-room n u e = rw (← ea, ← eb, ← ec, not-false (a && b) t, not-false (eqb size (replicas (setupOf r)) && c) u) e
 
   -- 2 and 3
   module _ (a b : Bool) (ea : a ≡ validReplica r log) (eb : b ≡ validMasks r masks) where

@@ -64,10 +64,10 @@ pub record Passed (r : Replica) (log : List ℕ) (entry out : ℕ) : Type 0 wher
   pub entry-most : entry ≤ 400
 
 module _ (r : Replica) (log masks : List ℕ) (entry out : ℕ) where
-  pub opened : (seats : ℕ) → openNumber r seats log masks entry out ≡ 0 → Opened r log masks entry out
+  pub opened : (size : ℕ) → openNumber r size log masks entry out ≡ 0 → Opened r log masks entry out
   unfolding openNumber
-  opened seats e =
-      let turns = not (eqb seats (replicas (setupOf r)) && validRotation (setupOf r)) in
+  opened size e =
+      let turns = not (eqb size (replicas (setupOf r)) && validRotation (setupOf r)) in
       let p = first-failed (not (validSetup r log && validMasks r masks)) 0 (cond turns 17 (roomNumber entry out)) e in
       let t = first-failed turns 16 (roomNumber entry out) (p .1) in
       let v = not-false (validSetup r log && validMasks r masks) (p .0) in

@@ -12,11 +12,11 @@ use Rattle.apollo.specs.Refusal.{badSetup, badRotation, badReplica, roundsOver,
 unfoldable pub roomNumber : (entry out : ℕ) → ℕ
 roomNumber entry out = cond (ltb out 1024) outTooShort (cond (ltb 400 entry) entryTooLong 0)
 
--- 1, 17, 4 and 5 of open; the record has the rotation, padded, and `seats` is its length
-unfoldable pub openNumber : Replica → (seats : ℕ) (log masks : List ℕ) (entry out : ℕ) → ℕ
-openNumber r seats log masks entry out =
+-- 1, 17, 4 and 5 of open; the record has the rotation, padded, and `size` is its length
+unfoldable pub openNumber : Replica → (size : ℕ) (log masks : List ℕ) (entry out : ℕ) → ℕ
+openNumber r size log masks entry out =
     cond (not (validSetup r log && validMasks r masks)) badSetup
-    (cond (not (eqb seats (replicas (setupOf r)) && validRotation (setupOf r))) badRotation (roomNumber entry out))
+    (cond (not (eqb size (replicas (setupOf r)) && validRotation (setupOf r))) badRotation (roomNumber entry out))
 
 -- 2 to 5 of branch, blame, blames and tick
 unfoldable pub guardNumber : Replica → (log masks : List ℕ) (entry out : ℕ) → ℕ

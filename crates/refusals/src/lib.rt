@@ -1,5 +1,6 @@
 // What refuses a call: the number of the first refusal, 0 if there is none, and for a branch and for blames its place. Of the entry
-// and the out buffer the length is enough. Every public function takes any record, and slices of any length and content.
+// and the out buffer the length is enough. Every public function takes any record, and slices of any length and content; `of_tick` is told
+// whether the record is valid.
 use apollo::Replica;
 use apollo::Verdict;
 use branch::Judged;
@@ -23,22 +24,23 @@ fn judge_room(entry: usize, out: usize) -> u8
     0
 }
 
-// Open: 1, 17, 4 and 5. The record has the rotation, padded; `seats` is how long that was.
-pub fn of_open(r: Replica, seats: usize, log: &[u8], masks: &[u16], entry: usize, out: usize) -> u8
-    ensures { λ n. ⌜ n ≡ openNumber r seats (now (log .entry)) (now (masks .entry)) entry out ⌝ }
+// Open: 1, 17, 4 and 5. The record has the rotation, padded; `length` is how long that was.
+pub fn of_open(r: Replica, length: usize, log: &[u8], masks: &[u16], entry: usize, out: usize) -> u8
+    ensures { λ n. ⌜ n ≡ openNumber r length (now (log .entry)) (now (masks .entry)) entry out ⌝ }
 {
     if !(record_ranges::valid_setup(r, log) & record_ranges::valid_masks(r, masks)) {
         return apollo::refusal::BAD_SETUP;
     }
-    let turns = r.rotation;
+    let seats = r.rotation;
     let n = 2 * (r.f as usize) + 1;
-    if !((seats == n) & rotation::is_rotation(turns, n)) {
+    if !((length == n) & rotation::valid_rotation(seats, n)) {
         return apollo::refusal::BAD_ROTATION;
     }
     judge_room(entry, out)
 }
 
-// Tick, and first in branch, blame and blames: 2 to 5. The caller tests the record, from its own copy: the compiler then makes no other.
+// Tick, and first in branch, blame and blames: 2 to 5. The caller tests the record, from its own copy: the compiler then makes no
+// other.
 pub fn of_tick(
     is_valid: bool,
     r: Replica,

@@ -13,7 +13,7 @@ use borrow.Author.Tests.{ne-eqb}
 use Rattle.apollo.specs.Bytes.{same, zeros, blank}
 use Rattle.apollo.specs.Rotation.{isRotation}
 use Rattle.apollo.proofs.Tests.{and-end, and-assoc}
-use Rattle.rotation.specs.Seen.{withCard, cardsSeen, allSeen}
+use Rattle.rotation.specs.Seen.{withReplica, replicasSeen, allSeen}
 use Rattle.rotation.proofs.Seen.{all-rotation}
 
 -- all of some seats are zero
@@ -22,7 +22,7 @@ zeroAll xs = same xs (zeros (length xs))
 
 -- the cards of the seats below n, from seat i on, with those seen so far; the seats from n on, likewise
 abbrev pub Cards : (n : ℕ) (seats : List ℕ) (m i : ℕ) → Type 0
-Cards n seats m i = cardsSeen m (take (n - i) (drop i seats)) ≡ cardsSeen 0 (take n seats)
+Cards n seats m i = replicasSeen m (take (n - i) (drop i seats)) ≡ replicasSeen 0 (take n seats)
 
 abbrev pub Zeros : (n : ℕ) (seats : List ℕ) (b : Bool) (i : ℕ) → Type 0
 Zeros n seats b i = b && zeroAll (drop (n - i) (drop i seats)) ≡ zeroAll (drop n seats)
@@ -32,8 +32,8 @@ module _ (n : ℕ) (seats : List ℕ) (size : length seats ≡ 15) where
   rest i l = drop-cons seats i 0 (omega (arith, size)) ∙ ap (λ k. getD seats i 0 ∷ drop k seats) (sym (add-one i))
 
   module _ (m : ℕ) (b : Bool) (i : ℕ) (l : i < 15) (c : Cards n seats m i) (z : Zeros n seats b i) where
-    pub low-cards : i < n → Cards n seats (withCard m (getD seats i 0)) (i + 1)
-    unfolding cardsSeen
+    pub low-cards : i < n → Cards n seats (withReplica m (getD seats i 0)) (i + 1)
+    unfolding replicasSeen
     low-cards h =
         let q : n - i ≡ suc (n - (i + 1)) = omega arith in
         rw (q, rest i l) at c
@@ -44,7 +44,7 @@ module _ (n : ℕ) (seats : List ℕ) (size : length seats ≡ 15) where
         rw (q, rest i l) at z
 
     pub high-cards : n ≤ i → Cards n seats m (i + 1)
-    unfolding cardsSeen
+    unfolding replicasSeen
     high-cards h =
         let q : n - i ≡ 0 = omega arith in
         let r : n - (i + 1) ≡ 0 = omega arith in
@@ -71,8 +71,8 @@ module _ (n : ℕ) (seats : List ℕ) (size : length seats ≡ 15) where
       rw (ne-eqb (length (take n seats)) n (λ e. omega (arith, q, e)))
 
   -- the last seat is passed
-  last-cards : (m i : ℕ) → n ≤ i → Cards n seats m i → m ≡ cardsSeen 0 (take n seats)
-  unfolding cardsSeen
+  last-cards : (m i : ℕ) → n ≤ i → Cards n seats m i → m ≡ replicasSeen 0 (take n seats)
+  unfolding replicasSeen
   last-cards m i l c =
       let over : n - i ≡ 0 = omega arith in
       rw over at c

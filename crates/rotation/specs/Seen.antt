@@ -6,13 +6,13 @@ use lib.Dec.{eqb, ltb}
 use Rattle.apollo.specs.Masks.{setBit}
 
 -- with one card more, of those that have a bit
-unfoldable pub withCard : (m card : ℕ) → ℕ
-withCard m card = cond (ltb card 16) (setBit card m) m
+unfoldable pub withReplica : (m card : ℕ) → ℕ
+withReplica m card = cond (ltb card 16) (setBit card m) m
 
 -- with those in the seats
-unfoldable pub cardsSeen : (m : ℕ) (seats : List ℕ) → ℕ
-cardsSeen m [] = m
-cardsSeen m (x ∷ xs) = cardsSeen (withCard m x) xs
+unfoldable pub replicasSeen : (m : ℕ) (seats : List ℕ) → ℕ
+replicasSeen m [] = m
+replicasSeen m (x ∷ xs) = replicasSeen (withReplica m x) xs
 
 -- all bits below n are set
 unfoldable pub allSeen : (n m : ℕ) → Bool

@@ -8,7 +8,7 @@ returns : tie.Need-returns
 returns c =
     let v = c .before in
     let t = v .before in
-    replica-test _ _ (t .before .valid-setup .ensures) (t .is-rotation .ensures) (v .valid-rounds .ensures) (c .leads .ensures)
+    replica-test _ _ (t .before .valid-setup .ensures) (t .valid-rotation .ensures) (v .valid-rounds .ensures) (c .leads .ensures)
 
 pub valid-replica-spec : {M : Type 1} → statement M
 valid-replica-spec =

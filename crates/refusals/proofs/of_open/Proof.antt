@@ -9,7 +9,7 @@ returns c =
     let l = c .before in
     let i = l .before in
     let a = i .before .before .before .args in
-    open-setup (a .r) (a .log .now) (a .masks .now) (a .entry) (a .out) (a .seats) _ _ (i .valid-setup .ensures) (l .valid-masks .ensures) (c .if1 .taken)
+    open-setup (a .r) (a .log .now) (a .masks .now) (a .entry) (a .out) (a .length) _ _ (i .valid-setup .ensures) (l .valid-masks .ensures) (c .if1 .taken)
 
 returns-2 : tie.Need-returns-2
 returns-2 c =
@@ -18,7 +18,7 @@ returns-2 c =
     let l = i .before in
     let d = l .before in
     let a = d .before .before .before .args in
-    open-rotation (a .r) (a .log .now) (a .masks .now) (a .entry) (a .out) (a .seats) _ _ (d .valid-setup .ensures) (l .valid-masks .ensures) _ (t .is-rotation .ensures) (i .if1 .left) (c .if2 .taken)
+    open-rotation (a .r) (a .log .now) (a .masks .now) (a .entry) (a .out) (a .length) _ _ (d .valid-setup .ensures) (l .valid-masks .ensures) _ (t .valid-rotation .ensures) (i .if1 .left) (c .if2 .taken)
 
 returns-3 : tie.Need-returns-3
 returns-3 c =
@@ -28,7 +28,7 @@ returns-3 c =
     let l = i .before in
     let d = l .before in
     let a = d .before .before .before .args in
-    open-room (a .r) (a .log .now) (a .masks .now) (a .entry) (a .out) (a .seats) _ _ (d .valid-setup .ensures) (l .valid-masks .ensures) _ (t .is-rotation .ensures) (i .if1 .left) _ (u .if2 .left) (c .judge-room .ensures)
+    open-room (a .r) (a .log .now) (a .masks .now) (a .entry) (a .out) (a .length) _ _ (d .valid-setup .ensures) (l .valid-masks .ensures) _ (t .valid-rotation .ensures) (i .if1 .left) _ (u .if2 .left) (c .judge-room .ensures)
 
 pub of-open-spec : {M : Type 1} → statement M
 of-open-spec =

@@ -1,4 +1,4 @@
--- `rotation::is_rotation` meets its contract. The loop's invariant: what was seen, with what is left, is the whole. Assumes nothing.
+-- `rotation::valid_rotation` meets its contract. The loop's invariant: what was seen, with what is left, is the whole. Assumes nothing.
 use Prim.Native.Nat.{_-_, _≤_}
 use mathlib.Core.Path.{_≡_}
 use mathlib.Core.Logic.{⊎-elim}
@@ -6,8 +6,8 @@ use lib.ListN.{length}
 use native.Mathlib.Omega.{arith}
 use borrow.Author.Needs.{needs}
 use Rattle.rotation.proofs.Pass.{Cards, Zeros, low-cards, low-zeros, high-cards, high-zeros, first-cards, first-zeros, too-many, passed}
-use Rattle.rotation.proofs.is_rotation.Statement.{statement}
-use Rattle.rotation.proofs.is_rotation.Tie as tie
+use Rattle.rotation.proofs.valid_rotation.Statement.{statement}
+use Rattle.rotation.proofs.valid_rotation.Tie as tie
 
 abbrev Inv-loop : tie.InvT-loop
 Inv-loop n seats m₀ is-blank₀ i₀ m is-blank i = (i ≤ 15) × Cards n seats m i × Zeros n seats is-blank i
@@ -46,8 +46,8 @@ returns-2 c =
     let a = c .before .before .before .before .args in
     passed (a .n) (a .t1) (search needs) (omega arith) (l .m) (l .is-blank) (l .i) (omega arith) (l .inv .1) (l .inv .2) (c .all-seen .result) (c .all-seen .ensures)
 
-pub is-rotation-spec : {M : Type 1} → statement M
-is-rotation-spec =
+pub valid-rotation-spec : {M : Type 1} → statement M
+valid-rotation-spec =
     tie.close
     (tie.spec
     Inv-loop
