@@ -1231,6 +1231,12 @@ fn other_slips() -> Vec<(&'static str, Replaced)> {
     ]
 }
 
+/// The model with another machine for each slip.
+fn machines(slips: &[(&'static str, Machine)]) -> Vec<(&'static str, Replaced)> {
+    let broken = |&(name, machine)| (name, Replaced::machine(machine));
+    slips.iter().map(broken).collect()
+}
+
 /// Slips of sets of blames.
 fn set_slips() -> Vec<(&'static str, Replaced)> {
     let slips: [(&str, Machine); 16] = [
@@ -1254,8 +1260,7 @@ fn set_slips() -> Vec<(&'static str, Replaced)> {
         ("6 above n frames", cuts_sets_at_n),
         ("16 frames taken", takes_16_frames),
     ];
-    let broken = |(name, machine)| (name, Replaced::machine(machine));
-    slips.into_iter().map(broken).collect()
+    machines(&slips)
 }
 
 /// Slips of committing by R.
@@ -1276,8 +1281,7 @@ fn commit_slips() -> Vec<(&'static str, Replaced)> {
         ("never lowered", never_lowers_the_committed_round),
         ("height left", leaves_the_committed_height),
     ];
-    let broken = |(name, machine)| (name, Replaced::machine(machine));
-    slips.into_iter().map(broken).collect()
+    machines(&slips)
 }
 
 /// Slips of the rotation.
@@ -1309,8 +1313,7 @@ fn rotation_slips() -> Vec<(&'static str, Replaced)> {
             takes_records_with_a_seat_out_of_range,
         ),
     ];
-    let broken = |(name, machine)| (name, Replaced::machine(machine));
-    let mut slips: Vec<_> = slips.into_iter().map(broken).collect();
+    let mut slips = machines(&slips);
     let read = Replaced::read(read_with_any_rotation);
     let fetch = Replaced::fetch(fetch_with_any_rotation);
     slips.extend([("read, any rotation", read), ("fetch, any rotation", fetch)]);

@@ -90,9 +90,11 @@ fn a_wrong_check_forges_nothing() {
 
 /// Cards 0 and 1 are opened, each with a rotation: the premise that breaks, and card 1's number.
 fn open_both(sound: u16, rotations: [&[u8]; 2]) -> (Option<&'static str>, u8) {
+    let mut rotation = Rotation::default();
+    rotation[..3].copy_from_slice(&[2, 0, 1]);
     let head = Head {
         sound,
-        rotation: rotation(&[2, 0, 1]),
+        rotation,
         ..three_sound()
     };
     let mut runner = Runner::new(&Model, &head);
@@ -110,12 +112,6 @@ fn open_both(sound: u16, rotations: [&[u8]; 2]) -> (Option<&'static str>, u8) {
         number = outcome.number().expect("an answer");
     }
     (runner.claims.broken(), number)
-}
-
-fn rotation(seats: &[u8]) -> Rotation {
-    let mut rotation = Rotation::default();
-    rotation[..seats.len()].copy_from_slice(seats);
-    rotation
 }
 
 #[test]

@@ -1,5 +1,5 @@
 -- The masks after a blame: whose bits are set, and which rounds are certified. Assumes nothing.
-use Prim.Native.Nat.{ℕ, zero, suc, _+_, _-_, _*_, _/_, _%_, _≤_, _<_}
+use Prim.Native.Nat.{ℕ, zero, suc, _+_, _-_, _≤_, _<_}
 use mathlib.Core.Path.{_≡_, refl, sym, ap, _∙_}
 use mathlib.Core.Logic.{_⊎_, inl, inr, _≢_}
 use mathlib.Core.List.{List}
@@ -8,7 +8,7 @@ use native.Mathlib.Omega.{arith}
 use lib.ListN.{length, getD, length-set}
 use lib.Seq.{getD-set-same, getD-set-other, set-out}
 use lib.Dec.{eqb, leb}
-use borrow.Author.Tests.{eqb-true, eqb-false, leb-true, leb-false, le-leb, eq-eqb}
+use borrow.Author.Tests.{eqb-true, eqb-false, leb-true, leb-false, le-leb}
 use Rattle.apollo.specs.declared.Setup.{Setup}
 use Rattle.apollo.specs.Setup.{replicas}
 use Rattle.apollo.specs.Masks.{count, bit, setBit, mask, addBlame, certified, gap}

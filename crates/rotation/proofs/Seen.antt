@@ -10,7 +10,7 @@ use lib.Arith.{mod-mul}
 use lib.Pow.{pow-pos}
 use lib.Dec.{eqb, ltb}
 use lib.ListN.{length}
-use borrow.Author.Tests.{eqb-true, eqb-false, eq-eqb, ltb-true, ltb-false, lt-ltb}
+use borrow.Author.Tests.{eqb-true, eqb-false, eq-eqb, lt-ltb}
 use Rattle.apollo.specs.Masks.{bit, setBit}
 use Rattle.apollo.specs.Rotation.{seats, isRotation}
 use Rattle.apollo.proofs.Masks.{bit-zero, bit-set-same, bit-set-other, bit-kept}

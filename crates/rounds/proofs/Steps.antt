@@ -14,7 +14,7 @@ use Rattle.apollo.specs.declared.Setup.{Setup}
 use Rattle.apollo.specs.Setup.{setupOf, leader}
 use Rattle.apollo.specs.Masks.{addBlame, certified}
 use Rattle.apollo.specs.Replica.{withRound, withTimer, leads}
-use Rattle.apollo.specs.Enter.{State, commit, tipped, waiting, hearing, holding, entered, ownBlock, proposing, enterRound, settle, state}
+use Rattle.apollo.specs.Enter.{commit, waiting, hearing, entered, ownBlock, proposing, enterRound, settle, state}
 use Rattle.apollo.specs.Outcome.{Outcome, nextLeader, taken, outcome}
 use Rattle.apollo.proofs.Tests.{and-first}
 use Rattle.tip.specs.Ready.{Ready}

@@ -3,7 +3,6 @@ use mathlib.Core.Path.{ap}
 use mathlib.Core.List.{List}
 use Prim.Native.Nat.{ℕ}
 use borrow.Author.Needs.{needs}
-use Rattle.apollo.specs.declared.Replica.{Replica}
 use Rattle.apollo.specs.Replica.{fresh}
 use Rattle.record.proofs.fresh.Statement.{statement}
 use Rattle.record.proofs.fresh.Tie as tie

@@ -1,6 +1,5 @@
 -- `rotation::all_seen` meets its contract: a power of two fits. Assumes nothing.
-use mathlib.Core.Path.{_≡_}
-use Prim.Native.Nat.{_*_, _%_, _^_, _≤_, _<_}
+use Prim.Native.Nat.{_*_, _%_, _^_}
 use native.Mathlib.Nat.{mod-le}
 use native.Mathlib.Omega.{arith}
 use borrow.Author.Needs.{needs}
