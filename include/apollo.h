@@ -128,16 +128,16 @@ extern "C" {
 uint32_t apollo_version(void);
 
 enum {
-  APOLLO_FRAME = 512,       /* bytes of a frame and of a slot of the log */
-  APOLLO_OUT = 1024,        /* an out buffer's least size: two frames */
-  APOLLO_ENTRY = 400,       /* an entry's most bytes */
-  APOLLO_DIGEST = 32,       /* bytes of a digest */
-  APOLLO_MAX_F = 7,         /* most cards that may fail: n = 2 f + 1 */
-  APOLLO_MAX_REPLICAS = 15,    /* most cards, n */
-  APOLLO_MAX_BLAMES = 15,   /* most frames of a set of blames, whatever n is */
-  APOLLO_MAX_ROUNDS = 4096, /* most rounds of a term, T */
+  APOLLO_FRAME = 512,        /* bytes of a frame and of a slot of the log */
+  APOLLO_OUT = 1024,         /* an out buffer's least size: two frames */
+  APOLLO_ENTRY = 400,        /* an entry's most bytes */
+  APOLLO_DIGEST = 32,        /* bytes of a digest */
+  APOLLO_MAX_F = 7,          /* most cards that may fail: n = 2 f + 1 */
+  APOLLO_MAX_REPLICAS = 15,  /* most cards, n */
+  APOLLO_MAX_BLAMES = 15,    /* most frames of a set of blames, whatever n is */
+  APOLLO_MAX_ROUNDS = 4096,  /* most rounds of a term, T */
   APOLLO_MAX_TIMEOUT = 60000,
-  APOLLO_NO_LEADER = 255    /* the leader told after a refusal, or when the term is over */
+  APOLLO_NO_LEADER = 255     /* the leader told after a refusal, or when the term is over */
 };
 
 /* A frame: 512 bytes, numbers big-endian. What is not named is zero. The leader of round r is card rotation[(r - 1) mod n]: a block of
@@ -175,9 +175,10 @@ typedef enum {
   APOLLO_BAD_ROTATION = 17       /* open: the rotation is not n bytes, lacks a card below n or has one twice */
 } apollo_number;
 
-/* 12 means that a premise of the agreement (docs/AGREEMENT.md) is broken: more than f cards failed in this term (one opened with another f,
- * T or rotation is one of them), a frame was forged, or a correct card blamed a correct one's round. Drop the branch, stop acting on the list, and call for repair. Lists that have parted
- * may also show as a card that stands still on 11 or 13, with no 12 at all: compare lists. */
+/* 12 means that a premise of the agreement (docs/AGREEMENT.md) is broken: more than f cards failed in this term (one opened with another
+ * f, T or rotation is one of them), a frame was forged, or a correct card blamed a correct one's round. Drop the branch, stop acting on
+ * the list, and call for repair. Lists that have parted may also show as a card that stands still on 11 or 13, with no 12 at all:
+ * compare lists. */
 
 /* Three counters that must not be mixed up: each is a type of its own. */
 typedef struct { uint32_t value; } apollo_round;
