@@ -46,15 +46,23 @@ module _ {s : State} {out : List ℕ} (c : Callable s out) (entry : List ℕ) wh
   too-long l o = before-entry o ∙ cond-true _ _ (lt-ltb 400 (length entry) l)
 
 -- a block frame is whole, and passes 7 and 8
+pub block-of : (s : Setup) (x : List ℕ) → length x ≡ 512 → checked sha256 x ≡ true → blockForm s x ≡ true → block s x ≡ true
+unfolding block
+block-of s x l c f =
+    both (eqb (length x) 512) _ (eq-eqb (length x) 512 l) (both (checked sha256 x) (blockForm s x) c f)
+
+pub block-parts : (s : Setup) (x : List ℕ) → block s x ≡ true → (checked sha256 x ≡ true) × (blockForm s x ≡ true)
+unfolding block
+block-parts s x e = and-true (checked sha256 x) (blockForm s x) (and-true (eqb (length x) 512) (checked sha256 x && blockForm s x) e .1)
+
 pub block-length : (s : Setup) (x : List ℕ) → block s x ≡ true → length x ≡ 512
 unfolding block
 block-length s x e = eqb-true (length x) 512 (and-true (eqb (length x) 512) (checked sha256 x && blockForm s x) e .0)
 
 faultless : (s : Setup) (x : List ℕ) → block s x ≡ true → faulty sha256 s x ≡ 0
-unfolding block fault
+unfolding fault
 faultless s x e =
-    let p = and-true (eqb (length x) 512) (checked sha256 x && blockForm s x) e in
-    let q = and-true (checked sha256 x) (blockForm s x) (p .1) in
+    let q = block-parts s x e in
     cond-false _ _ (ap not (q .0)) ∙ cond-false _ _ (ap not (q .1))
 
 blocks-head : (s : Setup) (x : List ℕ) (xs : List (List ℕ)) → blocks s x xs ≡ true → block s x ≡ true
@@ -144,25 +152,27 @@ module _ {s : State} {out : List ℕ} (c : Callable s out) (entry : List ℕ) (l
   fresh-branch high =
       reads ∙ cond-true _ _ verdict ∙ cond-false _ _ (le-ltb (round (lastOf x xs)) (s .replica .round .0) high)
 
-attach-from : (log x : List ℕ) (p r : ℕ) → 1 ≤ p → p ≤ r → (filled (slot log p) && linked (slot log p) x) ≡ true
+-- the highest round that a frame fits; the genesis is always there
+pub attach-from : (log x : List ℕ) (p r : ℕ) → p ≤ r → (1 ≤ p → filled (slot log p) ≡ true) → linked (slot log p) x ≡ true
     → ((q : ℕ) → p < q → q ≤ r → (filled (slot log q) && linked (slot log q) x) ≡ false)
     → attach log x r ≡ some p
-unfolding attach
-attach-from log x p zero one l e h = absurd (omega arith)
-attach-from log x p (suc r) one l e h = go (attach-from log x p r one) (eqb p (suc r)) refl
+unfolding attach slot
+attach-from log x zero zero l f e h = cond-true _ _ e
+attach-from log x (suc p) zero l f e h = absurd (omega arith)
+attach-from log x p (suc r) l f e h =
+    go (λ m. attach-from log x p r m f e (λ q a b. h q a (omega arith))) (eqb p (suc r)) refl
   where
-    go : (p ≤ r → (filled (slot log p) && linked (slot log p) x) ≡ true
-        → ((q : ℕ) → p < q → q ≤ r → (filled (slot log q) && linked (slot log q) x) ≡ false)
-        → attach log x r ≡ some p) → (b : Bool) → eqb p (suc r) ≡ b → attach log x (suc r) ≡ some p
+    go : (p ≤ r → attach log x r ≡ some p) → (b : Bool) → eqb p (suc r) ≡ b → attach log x (suc r) ≡ some p
     go ih true t =
         let q : p ≡ suc r = eqb-true p (suc r) t in
-        cond-true _ _ (subst (λ k. (filled (slot log k) && linked (slot log k) x) ≡ true) q e) ∙ ap some (sym q)
+        cond-true _ _ (subst (λ k. (filled (slot log k) && linked (slot log k) x) ≡ true) q (both _ _ (f (omega arith)) e)) ∙ ap some (sym q)
     go ih false t =
         let ne : ¬ (p ≡ suc r) = eqb-false p (suc r) t in
-        cond-false _ _ (h (suc r) (omega arith) (omega arith)) ∙ ih (omega arith) e (λ q a b. h q a (omega arith))
+        cond-false _ _ (h (suc r) (omega arith) (omega arith)) ∙ ih (omega arith)
 
 -- a frame attaches to the round of its parent
 pub attaches : (log x : List ℕ) (p : ℕ) → 1 ≤ p → ParentIn log x p → attach log x (round x - 1) ≡ some p
 attaches log x p one m =
     let below : p < round x = m .below in
-    attach-from log x p (round x - 1) one (omega arith) (m .found) (λ q a b. m .highest q a (omega arith))
+    let t = and-true (filled (slot log p)) (linked (slot log p) x) (m .found) in
+    attach-from log x p (round x - 1) (omega arith) (λ _. t .0) (t .1) (λ q a b. m .highest q a (omega arith))

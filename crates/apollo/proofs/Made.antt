@@ -46,9 +46,17 @@ pub blame-round : (i r : ℕ) (rest : List ℕ) → r < 65536 → round (makeBla
 unfolding number4 makeBlame sealed blameHead
 blame-round i r rest l = omega arith
 
-blame-round-alone : (i r : ℕ) → r < 65536 → round (makeBlame sha256 i r) ≡ r
+pub blame-round-alone : (i r : ℕ) → r < 65536 → round (makeBlame sha256 i r) ≡ r
 unfolding number4 makeBlame sealed blameHead
 blame-round-alone i r l = omega arith
+
+pub blame-kind : (i r : ℕ) → kind (makeBlame sha256 i r) ≡ 2
+unfolding makeBlame sealed blameHead
+blame-kind i r = refl
+
+pub blame-signer : (i r : ℕ) → signer (makeBlame sha256 i r) ≡ i
+unfolding makeBlame sealed blameHead
+blame-signer i r = refl
 
 blame-blank-length : (i r : ℕ) → blank (makeBlame sha256 i r) 2 4 ≡ true
 unfolding makeBlame sealed blameHead same zeros
@@ -67,8 +75,8 @@ blame-form s i r below one last small =
     both _ (blank x 8 480)
     (both _ (within 1 (round x) (s .«last_round» .0))
     (both _ (blank x 2 4)
-    (both (eqb (kind x) 2) (ltb (signer x) (replicas s)) (unfold makeBlame sealed blameHead in refl)
-    (unfold makeBlame sealed blameHead in lt-ltb i (replicas s) below))
+    (both (eqb (kind x) 2) (ltb (signer x) (replicas s)) (eq-eqb (kind x) 2 (blame-kind i r))
+    (lt-ltb (signer x) (replicas s) (omega (arith, blame-signer i r))))
     (blame-blank-length i r))
     (within-of 1 (round x) (s .«last_round» .0) (omega arith) (omega arith)))
     (blame-blank i r)
@@ -117,7 +125,7 @@ module _ (i r h : ℕ) (up entry : List ℕ) (wide : length up ≡ 32) (fits : l
   unfolding makeBlock sealed blockHead
   block-kind = refl
 
-  block-signer : signer (makeBlock sha256 i r h up entry) ≡ i
+  pub block-signer : signer (makeBlock sha256 i r h up entry) ≡ i
   unfolding makeBlock sealed blockHead
   block-signer = refl
 

@@ -11,7 +11,7 @@ use Rattle.apollo.specs.Tick.{tickWith}
 pub use Rattle.apollo.specs.Enter.{state}
 pub use Rattle.apollo.specs.Outcome.{outcome}
 pub use Rattle.apollo.specs.Read.{readCall}
-pub use Rattle.apollo.specs.Fetch.{fetchCall, mayCopy, fetched}
+pub use Rattle.apollo.specs.Fetch.{fetchCall, fetched}
 
 abbrev pub openCall : (id f timeout lastRound : ℕ) (rotation log masks entry out : List ℕ) → Outcome
 openCall = openWith sha256

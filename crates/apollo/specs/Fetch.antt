@@ -1,12 +1,11 @@
--- Document 01, "Fetch".
+-- Document 01, "Fetch"; how many frames by document 02, F-5.
 use Prim.Native.Nat.{ℕ, _*_, _/_, min}
 use mathlib.Core.List.{List, [], _∷_, _++_, flatten}
-use mathlib.Core.Bool.{Bool, not, cond}
+use mathlib.Core.Bool.{not, cond}
 use lib.ListN.{length, take, drop}
 use lib.Dec.{eqb, ltb}
 use Rattle.apollo.specs.declared.Replica.{Replica}
 use Rattle.apollo.specs.declared.Fetched.{Fetched}
-use Rattle.apollo.specs.Bytes.{within}
 use Rattle.apollo.specs.Frame.{height}
 use Rattle.apollo.specs.Log.{chain}
 use Rattle.apollo.specs.Replica.{validReplica}
@@ -34,13 +33,14 @@ above h (x ∷ xs) = cond (ltb h (height x)) (x ∷ above h xs) (above h xs)
 abbrev pub fetchable : Replica → (log : List ℕ) (h : ℕ) → List (List ℕ)
 fetchable r log h = above h (chain log (r .«last_round» .0))
 
--- the counts that a taken fetch may have: from 1 to the smaller of all such frames and what fits
-unfoldable pub mayCopy : Replica → (log : List ℕ) (h : ℕ) (out : List ℕ) (count : ℕ) → Bool
-mayCopy r log h out count = within 1 count (min (length (fetchable r log h)) (length out / 512))
+-- the count: "the smaller of" all such frames and the whole frames that the out buffer (tray) takes
+abbrev pub fetchCount : Replica → (log : List ℕ) (h : ℕ) (out : List ℕ) → ℕ
+fetchCount r log h out = min (length (fetchable r log h)) (length out / 512)
 
--- fetch above height h, copying `count` frames where taken: 2, 4, 15, and taken
-unfoldable pub fetchCall : Replica → (log : List ℕ) (h : ℕ) (out : List ℕ) (count : ℕ) → FetchOutcome
-fetchCall r log h out count =
+-- fetch above height h: 2, 4, 15, and taken, with the lowest rounds at the start of the out buffer
+unfoldable pub fetchCall : Replica → (log : List ℕ) (h : ℕ) (out : List ℕ) → FetchOutcome
+fetchCall r log h out =
+    let count : ℕ = fetchCount r log h out in
     cond (not (validReplica r log)) (notFetched out badReplica)
     (cond (ltb (length out) 1024) (notFetched out outTooShort)
     (cond (eqb (length (fetchable r log h)) 0) (notFetched out absent)

@@ -3,8 +3,7 @@ use apollo::Fetched;
 use apollo::Height;
 use apollo::Replica;
 ghost use mathlib.Core.Path.{_≡_};
-ghost use mathlib.Core.Bool.{true};
-ghost use Rattle.apollo.specs.Calls.{fetchCall, mayCopy, fetched};
+ghost use Rattle.apollo.specs.Calls.{fetchCall, fetched};
 ghost use Rattle.call_fetch.specs.Answers.{noFrames};
 
 fn no_frames(number: u8) -> Fetched
@@ -15,8 +14,7 @@ fn no_frames(number: u8) -> Fetched
 
 // The chain frames above a height are copied to the start of the out buffer, as many as fit: 2, 4, 15, and taken.
 pub fn fetch(replica: Replica, log: &[u8], height: Height, out: &mut [u8]) -> Fetched
-    ensures { λ a. ⌜ fetched a (now (out .exit)) ≡ fetchCall replica (now (log .entry)) (height .0) (now (out .entry)) (a .count) ⌝ }
-    ensures { λ a. ⌜ (a .number ≡ 0 → mayCopy replica (now (log .entry)) (height .0) (now (out .entry)) (a .count) ≡ true) ⌝ }
+    ensures { λ a. ⌜ fetched a (now (out .exit)) ≡ fetchCall replica (now (log .entry)) (height .0) (now (out .entry)) ⌝ }
 {
     if !record_ranges::valid_replica(replica, log) {
         return no_frames(apollo::refusal::BAD_REPLICA);
