@@ -8,7 +8,8 @@ use mathlib.Core.Bool.{true, _&&_}
 use native.Mathlib.Omega.{arith}
 use lib.ListN.{length}
 use lib.Dec.{eqb}
-use borrow.Author.Tests.{eqb-true, eqb-false, leb-true, ltb-true}
+use borrow.Author.Tests.{eqb-true, eqb-false, eq-eqb, leb-true, ltb-true}
+use Rattle.sha256.specs.Fips.{sha256}
 use Rattle.apollo.specs.declared.Setup.{Setup}
 use Rattle.apollo.specs.declared.Verdict.{Verdict}
 use Rattle.apollo.specs.Setup.{leader}
@@ -18,20 +19,28 @@ use Rattle.apollo.specs.Log.{genesis, slot, filled, store, clearAbove, attach}
 use Rattle.apollo.specs.Masks.{gap}
 use Rattle.apollo.specs.Branch.{lastOf, childOf, firstUncertified, storeAll, grown, faulty, judged, judgedAll}
 use Rattle.agreement.specs.Run.{Event, In, Seen}
-use Rattle.agreement.proofs.Tests.{and-true, same-true, by-cond}
+use Rattle.apollo.proofs.Tests.{both}
+use Rattle.agreement.proofs.Tests.{and-true, same-true, same-of, by-cond}
 use Rattle.agreement.proofs.Masks.{gap-none}
 use Rattle.agreement.proofs.Slots.{store-same, clear-low}
 use Rattle.agreement.proofs.Frames.{Whole}
 use Rattle.agreement.proofs.Chain.{Held, Joins, within}
-use Rattle.agreement.proofs.Stored.{Stored, store-stored, clear-stored}
+use Rattle.agreement.proofs.Stored.{Fact, Stored, store-stored, clear-stored}
 use Rattle.apollo.proofs.Fault.{fault-none}
+use Rattle.apollo.proofs.Judging.{block-of, block-parts}
 
-linked-joins : (p x : List ℕ) → linked p x ≡ true → Joins p x
+pub linked-joins : (p x : List ℕ) → linked p x ≡ true → Joins p x
 unfolding linked
 linked-joins p x e =
     let t : (same (digest p) (parent x) ≡ true) × (eqb (height p + 1) (height x) ≡ true) = and-true _ _ e in
     let h : height p + 1 ≡ height x = eqb-true _ _ (t .1) in
     record { named = same-true (digest p) (parent x) (t .0); rise = omega arith }
+
+pub joins-linked : (p x : List ℕ) → Joins p x → linked p x ≡ true
+unfolding linked
+joins-linked p x j =
+    both (same (digest p) (parent x)) (eqb (height p + 1) (height x)) (same-of (j .named))
+    (eq-eqb (height p + 1) (height x) (omega (arith, j .rise)))
 
 -- where a frame attaches
 abbrev Attached : List ℕ → List ℕ → ℕ → ℕ → Type 0
@@ -60,16 +69,17 @@ attach-at log x (suc r) a e =
     ))
     (λ g p. let h : Attached log x r a = attach-at log x r a p in (omega (arith, h .0), h .1, h .2)) e
 
-module _ (s : Setup) (hash : List ℕ → List ℕ) where
+module _ (s : Setup) where
   -- a frame with a right check and the form of a block
   pub record Block (x : List ℕ) : Type 0 where
-    pub right : checked hash x ≡ true
+    pub right : checked sha256 x ≡ true
+    pub form : blockForm s x ≡ true
     pub kind-is : kind x ≡ 1
     pub signed : signer x ≡ leader s (round x)
     pub lowest : 1 ≤ round x
     pub highest : round x ≤ s .«last_round» .0
 
-  formed : (x : List ℕ) → checked hash x ≡ true → blockForm s x ≡ true → Block x
+  pub formed : (x : List ℕ) → checked sha256 x ≡ true → blockForm s x ≡ true → Block x
   unfolding blockForm
   formed x c g =
       let p4 = and-true _ _ g .0 in
@@ -80,40 +90,47 @@ module _ (s : Setup) (hash : List ℕ → List ℕ) where
       let r = and-true _ _ (p2 .1) in
       record {
         right = c;
+        form = g;
         kind-is = eqb-true _ _ (p0 .0);
         signed = eqb-true _ _ (p0 .1);
         lowest = leb-true _ _ (r .0);
         highest = leb-true _ _ (r .1);
       }
 
-  block : (x : List ℕ) → faulty hash s x ≡ 0 → Block x
-  block x e = let p = fault-none hash (blockForm s) x e in formed x (p .0) (p .1)
+  -- the leader of a filled slot's round signed what is in it
+  pub led-by : (past : List Event) (q : ℕ) (x : List ℕ) → Fact s past q x → signer x ≡ leader s q
+  led-by past q x t =
+      let p = block-parts s x (t .block) in
+      formed x (p .0) (p .1) .signed ∙ ap (leader s) (t .round-is)
+
+  block : (x : List ℕ) → faulty sha256 s x ≡ 0 → Block x
+  block x e = let p = fault-none sha256 (blockForm s) x e in formed x (p .0) (p .1)
 
   -- each frame of a branch is a block, and the child of the one before
   abbrev pub Row : List ℕ → List (List ℕ) → Type 0
   Row x [] = Unit {0}
   Row x (y ∷ ys) = Block y × Joins x y × (round x < round y) × Row y ys
 
-  judged-row : (k : ℕ) (x : List ℕ) (ys : List (List ℕ)) → judged hash s k x ys .number ≡ 0 → Row x ys
+  judged-row : (k : ℕ) (x : List ℕ) (ys : List (List ℕ)) → judged sha256 s k x ys .number ≡ 0 → Row x ys
   unfolding judged childOf
   judged-row k x [] e = tt
   judged-row k x (y ∷ ys) e =
-      by-cond (λ (v : Verdict). v .number ≡ 0 → Row x (y ∷ ys)) (eqb (faulty hash s y) 0)
+      by-cond (λ (v : Verdict). v .number ≡ 0 → Row x (y ∷ ys)) (eqb (faulty sha256 s y) 0)
       (λ g. by-cond (λ (v : Verdict). v .number ≡ 0 → Row x (y ∷ ys)) (childOf x y)
       (λ h v. let p = and-true _ _ h in
       (block y (eqb-true _ _ g), linked-joins x y (p .0), ltb-true _ _ (p .1), judged-row (k + 1) y ys v))
       (λ h v. absurd (omega (arith, v))))
       (λ g v. absurd (eqb-false _ _ g v)) e
 
-  pub branch-row : (x : List ℕ) (ys : List (List ℕ)) → judgedAll hash s x ys .number ≡ 0 → Block x × Row x ys
+  pub branch-row : (x : List ℕ) (ys : List (List ℕ)) → judgedAll sha256 s x ys .number ≡ 0 → Block x × Row x ys
   unfolding judgedAll
   branch-row x ys e =
-      by-cond (λ (v : Verdict). v .number ≡ 0 → Block x × Row x ys) (eqb (faulty hash s x) 0)
+      by-cond (λ (v : Verdict). v .number ≡ 0 → Block x × Row x ys) (eqb (faulty sha256 s x) 0)
       (λ g v. (block x (eqb-true _ _ g), judged-row 1 x ys v)) (λ g v. absurd (eqb-false _ _ g v)) e
 
   -- the frames handed in that have a right check are seen
   abbrev pub Known : List Event → List (List ℕ) → Type 0
-  Known past xs = (x : List ℕ) → In x xs → checked hash x ≡ true → Seen x past
+  Known past xs = (x : List ℕ) → In x xs → checked sha256 x ≡ true → Seen x past
 
   module _ (past : List Event) (masks : List ℕ) where
     certified-parts : (lo : ℕ) (x : List ℕ) (xs : List (List ℕ)) → firstUncertified s masks lo (x ∷ xs) ≡ 0
@@ -128,7 +145,7 @@ module _ (s : Setup) (hash : List ℕ → List ℕ) where
         → Stored s past masks (store log (round x) x) (round x) (height x)
     store-first log a h x st b k l j up g =
         store-stored s past masks log a h st (round x) x up (b .highest) (b .kind-is) l
-        (record { round-is = refl; signed = b .signed; seen = k }) j
+        (record { round-is = refl; block = block-of s x l (b .right) (b .form); seen = k }) j
         (λ q m n. gap-none s masks a (round x - a - 1) g q m (omega arith))
 
     store-row : (xs : List (List ℕ)) (log : List ℕ) (a h : ℕ) (x : List ℕ) → Stored s past masks log a h → Block x → Row x xs

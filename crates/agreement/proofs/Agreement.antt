@@ -124,7 +124,7 @@ module _ (s : Setup) (correct : ℕ → Bool) (calls : List (ℕ × Call)) (p : 
   abbrev w : World
   w = run start calls
 
-  invariant : Inv s w
+  pub invariant : Inv s w
   invariant = run-inv s calls start (p .lawful) (start-inv s)
 
   honest : Honest s correct (w .past)
@@ -155,7 +155,7 @@ module _ (s : Setup) (correct : ℕ → Bool) (calls : List (ℕ × Call)) (p : 
               (λ q o m. sym (same-slots q o (omega (arith, highest-le (c .log) (commitLimit (c .replica)))))),
         )
 
-    same-committed : (q : ℕ) → 1 ≤ q → q ≤ c .replica .«committed_round» .0 → slot (c .log) q ≡ slot (d .log) q
+    pub same-committed : (q : ℕ) → 1 ≤ q → q ≤ c .replica .«committed_round» .0 → slot (c .log) q ≡ slot (d .log) q
     same-committed q o m = same-slots q o (omega (arith, committed-low (invariant .rests i c ec .renewed)))
 
     begins-by : Begins (committed c) (committed d)

@@ -17,6 +17,10 @@ count-no : (n : ℕ) (p : ℕ → Bool) → p n ≡ false → count (suc n) p �
 unfolding count
 count-no n p e = rw e (omega arith)
 
+pub count-none : (n : ℕ) (p : ℕ → Bool) → ((i : ℕ) → p i ≡ false) → count n p ≡ 0
+count-none zero p h = unfold count in refl
+count-none (suc n) p h = count-no n p (h n) ∙ count-none n p h
+
 -- more numbers pass p than q: one passes p alone
 Found : ℕ → (ℕ → Bool) → (ℕ → Bool) → Type 0
 Found n p q = (i : ℕ) × (i < n) × (p i ≡ true) × (q i ≡ false)

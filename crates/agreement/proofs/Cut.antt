@@ -59,7 +59,7 @@ module _ (P : Type 0) (c : State) (entry out : List ℕ) where
       by-cond (If6 P) (eqb (judgedAll sha256 (setupOf (c .replica)) x xs .number) 0)
       (λ _. by-cond (If6 P) (ltb (round (lastOf x xs)) (c .replica .round .0)) (λ _. other 10 0 refl)
       (λ _. placed-6 x xs (attach (c .log) x (round x - 1))))
-      (λ _. other _ _ (judgedAll-low sha256 (setupOf (c .replica)) x xs .2))
+      (λ _. other _ _ (judgedAll-low (setupOf (c .replica)) x xs .2))
 
   heard-6 : (x : List ℕ) (xs : List (List ℕ)) → If6 P (heard sha256 entry out c (x ∷ xs))
   unfolding heard taken

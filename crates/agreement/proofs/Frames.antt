@@ -1,60 +1,14 @@
--- The frames that a replica makes, and the frames at the start of an out buffer. Assumes that a digest has 32 bytes.
-use Prim.Native.Nat.{ℕ, _-_, _≤_, _<_}
-use mathlib.Core.Path.{_≡_, refl, ap, _∙_}
+-- Fields of a slot and of the genesis, and the frames at the start of an out buffer. Assumes nothing.
+use Prim.Native.Nat.{ℕ}
+use mathlib.Core.Path.{_≡_, refl}
 use mathlib.Core.List.{List, [], _∷_, _++_, append-assoc, flatten}
-use native.Mathlib.Omega.{arith}
-use lib.ListN.{length, take, drop, length-append, length-take, length-drop}
+use lib.ListN.{length, take, drop, length-take, length-drop}
 use lib.Seq.{drop-at, take-at}
 use Rattle.apollo.specs.Bytes.{number4, zeros}
-use Rattle.apollo.specs.Frame.{kind, signer, round, height, parent, digest, frames, sealed, blockHead, blameHead, makeBlock, makeBlame}
+use Rattle.apollo.specs.Frame.{round, height, digest, frames}
 use Rattle.apollo.specs.Log.{genesis}
-use Rattle.agreement.proofs.Slots.{length-zeros}
 pub use Rattle.apollo.proofs.Slots.{slot-length}
 pub use Rattle.apollo.proofs.Frames.{Whole, frames-whole}
-
-module _ (hash : List ℕ → List ℕ) (wide : (xs : List ℕ) → length (hash xs) ≡ 32) where
-  module _ (id r h : ℕ) (up entry : List ℕ) where
-    pub block-kind : kind (makeBlock hash id r h up entry) ≡ 1
-    unfolding makeBlock sealed blockHead
-    block-kind = refl
-
-    pub block-signer : signer (makeBlock hash id r h up entry) ≡ id
-    unfolding makeBlock sealed blockHead
-    block-signer = refl
-
-    pub block-round : r < 65536 → round (makeBlock hash id r h up entry) ≡ r
-    unfolding makeBlock sealed blockHead number4
-    block-round low = omega arith
-
-    pub block-height : h < 65536 → height (makeBlock hash id r h up entry) ≡ h
-    unfolding makeBlock sealed blockHead number4
-    block-height low = omega arith
-
-    pub block-parent : length up ≡ 32 → parent (makeBlock hash id r h up entry) ≡ up
-    unfolding makeBlock sealed blockHead
-    block-parent e =
-        ap (take 32) (append-assoc up (entry ++ zeros (436 - length entry)) (hash (blockHead id r h up entry))) ∙ take-at up _ 32 e
-
-    pub block-length : length up ≡ 32 → length entry ≤ 400 → length (makeBlock hash id r h up entry) ≡ 512
-    unfolding makeBlock sealed blockHead
-    block-length e l = simp (length-append, length-zeros, wide, e) (omega arith)
-
-  module _ (id r : ℕ) where
-    pub blame-kind : kind (makeBlame hash id r) ≡ 2
-    unfolding makeBlame sealed blameHead
-    blame-kind = refl
-
-    pub blame-signer : signer (makeBlame hash id r) ≡ id
-    unfolding makeBlame sealed blameHead
-    blame-signer = refl
-
-    pub blame-round : r < 65536 → round (makeBlame hash id r) ≡ r
-    unfolding makeBlame sealed blameHead number4
-    blame-round low = omega arith
-
-    pub blame-length : length (makeBlame hash id r) ≡ 512
-    unfolding makeBlame sealed blameHead
-    blame-length = simp (length-append, length-zeros, wide) (omega arith)
 
 pub digest-width : (x : List ℕ) → length x ≡ 512 → length (digest x) ≡ 32
 digest-width x e = simp (length-take, length-drop, e) refl

@@ -1,13 +1,13 @@
 -- The state of a replica that keeps the rules, nobody presumed correct, and the effects that keep it good. Assumes nothing.
 use Prim.Native.Nat.{ℕ, suc, _+_, _*_, _≤_, _<_}
-use mathlib.Core.Path.{_≡_, refl, sym, _∙_, subst}
-use mathlib.Core.Logic.{⊎-elim}
+use mathlib.Core.Path.{_≡_, refl, sym, ap, _∙_, subst}
+use mathlib.Core.Logic.{⊎-elim, _≢_}
 use mathlib.Core.List.{List}
 use mathlib.Core.Bool.{Bool, true, false}
 use native.Mathlib.Omega.{arith}
 use lib.ListN.{length}
-use lib.Dec.{leb}
-use borrow.Author.Tests.{leb-true, leb-false}
+use lib.Dec.{eqb, leb}
+use borrow.Author.Tests.{eqb-true, eqb-false, leb-true, leb-false}
 use Rattle.apollo.specs.declared.Replica.{Replica}
 use Rattle.apollo.specs.declared.Setup.{Setup}
 use Rattle.apollo.specs.Setup.{setupOf, replicas, validRotation}
@@ -17,7 +17,7 @@ use Rattle.apollo.specs.Masks.{bit, mask, certified}
 use Rattle.apollo.specs.Replica.{leads}
 use Rattle.apollo.specs.Enter.{State, commitLimit, commit, tipped, waiting, hearing, holding, entered}
 use Rattle.agreement.specs.Run.{Event, Seen}
-use Rattle.agreement.proofs.Masks.{mask-set, length-blame, certified-kept}
+use Rattle.agreement.proofs.Masks.{mask-set, length-blame, certified-kept, certified-other}
 use Rattle.agreement.proofs.Slots.{highest-le, highest-filled, highest-grows}
 use Rattle.agreement.proofs.Chain.{Held, within}
 use Rattle.agreement.proofs.Past.{Grows, seen-grows}
@@ -32,26 +32,75 @@ pub record Renewed (r : Replica) (log : List ℕ) : Type 0 where
   pub committed-is : r .«committed_round» .0 ≡ highest log (commitLimit r)
   pub committed-height : r .«committed_height» .0 ≡ height (slot log (r .«committed_round» .0))
 
+-- round q is not certified, by the state's own set-up
+abbrev pub Open : State → ℕ → Type 0
+Open c q = certified (setupOf (c .replica)) (c .masks) q ≡ false
+
+-- no round from R on is certified: blames for later ones come early, and R is passed as soon as it is
+abbrev pub Ahead : State → Type 0
+Ahead c = (q : ℕ) → c .replica .round .0 ≤ q → Open c q
+
 -- What holds after every call, and not always within one, where R has grown and is not entered yet: the replica leads no round that it
 -- waits for, and committed is renewed.
-pub record Rested (r : Replica) (log : List ℕ) : Type 0 where
-  pub idle : leads r ≡ false
-  pub renewed : Renewed r log
+pub record Rested (c : State) : Type 0 where
+  pub idle : leads (c .replica) ≡ false
+  pub renewed : Renewed (c .replica) (c .log)
+  pub ahead : Ahead c
+
+-- the same while blames of round r are heard, but for that round
+pub record Hears (r : ℕ) (c : State) : Type 0 where
+  pub least : 1 ≤ r
+  pub most : r ≤ c .replica .round .0
+  pub idle : leads (c .replica) ≡ false
+  pub renewed : Renewed (c .replica) (c .log)
+  pub ahead : (q : ℕ) → c .replica .round .0 ≤ q → q ≢ r → Open c q
+
+pub rested-hears : (r : ℕ) (c : State) → 1 ≤ r → r ≤ c .replica .round .0 → Rested c → Hears r c
+rested-hears r c o l h =
+    record { least = o; most = l; idle = h .idle; renewed = h .renewed; ahead = λ q m _. h .ahead q m }
+
+pub hear-hears : (r k : ℕ) (c : State) → Hears r c → Hears r (hearing c r k)
+unfolding hearing
+hear-hears r k c h =
+    record {
+      least = h .least;
+      most = h .most;
+      idle = h .idle;
+      renewed = h .renewed;
+      ahead = λ q m ne.
+          certified-other (setupOf (c .replica)) (c .masks) r k q (λ e. ne (omega (arith, e, h .least, h .most))) ∙ h .ahead q m ne;
+    }
+
+-- a state that hears round r, where that round is not R or not certified
+pub hears-rested : (r : ℕ) (c : State) → Hears r c → (r ≡ c .replica .round .0 → Open c r) → Rested c
+hears-rested r c h o =
+    record { idle = h .idle; renewed = h .renewed; ahead = λ q m. go q m (eqb q r) refl }
+  where
+    go : (q : ℕ) → c .replica .round .0 ≤ q → (b : Bool) → eqb q r ≡ b → Open c q
+    go q m true e =
+        let z : q ≡ r = eqb-true _ _ e in
+        ap (certified (setupOf (c .replica)) (c .masks)) z ∙ o (omega (arith, h .most))
+    go q m false e = h .ahead q m (eqb-false _ _ e)
 
 -- only the ticks left change
-pub rest-rested : (c : State) (timer : ℕ) → Rested (c .replica) (c .log)
-    → Rested (waiting c (c .replica .round .0) timer .replica) (waiting c (c .replica .round .0) timer .log)
+pub rest-rested : (c : State) (timer : ℕ) → Rested c → Rested (waiting c (c .replica .round .0) timer)
 unfolding waiting leads commitLimit
 rest-rested c timer r =
     record {
       idle = r .idle;
       renewed = record { committed-is = r .renewed .committed-is; committed-height = r .renewed .committed-height };
+      ahead = r .ahead;
     }
 
+-- R grows
+pub wait-ahead : (c : State) (R timer : ℕ) → ((q : ℕ) → R ≤ q → Open c q) → Ahead (waiting c R timer)
+unfolding waiting
+wait-ahead c R timer h = h
+
 -- a replica that does not lead the R that it enters
-pub enter-rested : (c : State) → leads (c .replica) ≡ false → Rested (entered c .replica) (entered c .log)
+pub enter-rested : (c : State) → leads (c .replica) ≡ false → Ahead c → Rested (entered c)
 unfolding entered commit leads commitLimit
-enter-rested c e = record { idle = e; renewed = record { committed-is = refl; committed-height = refl } }
+enter-rested c e a = record { idle = e; renewed = record { committed-is = refl; committed-height = refl }; ahead = a }
 
 pub committed-low : {r : Replica} {log : List ℕ} → Renewed r log → r .«committed_round» .0 ≤ commitLimit r
 committed-low {r} {log} h = omega (arith, h .committed-is, highest-le log (commitLimit r))

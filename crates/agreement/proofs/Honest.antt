@@ -19,6 +19,7 @@ use Rattle.agreement.proofs.Leaders.{leader-low, correct-mark, correct-
 use Rattle.agreement.proofs.Slots.{take-slots, highest-max}
 use Rattle.agreement.proofs.Chain.{filled-kind, within, agree}
 use Rattle.agreement.proofs.Stored.{Fact, Linked}
+use Rattle.agreement.proofs.Adopt.{led-by}
 use Rattle.agreement.proofs.Good.{Blamed, Renewed, committed-low, Good, good-certified, limit-low}
 use Rattle.agreement.proofs.Effects.{Tidy}
 use Rattle.agreement.proofs.Outcomes.{Reverts}
@@ -54,8 +55,9 @@ module _ (s : Setup) (correct : ℕ → Bool) (past : List Event) (h : Honest s 
   -- the block in a slot of a correct leader's round is one that it emitted
   leader-emitted : validRotation s ≡ true → (q : ℕ) (x : List ℕ) → Fact s past q x → correct (leader s q) ≡ true → In (emitted (leader s q) x) past
   leader-emitted v q x t ok =
-      subst (λ k. In (emitted k x) past) (t .signed)
-      (h .authentic x (t .seen) (subst (λ k. k < replicas s) (sym (t .signed)) (leader-low s v q)) (ap correct (t .signed) ∙ ok))
+      let by : signer x ≡ leader s q = led-by s past q x t in
+      subst (λ k. In (emitted k x) past) by
+      (h .authentic x (t .seen) (subst (λ k. k < replicas s) (sym by) (leader-low s v q)) (ap correct by ∙ ok))
 
   -- two linked logs
   module _ (v : validRotation s ≡ true) (m m′ a b : List ℕ) (t t′ R R′ : ℕ) (c : Linked s past m a t) (d : Linked s past m′ b t′)

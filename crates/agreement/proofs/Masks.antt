@@ -26,6 +26,10 @@ mask-here masks r i l = getD-set-same masks (r - 1) _ 0 l
 mask-out : (masks : List ℕ) (r i : ℕ) → length masks ≤ r - 1 → addBlame masks r i ≡ masks
 mask-out masks r i l = set-out masks (r - 1) _ l
 
+pub certified-other : (s : Setup) (masks : List ℕ) (r i q : ℕ) → q - 1 ≢ r - 1 → certified s (addBlame masks r i) q ≡ certified s masks q
+unfolding certified
+certified-other s masks r i q ne = ap (λ m. leb (s .f + 1) (count (replicas s) (λ k. bit k m))) (mask-other masks r i q ne)
+
 pub length-blame : (masks : List ℕ) (r i : ℕ) → length (addBlame masks r i) ≡ length masks
 length-blame masks r i = length-set masks (r - 1) _
 

@@ -1,4 +1,4 @@
--- Open: one that is taken makes a good state, and none meets refusal 2 or 12. Assumes that a digest has 32 bytes.
+-- Open: one that is taken makes a good state, and none meets refusal 2 or 12. Assumes nothing.
 use Prim.Native.Nat.{ℕ, zero, suc, _+_, _-_, _*_, _≤_}
 use mathlib.Core.Path.{_≡_, refl, sym, ap, _∙_}
 use mathlib.Core.Logic.{inl, _≢_}
@@ -7,13 +7,14 @@ use mathlib.Core.Bool.{Bool, true, false, not, _&&_}
 use native.Mathlib.Omega.{arith}
 use lib.ListN.{length, getD, replicate, getD-replicate, List·getD-eq-default, length-replicate}
 use lib.Dec.{leb, ltb, eqb}
-use borrow.Author.Tests.{leb-true, leb-false, ltb-false, eqb-false, not-false}
+use borrow.Author.Tests.{lt-leb, leb-true, leb-false, ltb-false, eqb-false, not-false}
+use Rattle.sha256.specs.Fips.{sha256}
 use Rattle.apollo.specs.declared.Setup.{Setup}
 use Rattle.apollo.specs.Bytes.{zeros}
 use Rattle.apollo.specs.Rotation.{isRotation, padded}
 use Rattle.apollo.specs.Frame.{height, frames}
 use Rattle.apollo.specs.Log.{genesis, slot, filled}
-use Rattle.apollo.specs.Masks.{bit, mask}
+use Rattle.apollo.specs.Masks.{count, bit, mask, certified}
 use Rattle.apollo.proofs.Masks.{bit-zero}
 use Rattle.apollo.specs.Replica.{fresh, validSetup, validMasks}
 use Rattle.apollo.specs.Enter.{State, commitLimit, enterRound}
@@ -23,10 +24,11 @@ use Rattle.apollo.proofs.Rotation.{padded-valid}
 use Rattle.apollo.proofs.Validity.{ValidSetup, valid-setup}
 use Rattle.agreement.specs.Run.{Event, emitted, In, emittedBy}
 use Rattle.agreement.proofs.Tests.{clash, and-true, by-cond}
+use Rattle.agreement.proofs.Counts.{count-none}
 use Rattle.agreement.proofs.Slots.{length-zeros, part-zeros, filled-genesis, filled-nil, slot-beyond, highest-le}
 use Rattle.agreement.proofs.Frames.{height-genesis}
 use Rattle.agreement.proofs.Stored.{Linked}
-use Rattle.agreement.proofs.Good.{Renewed, extends-refl, Fixed, Good}
+use Rattle.agreement.proofs.Good.{Renewed, Ahead, extends-refl, Fixed, Good}
 use Rattle.agreement.proofs.Effects.{Tidy, enter-kept}
 use Rattle.agreement.proofs.Outcomes.{Fine, taken-fine}
 
@@ -98,6 +100,12 @@ module _ (s : Setup) (past : List Event) (i : ℕ) where
     unfolding fresh commitLimit
     first-renewed = record { committed-is = omega (arith, highest-le log (0 - f)); committed-height = sym height-zero }
 
+    first-ahead : Ahead first
+    unfolding fresh certified
+    first-ahead q l =
+        lt-leb (f + 1) (count (2 * f + 1) (λ k. bit k (mask (zeros last) q)))
+        (omega (arith, count-none (2 * f + 1) (λ k. bit k (mask (zeros last) q)) (λ k. ap (bit k) (mask-zero last q) ∙ bit-zero k)))
+
   -- what is shown of an answer to open
   pub record OpenFine (id f last : ℕ) (rotation : List ℕ) (o : Outcome) : Type 0 where
     pub valid-ok : o .answer .number ≢ 2
@@ -139,13 +147,12 @@ module _ (s : Setup) (past : List Event) (i : ℕ) where
         turns = padded-valid s rotation (ap (λ k. isRotation (2 * k + 1) rotation) (sym ef) ∙ t) (omega (arith, x .f-most)) (sym er);
       }
 
-  module _ (hash : List ℕ → List ℕ) (wide : (xs : List ℕ) → length (hash xs) ≡ 32) (id f timeout last : ℕ)
-      (rotation log masks entry out : List ℕ) where
+  module _ (id f timeout last : ℕ) (rotation log masks entry out : List ℕ) where
     abbrev new : State
     new = record { replica = fresh id f timeout last rotation; log = zeros (512 * last); masks = zeros last }
 
     made : (validSetup (new .replica) log && validMasks (new .replica) masks) ≡ true → isRotation (2 * f + 1) rotation ≡ true
-        → length entry ≤ 400 → OpenFine id f last rotation (taken (enterRound hash entry new) out)
+        → length entry ≤ 400 → OpenFine id f last rotation (taken (enterRound sha256 entry new) out)
     unfolding taken
     made v t fits =
         record {
@@ -155,16 +162,17 @@ module _ (s : Setup) (past : List Event) (i : ℕ) where
           fine = λ _ ei ef el er none tidy.
               let x : Fixed s i id f timeout last (padded rotation) = ranges id f timeout last rotation log masks v t ei ef el er in (
                 new,
-                taken-fine s past i new (enterRound hash entry new) out
-                    (enter-kept s hash wide entry fits past i new new (first-renewed id f timeout last rotation x) (extends-refl new)
-                    (record { good = first-good id f timeout last rotation x; mine = λ y p k. absurd (none y p); tidy = tidy })),
+                taken-fine s past i new (enterRound sha256 entry new) out
+                    (enter-kept s entry fits past i new new (first-renewed id f timeout last rotation x) (extends-refl new)
+                    (record { good = first-good id f timeout last rotation x; mine = λ y p k. absurd (none y p); tidy = tidy })
+                    (first-ahead id f timeout last rotation x)),
               );
         }
 
     abbrev Opens : Outcome → Type 0
     Opens = OpenFine id f last rotation
 
-    pub open-fine : Opens (openWith hash id f timeout last rotation log masks entry out)
+    pub open-fine : Opens (openWith sha256 id f timeout last rotation log masks entry out)
     unfolding openWith fresh
     open-fine =
         by-cond Opens (not (validSetup (new .replica) log && validMasks (new .replica) masks))

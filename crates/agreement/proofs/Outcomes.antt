@@ -35,7 +35,7 @@ module _ (s : Setup) where
   -- replica i's call leaves state c as the outcome says
   pub record Fine (past : List Event) (i : ℕ) (c : State) (o : Outcome) : Type 0 where
     pub standing : Standing s (emit i (emittedBy o) past) i (stateOf o)
-    pub rests : Rested (o .answer .replica) (o .log)
+    pub rests : Rested (stateOf o)
     pub extends : Extends c (stateOf o)
     pub valid-ok : o .answer .number ≢ 2
     pub reverts : o .answer .number ≡ 12 → Reverts past c
@@ -54,7 +54,7 @@ module _ (s : Setup) where
           reverts = λ z. absurd (omega (arith, z));
         }
 
-    module _ (st : Standing s past i c) (rests : Rested (c .replica) (c .log)) where
+    module _ (st : Standing s past i c) (rests : Rested c) where
       pub refused-fine : (out : List ℕ) (k p : ℕ) → k ≢ 2 → (k ≡ 12 → Reverts past c) → Fine past i c (refused c out k p)
       unfolding refused frames emit emittedBy
       refused-fine out k p a b =

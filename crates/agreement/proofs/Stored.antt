@@ -6,10 +6,10 @@ use mathlib.Core.Bool.{true}
 use native.Mathlib.Omega.{arith}
 use lib.ListN.{length}
 use Rattle.apollo.specs.declared.Setup.{Setup}
-use Rattle.apollo.specs.Setup.{leader}
-use Rattle.apollo.specs.Frame.{kind, signer, round, height}
+use Rattle.apollo.specs.Frame.{kind, round, height}
 use Rattle.apollo.specs.Log.{slot, filled, store, clearAbove}
 use Rattle.apollo.specs.Masks.{certified}
+use Rattle.apollo.specs.BenchSheet.{block}
 use Rattle.agreement.specs.Run.{Event, Seen}
 use Rattle.agreement.proofs.Slots.{store-same, store-other, length-store, length-clear, clear-low, clear-high, slot-beyond, filled-nil}
 use Rattle.agreement.proofs.Chain.{Held, Joins, Chain, chain-map, within, held-level}
@@ -20,7 +20,7 @@ module _ (s : Setup) where
   -- what is known of the frame in a filled slot q
   pub record Fact (past : List Event) (q : ℕ) (x : List ℕ) : Type 0 where
     pub round-is : round x ≡ q
-    pub signed : signer x ≡ leader s q
+    pub block : block s x ≡ true
     pub seen : Seen x past
 
   abbrev pub Linked : List Event → List ℕ → List ℕ → ℕ → Type 0
@@ -38,7 +38,7 @@ module _ (s : Setup) where
       record {
         chain =
             chain-map (s .«last_round» .0) _ _ (Fact past) (Fact now) (slot log) tip k
-            (λ q x e. record { round-is = e .round-is; signed = e .signed; seen = seen-grows past now g x (e .seen) }) (st .chain);
+            (λ q x e. record { round-is = e .round-is; block = e .block; seen = seen-grows past now g x (e .seen) }) (st .chain);
         level-is = st .level-is;
         size = st .size;
       }

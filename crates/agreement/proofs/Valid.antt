@@ -16,7 +16,7 @@ use Rattle.agreement.specs.Run.{Event}
 use Rattle.agreement.proofs.Chain.{held-level, rises}
 use Rattle.agreement.proofs.Good.{Renewed, Rested, committed-held, setup-is, Good, committed-tip}
 
-module _ (s : Setup) (past : List Event) (i : ℕ) (c : State) (g : Good s past i c) (rests : Rested (c .replica) (c .log)) where
+module _ (s : Setup) (past : List Event) (i : ℕ) (c : State) (g : Good s past i c) (rests : Rested c) where
   abbrev r : Renewed (c .replica) (c .log)
   r = rests .renewed
 

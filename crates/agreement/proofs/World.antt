@@ -1,4 +1,4 @@
--- The invariant of every list of calls that keeps the rules about opens, with SHA-256 as the hash. Assumes nothing.
+-- The invariant of every list of calls that keeps the rules about opens. Assumes nothing.
 use Prim.Native.Nat.{ℕ, _<_}
 use mathlib.Core.Path.{_≡_, refl, sym, ap, _∙_, subst}
 use mathlib.Core.Logic.{_⊎_, inl, inr, _≢_, ⊎-elim}
@@ -8,8 +8,6 @@ use mathlib.Core.Bool.{Bool, true, false, cond}
 use native.Mathlib.Omega.{arith}
 use lib.Dec.{eqb}
 use borrow.Author.Tests.{eqb-true, eqb-false}
-use Rattle.sha256.specs.Fips.{sha256}
-use Rattle.sha256.proofs.Hash.{digest-length}
 use Rattle.apollo.specs.declared.Setup.{Setup}
 use Rattle.apollo.specs.Frame.{kind, round, framesOf, wholeFrames}
 use Rattle.apollo.specs.Enter.{State}
@@ -77,7 +75,7 @@ module _ (s : Setup) where
     pub good : (i : ℕ) (c : State) → w .states i ≡ some c → Good s (w .past) i c
     pub mine : (i : ℕ) (c : State) → w .states i ≡ some c → (x : List ℕ) → In (emitted i x) (w .past) → kind x ≡ 1
         → round x < c .replica .round .0
-    pub rests : (i : ℕ) (c : State) → w .states i ≡ some c → Rested (c .replica) (c .log)
+    pub rests : (i : ℕ) (c : State) → w .states i ≡ some c → Rested c
     pub asleep : (i : ℕ) → w .states i ≡ none → (x : List ℕ) → In (emitted i x) (w .past) → ⊥
     pub tidy : Tidy s (w .past)
     pub valid : In (answered 2) (w .past) → ⊥
@@ -178,7 +176,7 @@ module _ (s : Setup) where
           mine =
               each (λ j d. (x : List ℕ) → In (emitted j x) now → kind x ≡ 1 → round x < d .replica .round .0)
               (λ x p. fine .standing .mine x (opens i x p)) (λ j d ne e x p. v .mine j d e x (note-other i o (w .past) j x ne p));
-          rests = each (λ j d. Rested (d .replica) (d .log)) (fine .rests) (λ j d ne e. v .rests j d e);
+          rests = each (λ j d. Rested d) (fine .rests) (λ j d ne e. v .rests j d e);
           asleep = still-asleep;
           tidy = tidy-back _ now opens (fine .standing .tidy);
           valid = λ p. ⊎-elim (fine .valid-ok) (v .valid) (note-answered i o (w .past) 2 p);
@@ -186,22 +184,22 @@ module _ (s : Setup) where
         }
 
   -- the frames of a buffer that is not cut are seen
-  known-uncut : (past : List Event) (most : ℕ) (bytes : List ℕ) → Known s sha256 past (uncut most bytes) → wholeFrames most bytes ≡ true
-      → Known s sha256 past (framesOf bytes)
+  known-uncut : (past : List Event) (most : ℕ) (bytes : List ℕ) → Known s past (uncut most bytes) → wholeFrames most bytes ≡ true
+      → Known s past (framesOf bytes)
   unfolding uncut
-  known-uncut past most bytes k e = subst (Known s sha256 past) (cond-true _ _ e) k
+  known-uncut past most bytes k e = subst (Known s past) (cond-true _ _ e) k
 
   -- each call other than open keeps the state: the one place that names them
-  act-fine : (past : List Event) (i : ℕ) (c : State) (a : Act) → Known s sha256 past (framesIn c a) → Standing s past i c
-      → Rested (c .replica) (c .log) → Fine s past i c (answer c a)
+  act-fine : (past : List Event) (i : ℕ) (c : State) (a : Act) → Known s past (framesIn c a) → Standing s past i c
+      → Rested c → Fine s past i c (answer c a)
   unfolding answer framesIn
   act-fine past i c (branch bytes entry out) k st r =
-      branch-fine s sha256 digest-length past i entry c st r bytes out (known-uncut past (c .replica .«last_round» .0) bytes k)
+      branch-fine s past i entry c st r bytes out (known-uncut past (c .replica .«last_round» .0) bytes k)
   act-fine past i c (blame bytes entry out) k st r =
-      handing-fine s sha256 digest-length past i entry c st r 1 bytes out (known-uncut past 1 bytes k)
+      handing-fine s past i entry c st r 1 bytes out (known-uncut past 1 bytes k)
   act-fine past i c (blames bytes entry out) k st r =
-      handing-fine s sha256 digest-length past i entry c st r 15 bytes out (known-uncut past 15 bytes k)
-  act-fine past i c (tick entry out) k st r = tick-fine s sha256 digest-length past i entry c st r out
+      handing-fine s past i entry c st r 15 bytes out (known-uncut past 15 bytes k)
+  act-fine past i c (tick entry out) k st r = tick-fine s past i entry c st r out
 
   -- What a call does to the states: each that was there is still there, and extended.
   abbrev pub Grown : World → World → Type 0
@@ -234,7 +232,7 @@ module _ (s : Setup) where
         o = openCall id f timeout last rotation log masks entry out
 
         r : OpenFine s (w .past) i id f last rotation o
-        r = open-fine s (w .past) i sha256 digest-length id f timeout last rotation log masks entry out
+        r = open-fine s (w .past) i id f timeout last rotation log masks entry out
 
         yes-case : o .answer .number ≡ 0 → Stepped w (after w i o)
         yes-case e =
