@@ -1,8 +1,8 @@
--- Both bounds are reached, by the first six calls of the list that shows that demand 3's premises can hold. Assumes nothing.
+-- Both bounds are reached, by the first seven calls of the list that shows that demand 3's premises can hold. Assumes nothing.
 use mathlib.Core.Path.{refl}
 use Rattle.apollo.specs.Log.{slotsRead}
 use Rattle.witness.proofs.Answers.{all, skipped-0}
-use Rattle.witness.proofs.Witness.{setup, correct, first-six, six-premises, six-leave}
+use Rattle.witness.proofs.Witness.{setup, correct, first-seven, seven-premises, seven-leave}
 use Rattle.search_bounds.specs.Bounds.{certifiedRun, Reached}
 
 -- replica 0 has skipped round 2, its limit, and finds the block of round 1
@@ -12,11 +12,11 @@ reached =
     record {
       s = setup;
       correct = correct;
-      calls = first-six;
-      premises = six-premises;
+      calls = first-seven;
+      premises = seven-premises;
       i = 0;
       c = skipped-0;
-      left = six-leave;
+      left = seven-leave .0;
       f-one = refl;
       by-masks = refl;
       by-f = refl;

@@ -1,4 +1,5 @@
--- What the calls of the witness answer, with SHA-256 itself: f = 1, T = 4, a timeout of 1, the rotation 2, 1, 0, replica 1 missing.
+-- What the calls of the witness answer, with SHA-256 itself: f = 1, T = 4, a timeout of 1, the rotation 2, 1, 0; replica 1 opens
+-- and hears nothing.
 -- Assumes nothing.
 use Prim.Native.Nat.{ℕ}
 use mathlib.Core.Path.{_≡_, refl, ap, ap₂, _∙_}
@@ -73,6 +74,14 @@ unfoldable pub all : Unit {0}
 unfolding out rotation log0 log1 log3 log4 stateAt made b1 b3 b4 m0 m2 head1 head3 head4 head-m0 head-m2 d1 d3 d4 e0 e2 blockHead blameHead zeros number2 number4 same seats eachOnce isRotation padded leader validRotation frames wholeFrames blockForm blameForm linked sealed makeBlock makeBlame genesis slot store clearAbove attach highest bit setBit count certified gap fresh leads validSetup validRounds validReplica commitLimit commit tipped waiting hearing holding entered ownBlock proposing enterRound settle taken guarded openWith lastOf firstUncertified storeAll grown fault judgedEach judged judgedAll adopting placed branched branchWith oneSet anyFresh addBlames hearingAll heard handing blaming ticked tickWith
 all = tt
 
+-- Replica 1 opens.
+unfoldable pub opened-1 : State
+opened-1 = stateAt 1 1 1 (0, 0) (0, 0) log0 0
+
+pub open-1 : openCall 1 1 1 4 rotation log0 (zeros 4) [] out ≡ made opened-1 []
+unfolding all opened-1
+open-1 = refl
+
 -- Replica 2 opens, leads round 1 and emits block 1: for any hash, and then with the digest.
 opens-2 : List ℕ → Outcome
 opens-2 x = made (stateAt 2 2 1 (1, 1) (0, 0) (store log0 1 x) 0) (x ∷ [])
@@ -104,7 +113,7 @@ pub take-1 : branchCall opened-0 b1 [] out ≡ made first-0 []
 unfolding all opened-0 first-0
 take-1 = rw checked1 refl
 
--- The leader of round 2 is missing: replica 2's tick emits its blame.
+-- The leader of round 2 sends nothing: replica 2's tick emits its blame.
 unfoldable pub blaming-2 : State
 blaming-2 = stateAt 2 2 0 (1, 1) (0, 0) log1 4
 

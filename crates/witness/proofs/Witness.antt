@@ -1,6 +1,6 @@
--- A list of calls that meets demand 3's premises, with SHA-256 itself and another rotation than the old turn, where a leader is missing,
--- its round is blamed and skipped, one replica commits by blames alone, and two commit a block above that round. Its first six calls
--- meet them too. Assumes nothing.
+-- A list of calls that meets demand 3's premises, with SHA-256 itself and another rotation than the old turn, where a leader does
+-- nothing after its open, its round is blamed and skipped, one replica commits by blames alone, and two commit a block above that round.
+-- Its first seven and its first eight calls meet them too. Assumes nothing.
 use Prim.Native.Nat.{ℕ}
 use mathlib.Core.Path.{_≡_, refl, sym, ap, _∙_, subst}
 use mathlib.Core.Logic.{_⊎_, inl, inr}
@@ -23,11 +23,11 @@ use Rattle.agreement.specs.Premises.{Mostly, Patient, Distinct, Premises}
 use Rattle.agreement.specs.Claim.{committed, Agreed}
 use Rattle.agreement.proofs.Agreement.{agreement, beginnings}
 use Rattle.witness.proofs.Frames.{d1, d3, d4, e0, b1, b3, b4, m0, m2, checked1, checked3, checked4, checked-m0, checked-m2}
-use Rattle.witness.proofs.Answers.{out, rotation, log0, all, opened-2, opened-0, first-0, blaming-2, heard-0, skipped-0, skipped-2, last-2, last-0, open-2, open-0, take-1, tick-2, hear-2, tick-0, hear-set, take-3, take-4}
+use Rattle.witness.proofs.Answers.{out, rotation, log0, all, opened-1, opened-2, opened-0, first-0, blaming-2, heard-0, skipped-0, skipped-2, last-2, last-0, open-1, open-2, open-0, take-1, tick-2, hear-2, tick-0, hear-set, take-3, take-4}
 use Rattle.witness.proofs.Worlds.{given, next, Goes, stay, then, goes, lawful, unforged, opens, acts}
 
--- The list: f = 1, T = 4, a timeout of one tick, the rotation 2, 1, 0; replica 1, the leader of round 2, is missing.
---   2 opens and emits block 1; 0 opens; 0 takes block 1
+-- The list: f = 1, T = 4, a timeout of one tick, the rotation 2, 1, 0; replica 1, the leader of round 2, is not correct.
+--   1 opens, and hears nothing; 2 opens and emits block 1; 0 opens; 0 takes block 1
 --   2 ticks and blames round 2; 0 hears that
 --   0 ticks and blames round 2, which is now certified: it enters round 3, emits block 3 on block 1 and commits block 1
 --   2 hears both blames as a set, its own bit standing already: it passes round 2 and commits block 1
@@ -47,19 +47,25 @@ hearingSet ms = blames ms [] out
 ticking : Act
 ticking = tick [] out
 
-pub first-six : List (ℕ × Call)
-first-six =
-    (2, openAt 2) ∷ (0, openAt 0) ∷ (0, act (taking b1)) ∷ (2, act ticking) ∷ (0, act (hearing m2)) ∷ (0, act ticking) ∷ []
+pub first-seven : List (ℕ × Call)
+first-seven =
+    (1, openAt 1) ∷ (2, openAt 2) ∷ (0, openAt 0) ∷ (0, act (taking b1)) ∷ (2, act ticking) ∷ (0, act (hearing m2)) ∷ (0, act ticking) ∷ []
 
-last-three : List (ℕ × Call)
-last-three = (2, act (hearingSet (m2 ++ m0))) ∷ (2, act (taking b3)) ∷ (0, act (taking b4)) ∷ []
+pub first-eight : List (ℕ × Call)
+first-eight = first-seven ++ ((2, act (hearingSet (m2 ++ m0))) ∷ [])
+
+last-two : List (ℕ × Call)
+last-two = (2, act (taking b3)) ∷ (0, act (taking b4)) ∷ []
 
 pub calls : List (ℕ × Call)
-calls = first-six ++ last-three
+calls = first-eight ++ last-two
 
 -- the worlds that it goes through
+w0 : World
+w0 = next start 1 [] opened-1 []
+
 w1 : World
-w1 = next start 2 [] opened-2 (b1 ∷ [])
+w1 = next w0 2 [] opened-2 (b1 ∷ [])
 
 w2 : World
 w2 = next w1 0 [] opened-0 []
@@ -86,7 +92,7 @@ w9 : World
 w9 = next w8 0 (b4 ∷ []) last-0 []
 
 worlds : Unit {0}
-unfolding openAt taking hearing hearingSet ticking first-six last-three calls start given next emit w1 w2 w3 w4 w5 w6 w7 w8 w9
+unfolding openAt taking hearing hearingSet ticking first-seven first-eight last-two calls start given next emit w0 w1 w2 w3 w4 w5 w6 w7 w8 w9
 worlds = tt
 
 -- replicas 0 and 2 are correct
@@ -100,29 +106,38 @@ correct i = not (eqb i 1)
 by : (x : List ℕ) (i : ℕ) → signer x ≡ i → emitted (signer x) x ≡ emitted i x
 by x i e = ap (λ k. emitted k x) e
 
-six : Goes setup correct start first-six w6
-unfolding worlds setup framesIn uncut answer all opened-2 opened-0 first-0 blaming-2 heard-0
-six =
-    opens setup correct start 2 1 rotation log0 (zeros 4) [] opened-2 (b1 ∷ []) refl refl open-2 (refl, tt)
+seven : Goes setup correct start first-seven w6
+unfolding worlds setup framesIn uncut answer all opened-1 opened-2 opened-0 first-0 blaming-2 heard-0
+seven =
+    opens setup correct start 1 1 rotation log0 (zeros 4) [] opened-1 [] refl refl open-1 tt
+    (opens setup correct w0 2 1 rotation log0 (zeros 4) [] opened-2 (b1 ∷ []) refl refl open-2 (refl, tt)
     (opens setup correct w1 0 1 rotation log0 (zeros 4) [] opened-0 [] refl refl open-0 tt
     (acts setup correct w2 0 (taking b1) opened-0 first-0 (b1 ∷ []) [] refl refl (checked1, tt) (inr (inr (inl (by b1 2 refl))), tt) take-1 tt
     (acts setup correct w3 2 ticking opened-2 blaming-2 [] (m2 ∷ []) refl refl tt tt tick-2 (refl, tt)
     (acts setup correct w4 0 (hearing m2) first-0 heard-0 (m2 ∷ []) [] refl refl (checked-m2, tt) (inr (inl (by m2 2 refl)), tt) hear-2 tt
-    (acts setup correct w5 0 ticking heard-0 skipped-0 [] (m0 ∷ b3 ∷ []) refl refl tt tt tick-0 (refl, (refl, tt)) stay)))))
+    (acts setup correct w5 0 ticking heard-0 skipped-0 [] (m0 ∷ b3 ∷ []) refl refl tt tt tick-0 (refl, (refl, tt)) stay))))))
 
-three : Goes setup correct w6 last-three w9
+eighth : Goes setup correct w6 ((2, act (hearingSet (m2 ++ m0))) ∷ []) w7
 unfolding worlds setup framesIn uncut answer all blaming-2 skipped-0 skipped-2
-three =
+eighth =
     acts setup correct w6 2 (hearingSet (m2 ++ m0)) blaming-2 skipped-2 (m2 ∷ m0 ∷ []) [] refl refl (checked-m2, (checked-m0, tt))
-    (inr (inr (inr (inr (inr (inr (inl (by m2 2 refl))))))), (inr (inr (inl (by m0 0 refl))), tt)) hear-set tt
-    (acts setup correct w7 2 (taking b3) skipped-2 last-2 (b3 ∷ []) (b4 ∷ []) refl refl (checked3, tt)
+    (inr (inr (inr (inr (inr (inr (inl (by m2 2 refl))))))), (inr (inr (inl (by m0 0 refl))), tt)) hear-set tt stay
+
+eight : Goes setup correct start first-eight w7
+unfolding first-eight
+eight = then setup correct seven eighth
+
+two : Goes setup correct w7 last-two w9
+unfolding worlds setup framesIn uncut answer all skipped-0 skipped-2
+two =
+    acts setup correct w7 2 (taking b3) skipped-2 last-2 (b3 ∷ []) (b4 ∷ []) refl refl (checked3, tt)
     (inr (inr (inr (inr (inl (by b3 0 refl))))), tt) take-3 (refl, tt)
     (acts setup correct w8 0 (taking b4) skipped-0 last-0 (b4 ∷ []) [] refl refl (checked4, tt) (inr (inl (by b4 2 refl)), tt) take-4 tt
-    stay))
+    stay)
 
 steps : Goes setup correct start calls w9
 unfolding calls
-steps = then setup correct six three
+steps = then setup correct eight two
 
 mostly : Mostly setup correct
 unfolding setup correct count
@@ -163,7 +178,7 @@ is2 = inr (inr (inr (inr refl)))
 
 known-all : KnownAll (w9 .past)
 unfolding worlds
-known-all = (tt, (is4, (tt, (is4, (is3, (tt, (is0, (is2, (tt, (is3, (is0, (tt, (is2, (tt, (is2, (tt, (is1, (tt, (tt, (is1, tt))))))))))))))))))))
+known-all = (tt, (is4, (tt, (is4, (is3, (tt, (is0, (is2, (tt, (is3, (is0, (tt, (is2, (tt, (is2, (tt, (is1, (tt, (tt, (is1, (tt, tt)))))))))))))))))))))
 
 known : (e : Event) → In e (run start calls .past) → Known e
 known e p = known-in (w9 .past) known-all e (subst (λ (w : World). In e (w .past)) (goes setup correct steps) p)
@@ -252,27 +267,44 @@ premises =
 pub agreed : Agreed correct (run start calls)
 agreed = agreement setup correct calls premises
 
--- and replicas 0 and 2 have both committed the blocks of rounds 1 and 3
-abbrev Commits : ℕ → Type 0
-Commits i = (c : State) × (run start calls .states i ≡ some c) × (committed c ≡ b1 ∷ b3 ∷ [])
+-- the state of replica i after some calls
+abbrev Leaves : List (ℕ × Call) → ℕ → State → Type 0
+Leaves es i c = run start es .states i ≡ some c
 
-pub commits : Commits 0 × Commits 2
+pub all-leave : Leaves calls 0 last-0 × Leaves calls 2 last-2
 unfolding worlds
-commits = (
-  (last-0, ap (λ (w : World). w .states 0) (goes setup correct steps), unfold all last-0 committed chain in refl),
-  (last-2, ap (λ (w : World). w .states 2) (goes setup correct steps), unfold all last-2 committed chain in refl),
-)
+all-leave =
+    let e : (i : ℕ) → run start calls .states i ≡ w9 .states i = λ i. ap (λ (w : World). w .states i) (goes setup correct steps) in
+    (e 0, e 2)
 
--- The first six calls meet the premises too. They leave replica 0 waiting for round 4, with round 2 skipped.
-pub six-premises : Premises setup correct first-six
+-- replicas 0 and 2 have both committed the blocks of rounds 1 and 3
+pub commits : (committed last-0 ≡ b1 ∷ b3 ∷ []) × (committed last-2 ≡ b1 ∷ b3 ∷ [])
+unfolding all last-0 last-2 committed chain
+commits = (refl, refl)
+
+-- The first eight and the first seven calls meet the premises too.
+pub eight-premises : Premises setup correct first-eight
 unfolding calls
-six-premises = beginnings setup correct first-six last-three premises
+eight-premises = beginnings setup correct first-eight last-two premises
 
-pub six-leave : run start first-six .states 0 ≡ some skipped-0
+pub seven-premises : Premises setup correct first-seven
+unfolding first-eight
+seven-premises = beginnings setup correct first-seven _ eight-premises
+
+-- Seven leave replica 1 where it opened, replica 2 with its blame of round 2, and replica 0 waiting for round 4, with round 2 skipped.
+pub seven-leave : Leaves first-seven 0 skipped-0 × Leaves first-seven 1 opened-1 × Leaves first-seven 2 blaming-2
 unfolding worlds
-six-leave = ap (λ (w : World). w .states 0) (goes setup correct six)
+seven-leave =
+    let e : (i : ℕ) → run start first-seven .states i ≡ w6 .states i = λ i. ap (λ (w : World). w .states i) (goes setup correct seven) in
+    (e 0, e 1, e 2)
 
--- Document 02, F-2, in the seventh call: replica 2 had committed nothing, and commits block 1 by the set of blames, with which it emits
+pub eight-leave : Leaves first-eight 0 skipped-0 × Leaves first-eight 2 skipped-2
+unfolding worlds
+eight-leave =
+    let e : (i : ℕ) → run start first-eight .states i ≡ w7 .states i = λ i. ap (λ (w : World). w .states i) (goes setup correct eight) in
+    (e 0, e 2)
+
+-- Document 02, F-2, in the eighth call: replica 2 had committed nothing, and commits block 1 by the set of blames, with which it emits
 -- nothing (`hear-set`).
 pub by-blames : (committed blaming-2 ≡ []) × (committed (stateOf (blamesCall blaming-2 (m2 ++ m0) [] out)) ≡ b1 ∷ [])
 by-blames = (
