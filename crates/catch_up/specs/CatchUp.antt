@@ -1,0 +1,126 @@
+-- A replica that was away comes back (document 02, F-5): what it fetches from a neighbour is a branch that it takes, once it has the
+-- blames of the rounds that the neighbour skipped.
+use Prim.Native.Nat.{ℕ, _+_, _*_, _≤_}
+use mathlib.Core.Path.{_≡_}
+use mathlib.Core.Logic.{_⊎_}
+use mathlib.Core.Option.{some}
+use mathlib.Core.List.{List, [], _∷_, _++_, flatten}
+use mathlib.Core.Bool.{Bool, true, cond}
+use lib.ListN.{length, take}
+use lib.Dec.{eqb, ltb}
+use Rattle.apollo.specs.declared.Setup.{Setup}
+use Rattle.apollo.specs.declared.Verdict.{Verdict}
+use Rattle.apollo.specs.Setup.{setupOf}
+use Rattle.apollo.specs.Frame.{round, height, frames}
+use Rattle.apollo.specs.Enter.{State}
+use Rattle.apollo.specs.Judging.{verdict, noRefusal}
+use Rattle.apollo.specs.Outcome.{Outcome}
+use Rattle.apollo.specs.Branch.{lastOf, firstUncertified}
+use Rattle.apollo.specs.Fetch.{FetchOutcome, fetchable, fetchCall}
+use Rattle.apollo.specs.Calls.{branchCall, blamesCall}
+use Rattle.apollo.specs.Refusal.{roundsOver, stale, notCertified, early}
+use Rattle.apollo.specs.BenchSheet.{number, newRound, blocks}
+use Rattle.agreement.specs.Run.{Call, start, run}
+use Rattle.agreement.specs.Premises.{Each, Lawful, Premises}
+
+-- what a replica in state d has for one in state c: its chain (line) frames above c's committed height, lowest rounds first
+abbrev pub missing : (c d : State) → List (List ℕ)
+missing c d = fetchable (d .replica) (d .log) (c .replica .«committed_height» .0)
+
+-- number and place of an answer
+abbrev pub verdictOf : Outcome → Verdict
+verdictOf o = verdict (o .answer .number) (o .answer .place)
+
+-- the first round above c's committed one that x and the frames after it skip and that is not certified (shown) at c; 0 if none
+abbrev pub lacking : State → (x : List ℕ) (ys : List (List ℕ)) → ℕ
+lacking c x ys = firstUncertified (setupOf (c .replica)) (c .masks) (c .replica .«committed_round» .0) (x ∷ ys)
+
+-- how c answers them as a branch: 3, 10, 13 with that round, or taken
+unfoldable pub received : State → (x : List ℕ) (ys : List (List ℕ)) → Verdict
+received c x ys =
+    cond (eqb (c .replica .round .0) (c .replica .«last_round» .0 + 1)) (verdict roundsOver 0)
+    (cond (ltb (round (lastOf x ys)) (c .replica .round .0)) (verdict stale 0)
+    (cond (eqb (lacking c x ys) 0) noRefusal (verdict notCertified (lacking c x ys))))
+
+-- those of some frames, their rounds rising, that are below round q
+unfoldable pub beneath : (q : ℕ) → List (List ℕ) → List (List ℕ)
+beneath q [] = []
+beneath q (x ∷ xs) = cond (ltb (round x) q) (x ∷ beneath q xs) []
+
+-- Whatever anyone sent, the frames of a chain above some height, from the first on, are good and each is the child of the one before:
+-- they pass 7, 8 and 9
+abbrev pub GoodRun : Type 0
+GoodRun =
+    (s : Setup) (calls : List (ℕ × Call)) → Each (Lawful s) start calls → (j : ℕ) (d : State) → run start calls .states j ≡ some d
+    → (h : ℕ) (x : List ℕ) (ys zs : List (List ℕ)) → fetchable (d .replica) (d .log) h ≡ x ∷ (ys ++ zs) → blocks s x ys ≡ true
+
+-- and a fetch that goes on from the height of one of them gives those after it: fetches one after another give all
+abbrev pub GoesOn : Type 0
+GoesOn =
+    (s : Setup) (calls : List (ℕ × Call)) → Each (Lawful s) start calls → (j : ℕ) (d : State) → run start calls .states j ≡ some d
+    → (h : ℕ) (xs : List (List ℕ)) (x : List ℕ) (ys : List (List ℕ)) → fetchable (d .replica) (d .log) h ≡ xs ++ (x ∷ ys)
+    → fetchable (d .replica) (d .log) (height x) ≡ ys
+
+-- With the premises of demand 3, of any two replicas: what d has for c, all of it or a beginning (of one fetch, say), end to end, is
+-- answered so. Never with 2, 6, 7, 8, 9, 11 or 12
+abbrev pub CatchUp : Type 0
+CatchUp =
+    (s : Setup) (correct : ℕ → Bool) (calls : List (ℕ × Call)) → Premises s correct calls → (i j : ℕ) (c d : State)
+    → run start calls .states i ≡ some c → run start calls .states j ≡ some d
+    → (x : List ℕ) (ys zs : List (List ℕ)) → missing c d ≡ x ∷ (ys ++ zs)
+    → (entry out : List ℕ) → length entry ≤ 400 → 1024 ≤ length out
+    → verdictOf (branchCall c (flatten (x ∷ ys)) entry out) ≡ received c x ys
+
+-- so with one fetch at d and one branch at c: x and ys are what the fetch wrote to its out buffer (tray)
+abbrev pub OneFetch : Type 0
+OneFetch =
+    (s : Setup) (correct : ℕ → Bool) (calls : List (ℕ × Call)) → Premises s correct calls → (i j : ℕ) (c d : State)
+    → run start calls .states i ≡ some c → run start calls .states j ≡ some d
+    → (tray : List ℕ) (o : FetchOutcome) → o ≡ fetchCall (d .replica) (d .log) (c .replica .«committed_height» .0) tray
+    → (x : List ℕ) (ys : List (List ℕ)) → frames (o .answer .count) (o .out) ≡ x ∷ ys
+    → (entry out : List ℕ) → length entry ≤ 400 → 1024 ≤ length out
+    → verdictOf (branchCall c (take (512 * o .answer .count) (o .out)) entry out) ≡ received c x ys
+
+-- A blame for a round above R is early (14). After a 13 that is no dead end: the round that it names is at most R, or else the frames below
+-- that round, handed in by themselves, are taken, and then it is
+abbrev pub Split : Type 0
+Split =
+    (s : Setup) (correct : ℕ → Bool) (calls : List (ℕ × Call)) → Premises s correct calls → (i j : ℕ) (c d : State)
+    → run start calls .states i ≡ some c → run start calls .states j ≡ some d
+    → (x : List ℕ) (ys zs : List (List ℕ)) → missing c d ≡ x ∷ (ys ++ zs) → (q : ℕ) → received c x ys ≡ verdict notCertified q
+    → (entry out : List ℕ) → length entry ≤ 400 → 1024 ≤ length out
+    → (q ≤ c .replica .round .0)
+    ⊎ ((number (branchCall c (flatten (beneath q (x ∷ ys))) entry out) ≡ 0)
+    × (q ≤ newRound (branchCall c (flatten (beneath q (x ∷ ys))) entry out)))
+
+-- The premises can hold, and each of these verdicts comes, on whole runs that one replica has for another
+pub record Comes (v : Verdict) : Type 0 where
+  pub s : Setup
+  pub correct : ℕ → Bool
+  pub calls : List (ℕ × Call)
+  pub premises : Premises s correct calls
+  pub i : ℕ
+  pub j : ℕ
+  pub c : State
+  pub d : State
+  pub c-is : run start calls .states i ≡ some c
+  pub d-is : run start calls .states j ≡ some d
+  pub x : List ℕ
+  pub ys : List (List ℕ)
+  pub has : missing c d ≡ x ∷ ys
+  pub verdict-is : received c x ys ≡ v
+
+pub record Reached : Type 0 where
+  pub over : Comes (verdict roundsOver 0)
+  pub behind : Comes (verdict stale 0)
+  pub taken : Comes noRefusal
+  -- the round named is R: its blames go in at once
+  pub waits : Comes (verdict notCertified 2)
+  pub waits-for : waits .c .replica .round .0 ≡ 2
+  -- The split is needed: the round named is above R, its two blames, f + 1 of them, are early, and the frames below it are taken
+  pub far : Comes (verdict notCertified 2)
+  pub far-from : far .c .replica .round .0 ≡ 1
+  pub blames : List ℕ
+  pub out : List ℕ
+  pub too-early : number (blamesCall (far .c) blames [] out) ≡ early
+  pub below-taken : number (branchCall (far .c) (flatten (beneath 2 (far .x ∷ far .ys))) [] out) ≡ 0
