@@ -47,51 +47,55 @@ unfoldable pub beneath : (q : ℕ) → List (List ℕ) → List (List ℕ)
 beneath q [] = []
 beneath q (x ∷ xs) = cond (ltb (round x) q) (x ∷ beneath q xs) []
 
--- Whatever anyone sent, the frames of a chain above some height, from the first on, are good and each is the child of the one before:
--- they pass 7, 8 and 9
+-- what holds of every replica's state d after any lawful list, whatever anyone sent
+abbrev pub OfOne : (Setup → (d : State) → Type 0) → Type 0
+OfOne P =
+    (s : Setup) (calls : List (ℕ × Call)) → Each (Lawful s) start calls → (j : ℕ) (d : State) → run start calls .states j ≡ some d → P s d
+
+-- what holds of any two replicas' states c and d after a list that meets demand 3's premises
+abbrev pub OfTwo : ((c d : State) → Type 0) → Type 0
+OfTwo P =
+    (s : Setup) (correct : ℕ → Bool) (calls : List (ℕ × Call)) → Premises s correct calls → (i j : ℕ) (c d : State)
+    → run start calls .states i ≡ some c → run start calls .states j ≡ some d → P c d
+
+-- c answers a branch with v, for any entry and out buffer that pass 4 and 5
+abbrev pub Answers : (c : State) (bytes : List ℕ) → Verdict → Type 0
+Answers c bytes v =
+    (entry out : List ℕ) → length entry ≤ 400 → 1024 ≤ length out → verdictOf (branchCall c bytes entry out) ≡ v
+
+-- The frames of a chain above some height, from the first on, are good and each is the child of the one before: they pass 7, 8 and 9
 abbrev pub GoodRun : Type 0
 GoodRun =
-    (s : Setup) (calls : List (ℕ × Call)) → Each (Lawful s) start calls → (j : ℕ) (d : State) → run start calls .states j ≡ some d
-    → (h : ℕ) (x : List ℕ) (ys zs : List (List ℕ)) → fetchable (d .replica) (d .log) h ≡ x ∷ (ys ++ zs) → blocks s x ys ≡ true
+    OfOne (λ s d. (h : ℕ) (x : List ℕ) (ys zs : List (List ℕ)) → fetchable (d .replica) (d .log) h ≡ x ∷ (ys ++ zs)
+    → blocks s x ys ≡ true)
 
 -- and a fetch that goes on from the height of one of them gives those after it: fetches one after another give all
 abbrev pub GoesOn : Type 0
 GoesOn =
-    (s : Setup) (calls : List (ℕ × Call)) → Each (Lawful s) start calls → (j : ℕ) (d : State) → run start calls .states j ≡ some d
-    → (h : ℕ) (xs : List (List ℕ)) (x : List ℕ) (ys : List (List ℕ)) → fetchable (d .replica) (d .log) h ≡ xs ++ (x ∷ ys)
-    → fetchable (d .replica) (d .log) (height x) ≡ ys
+    OfOne (λ s d. (h : ℕ) (xs : List (List ℕ)) (x : List ℕ) (ys : List (List ℕ)) → fetchable (d .replica) (d .log) h ≡ xs ++ (x ∷ ys)
+    → fetchable (d .replica) (d .log) (height x) ≡ ys)
 
--- With the premises of demand 3, of any two replicas: what d has for c, all of it or a beginning (of one fetch, say), end to end, is
--- answered so. Never with 2, 6, 7, 8, 9, 11 or 12
+-- What d has for c, all of it or a beginning (of one fetch, say), end to end, is answered so. Never with 2, 6, 7, 8, 9, 11 or 12
 abbrev pub CatchUp : Type 0
 CatchUp =
-    (s : Setup) (correct : ℕ → Bool) (calls : List (ℕ × Call)) → Premises s correct calls → (i j : ℕ) (c d : State)
-    → run start calls .states i ≡ some c → run start calls .states j ≡ some d
-    → (x : List ℕ) (ys zs : List (List ℕ)) → missing c d ≡ x ∷ (ys ++ zs)
-    → (entry out : List ℕ) → length entry ≤ 400 → 1024 ≤ length out
-    → verdictOf (branchCall c (flatten (x ∷ ys)) entry out) ≡ received c x ys
+    OfTwo (λ c d. (x : List ℕ) (ys zs : List (List ℕ)) → missing c d ≡ x ∷ (ys ++ zs) → Answers c (flatten (x ∷ ys)) (received c x ys))
 
 -- so with one fetch at d and one branch at c: x and ys are what the fetch wrote to its out buffer (tray)
 abbrev pub OneFetch : Type 0
 OneFetch =
-    (s : Setup) (correct : ℕ → Bool) (calls : List (ℕ × Call)) → Premises s correct calls → (i j : ℕ) (c d : State)
-    → run start calls .states i ≡ some c → run start calls .states j ≡ some d
-    → (tray : List ℕ) (o : FetchOutcome) → o ≡ fetchCall (d .replica) (d .log) (c .replica .«committed_height» .0) tray
+    OfTwo (λ c d. (tray : List ℕ) (o : FetchOutcome) → o ≡ fetchCall (d .replica) (d .log) (c .replica .«committed_height» .0) tray
     → (x : List ℕ) (ys : List (List ℕ)) → frames (o .answer .count) (o .out) ≡ x ∷ ys
-    → (entry out : List ℕ) → length entry ≤ 400 → 1024 ≤ length out
-    → verdictOf (branchCall c (take (512 * o .answer .count) (o .out)) entry out) ≡ received c x ys
+    → Answers c (take (512 * o .answer .count) (o .out)) (received c x ys))
 
 -- A blame for a round above R is early (14). After a 13 that is no dead end: the round that it names is at most R, or else the frames below
 -- that round, handed in by themselves, are taken, and then it is
 abbrev pub Split : Type 0
 Split =
-    (s : Setup) (correct : ℕ → Bool) (calls : List (ℕ × Call)) → Premises s correct calls → (i j : ℕ) (c d : State)
-    → run start calls .states i ≡ some c → run start calls .states j ≡ some d
-    → (x : List ℕ) (ys zs : List (List ℕ)) → missing c d ≡ x ∷ (ys ++ zs) → (q : ℕ) → received c x ys ≡ verdict notCertified q
+    OfTwo (λ c d. (x : List ℕ) (ys zs : List (List ℕ)) → missing c d ≡ x ∷ (ys ++ zs) → (q : ℕ) → received c x ys ≡ verdict notCertified q
     → (entry out : List ℕ) → length entry ≤ 400 → 1024 ≤ length out
     → (q ≤ c .replica .round .0)
     ⊎ ((number (branchCall c (flatten (beneath q (x ∷ ys))) entry out) ≡ 0)
-    × (q ≤ newRound (branchCall c (flatten (beneath q (x ∷ ys))) entry out)))
+    × (q ≤ newRound (branchCall c (flatten (beneath q (x ∷ ys))) entry out))))
 
 -- The premises can hold, and each of these verdicts comes, on whole runs that one replica has for another
 pub record Comes (v : Verdict) : Type 0 where
