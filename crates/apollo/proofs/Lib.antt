@@ -4,6 +4,7 @@ pub mod Rotation
 pub mod Validity
 pub mod Slots
 pub mod Frames
+pub mod Fetch
 pub mod Fault
 pub mod Single
 pub mod Judging

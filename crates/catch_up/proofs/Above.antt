@@ -2,7 +2,7 @@
 use Prim.Native.Nat.{ℕ, zero, suc, _+_, _≤_, _<_}
 use mathlib.Core.Path.{_≡_, refl, sym, ap, ap₂, _∙_, subst}
 use mathlib.Core.Logic.{_⊎_, inl, inr, ⊎-elim}
-use mathlib.Core.List.{List, [], _∷_, _++_, append-nil}
+use mathlib.Core.List.{List, [], _∷_, _++_}
 use mathlib.Core.Bool.{Bool, true, false, cond}
 use native.Mathlib.Omega.{arith}
 use lib.ListN.{length}
@@ -11,6 +11,7 @@ use borrow.Author.Tests.{leb-true, leb-false, ltb-true, ltb-false, lt-ltb, le-lt
 use Rattle.apollo.specs.Frame.{height}
 use Rattle.apollo.specs.Log.{slot, filled, chain}
 use Rattle.apollo.specs.Fetch.{above}
+use Rattle.apollo.proofs.Fetch.{above-append}
 use Rattle.agreement.specs.Run.{In}
 use Rattle.agreement.proofs.Tests.{clash, either, by-cond, cond-true, cond-false}
 use Rattle.agreement.proofs.Frames.{height-genesis}
@@ -90,16 +91,6 @@ segment-after log lo (suc m) xs x ys e =
 above-nil : (h : ℕ) → above h [] ≡ []
 unfolding above
 above-nil h = refl
-
-above-append : (h : ℕ) (xs ys : List (List ℕ)) → above h (xs ++ ys) ≡ above h xs ++ above h ys
-unfolding above
-above-append h [] ys = refl
-above-append h (x ∷ xs) ys = go (ltb h (height x)) (above-append h xs ys)
-  where
-    go : (b : Bool) → above h (xs ++ ys) ≡ above h xs ++ above h ys
-        → cond b (x ∷ above h (xs ++ ys)) (above h (xs ++ ys)) ≡ cond b (x ∷ above h xs) (above h xs) ++ above h ys
-    go true e = ap (λ zs. x ∷ zs) e
-    go false e = e
 
 above-step : (h : ℕ) (log : List ℕ) (n : ℕ) → above h (chain log (suc n)) ≡ above h (chain log n) ++ above h (lone log (suc n))
 unfolding chain

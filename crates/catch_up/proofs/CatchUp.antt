@@ -1,9 +1,9 @@
 -- What a replica fetches from another one is a branch that it takes. Assumes what the statements say, and nothing else.
-use Prim.Native.Nat.{ℕ, suc, _+_, _-_, _*_, _≤_, _<_}
+use Prim.Native.Nat.{ℕ, _+_, _-_, _*_, _≤_, _<_}
 use mathlib.Core.Path.{_≡_, refl, sym, ap, _∙_, subst}
 use mathlib.Core.Logic.{_⊎_, inl, inr, _≢_}
 use mathlib.Core.Option.{some}
-use mathlib.Core.List.{List, [], _∷_, _++_, flatten}
+use mathlib.Core.List.{List, _∷_, _++_, flatten}
 use mathlib.Core.Bool.{Bool, true, false, _&&_, not}
 use native.Mathlib.Omega.{arith}
 use lib.ListN.{length, take, length-append}
@@ -11,9 +11,7 @@ use lib.Dec.{eqb, leb, ltb}
 use borrow.Author.Tests.{eqb-true, eqb-false, eq-eqb, ltb-true, ltb-false, leb-true, leb-false}
 use Rattle.sha256.specs.Fips.{sha256}
 use Rattle.apollo.specs.declared.Setup.{Setup}
-use Rattle.apollo.specs.declared.Verdict.{Verdict}
 use Rattle.apollo.specs.Setup.{setupOf}
-use Rattle.apollo.specs.Bytes.{same}
 use Rattle.apollo.specs.Frame.{round, height, linked}
 use Rattle.apollo.specs.Log.{slot, filled, clearAbove, attach}
 use Rattle.apollo.specs.Replica.{validReplica, validMasks}
@@ -35,7 +33,7 @@ use Rattle.agreement.proofs.Chain.{Held, within}
 use Rattle.agreement.proofs.Extend.{held-same}
 use Rattle.agreement.proofs.Good.{Good, Rested, committed-held, committed-tip, setup-is}
 use Rattle.agreement.proofs.Adopt.{linked-joins}
-use Rattle.agreement.proofs.World.{Inv, start-inv, run-inv}
+use Rattle.agreement.proofs.World.{start-inv, run-inv}
 use Rattle.agreement.proofs.Agreement.{invariant, same-committed, never-invalid}
 use Rattle.catch_up.specs.CatchUp.{missing, verdictOf, lacking, received, GoodRun, CatchUp}
 use Rattle.catch_up.proofs.Above.{Cut, cut, cut-from, climbs, segment, segment-in, segment-length}

@@ -2,9 +2,8 @@
 use Prim.Native.Nat.{ℕ, zero, suc, _+_, _*_, _≤_}
 use mathlib.Core.Path.{_≡_, refl, sym, ap, ap₂, _∙_, subst}
 use mathlib.Core.Logic.{inr}
-use mathlib.Core.Option.{some}
 use mathlib.Core.List.{List, [], _∷_, _++_, flatten}
-use mathlib.Core.Bool.{Bool, not}
+use mathlib.Core.Bool.{not}
 use native.Mathlib.Omega.{arith}
 use lib.ListN.{length, take, drop, length-append, length-take, take-append-drop}
 use lib.Seq.{take-at}
@@ -13,20 +12,17 @@ use Rattle.apollo.specs.declared.Setup.{Setup}
 use Rattle.apollo.specs.Frame.{height, frames}
 use Rattle.apollo.specs.Log.{slot}
 use Rattle.apollo.specs.Replica.{validReplica}
-use Rattle.apollo.specs.Enter.{State}
-use Rattle.apollo.specs.Fetch.{FetchOutcome, fetchable, fetchCount, fetchCall}
+use Rattle.apollo.specs.Fetch.{FetchOutcome, fetchCount, fetchCall}
 use Rattle.apollo.specs.Calls.{branchCall}
-use Rattle.apollo.specs.BenchSheet.{block}
 use Rattle.apollo.proofs.Judging.{block-length}
 use Rattle.apollo.proofs.Frames.{Whole}
-use Rattle.agreement.specs.Run.{Call, Event, start, run}
-use Rattle.agreement.specs.Premises.{Premises}
+use Rattle.agreement.specs.Run.{Event, start, run}
 use Rattle.agreement.proofs.Tests.{by-cond}
 use Rattle.agreement.proofs.Frames.{frames-flatten}
 use Rattle.agreement.proofs.Good.{Good}
 use Rattle.agreement.proofs.World.{start-inv, run-inv}
 use Rattle.catch_up.specs.CatchUp.{missing, verdictOf, received, GoesOn, OneFetch}
-use Rattle.catch_up.proofs.Above.{After, segment-after, Cut, cut-from, segment}
+use Rattle.catch_up.proofs.Above.{After, segment-after, cut-from, segment}
 use Rattle.catch_up.proofs.Run.{Follows}
 use Rattle.catch_up.proofs.CatchUp.{parts, chain-follows, catch-up}
 

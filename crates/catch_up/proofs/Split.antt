@@ -8,11 +8,10 @@ use mathlib.Core.Bool.{Bool, true, false, cond}
 use native.Mathlib.Omega.{arith}
 use lib.ListN.{length}
 use lib.Dec.{eqb, leb, ltb}
-use borrow.Author.Tests.{eqb-true, eqb-false, eq-eqb, leb-true, leb-false, ltb-true, ltb-false, lt-ltb, le-ltb}
+use borrow.Author.Tests.{eqb-true, eqb-false, leb-true, leb-false, ltb-true, ltb-false}
 use Rattle.sha256.specs.Fips.{sha256}
 use Rattle.apollo.specs.declared.Setup.{Setup}
 use Rattle.apollo.specs.declared.Verdict.{Verdict}
-use Rattle.apollo.specs.Setup.{setupOf}
 use Rattle.apollo.specs.Frame.{round}
 use Rattle.apollo.specs.Log.{slot}
 use Rattle.apollo.specs.Masks.{certified, gap}
@@ -25,7 +24,7 @@ use Rattle.apollo.specs.Calls.{branchCall}
 use Rattle.apollo.specs.BenchSheet.{number, newRound}
 use Rattle.agreement.specs.Run.{Call, start, run}
 use Rattle.agreement.specs.Premises.{Premises}
-use Rattle.agreement.proofs.Tests.{clash, by-cond, cond-true, cond-false}
+use Rattle.agreement.proofs.Tests.{clash, by-cond, cond-true}
 use Rattle.agreement.proofs.Good.{Good, setup-is, committed-tip}
 use Rattle.catch_up.specs.CatchUp.{missing, lacking, received, beneath, Split}
 use Rattle.catch_up.proofs.Run.{Follows, child-parts, held-round}

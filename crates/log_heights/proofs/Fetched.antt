@@ -2,7 +2,7 @@
 use mathlib.Core.Path.{_≡_, refl, sym, ap, _∙_}
 use mathlib.Core.Bool.{Bool, true, false, _&&_, cond}
 use mathlib.Core.List.{List, [], _∷_, _++_, flatten, append-assoc, append-nil}
-use Prim.Native.Nat.{ℕ, zero, suc, _+_, _-_, _*_, _/_, _≤_, _<_, min}
+use Prim.Native.Nat.{ℕ, zero, suc, _+_, _-_, _*_, _/_, _≤_, min}
 use native.Mathlib.Nat.{le-refl}
 use native.Mathlib.Numerals.{add-one}
 use native.Mathlib.Omega.{arith}
@@ -12,18 +12,9 @@ use lib.Seq.{take-all, take-length, take-append-le, take-at, drop-append-add, dr
 use Rattle.apollo.specs.Frame.{height}
 use Rattle.apollo.specs.Log.{slot, filled, store, chain}
 use Rattle.apollo.specs.Fetch.{above}
+use Rattle.apollo.proofs.Fetch.{above-append}
 use Rattle.frame.proofs.Frames.{frame-part}
 use Rattle.log_heights.specs.Fetch.{isTall}
-
-above-append : (h : ℕ) (xs ys : List (List ℕ)) → above h (xs ++ ys) ≡ above h xs ++ above h ys
-unfolding above
-above-append h [] ys = refl
-above-append h (x ∷ xs) ys = by (ltb h (height x)) (above-append h xs ys)
-  where
-    by : (b : Bool) → above h (xs ++ ys) ≡ above h xs ++ above h ys
-        → cond b (x ∷ above h (xs ++ ys)) (above h (xs ++ ys)) ≡ cond b (x ∷ above h xs) (above h xs) ++ above h ys
-    by true e = ap (λ (l : List (List ℕ)). x ∷ l) e
-    by false e = e
 
 above-one : (h : ℕ) (x : List ℕ) (b : Bool) → above h (cond b (x ∷ []) []) ≡ cond (b && ltb h (height x)) (x ∷ []) []
 unfolding above
