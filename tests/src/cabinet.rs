@@ -5,8 +5,10 @@ use std::collections::{HashMap, VecDeque};
 
 use crate::call::{Call, Head, Step, What};
 use crate::changes::{change, rotation, Hand};
+use crate::fetches;
 use crate::frame::{self, Frame, Name, GENESIS, SIZE};
-use crate::model::{cards, in_turn, leader, seats, slots, Rotation, Setup, LEAST_OUT};
+use crate::model::{cards, in_turn, leader, line_above, seats, slots};
+use crate::model::{Rotation, Setup, LEAST_OUT};
 use crate::rng::Rng;
 use crate::runner::{Outcome, Side};
 
@@ -79,6 +81,8 @@ struct Habits {
     change: usize,
     tick: usize,
     opening: usize,
+    /// How often a card goes away or comes back.
+    away: usize,
     longest_wait: u32,
 }
 
@@ -96,6 +100,7 @@ impl Habits {
             change: rng.pick(&[0, 8, 25]),
             tick: rng.pick(&[4, 12, 30]),
             opening: rng.pick(&[100, 30, 30, 3]),
+            away: rng.pick(&[0, 1, 1, 3]),
             longest_wait: rng.pick(&[1, 2, 2, 3, 5]),
         }
     }
@@ -114,6 +119,8 @@ pub struct Cabinet {
     pool: Pool,
     inbox: Vec<VecDeque<usize>>,
     open: u16,
+    /// Cards that are left out for a while.
+    away: u16,
     coming: VecDeque<Call>,
     /// The card for which frames are being fetched.
     fetching: Option<usize>,
@@ -132,6 +139,7 @@ impl Cabinet {
             pool: Pool::new(head.term),
             inbox: vec![VecDeque::new(); head.cards],
             open: 0,
+            away: 0,
             coming: VecDeque::new(),
             fetching: None,
             steps,
@@ -193,9 +201,13 @@ impl Cabinet {
             let card = self.rng.bit(closed);
             return self.open(card);
         }
-        let mut card = usize::from(self.rng.bit(self.open));
+        if self.rng.chance(self.habits.away) {
+            let card = 1 << self.rng.bit(self.open);
+            self.away = self.rng.pick(&[0, card, card]);
+        }
+        let mut card = self.present();
         if neighbour >> card & 1 == 1 {
-            card = usize::from(self.rng.bit(self.open));
+            card = self.present();
         }
         if self.makers != 0 && self.rng.chance(self.habits.busy) {
             self.make(sides);
@@ -214,6 +226,15 @@ impl Cabinet {
             96..=97 => self.open_again(card, sides),
             _ => self.tick(card, sides),
         }
+    }
+
+    /// An open card that is not away, if there is one.
+    fn present(&mut self) -> usize {
+        let cards = match self.open & !self.away {
+            0 => self.open,
+            cards => cards,
+        };
+        self.rng.bit(cards).into()
     }
 
     /// A call of the machine with an entry.
@@ -329,7 +350,7 @@ impl Cabinet {
         if let Some(index) = self.helpful(card, sides) {
             return self.hand(card, index);
         }
-        let other = usize::from(self.rng.bit(self.open));
+        let other = self.present();
         match self.helpful(other, sides) {
             Some(index) => self.hand(other, index),
             None if sides[card].record.left > 0 && self.may_tick(card, sides) => {
@@ -392,24 +413,23 @@ impl Cabinet {
         let height = self
             .rng
             .pick(&[0, record.committed_height, record.tip_height]);
-        self.fetch_from(other, height)
+        self.fetch_from(other, height, sides)
     }
 
     fn fetch(&mut self, card: usize, sides: &[Side]) -> Call {
-        let height = self
-            .rng
-            .within(0, sides[card].record.tip_height.min(5_000) + 1);
-        self.fetch_from(card, height)
+        let record = &sides[card].record;
+        let height = match self.rng.chance(50) {
+            true => fetches::height(&mut self.rng, record),
+            false => self.rng.within(0, record.tip_height.min(5_000) + 1),
+        };
+        self.fetch_from(card, height, sides)
     }
 
-    fn fetch_from(&mut self, card: usize, height: u32) -> Call {
+    fn fetch_from(&mut self, card: usize, height: u32, sides: &[Side]) -> Call {
         let mut call = Call::new(&self.head, card, What::Fetch(height));
-        let most = SIZE * (self.head.term as usize + 2);
-        call.out_len = match self.rng.below(4) {
-            0 => LEAST_OUT,
-            1 => LEAST_OUT + self.rng.below(most - LEAST_OUT + 1),
-            _ => most.min(64 * SIZE),
-        };
+        let frames = line_above(sides[card].log.part(call.log_len), height).count();
+        let most = self.head.term as usize + 2;
+        call.out_len = fetches::tray(&mut self.rng, frames, most);
         call
     }
 
@@ -536,7 +556,7 @@ impl Cabinet {
                 }
             }
             Outcome::Answer(answer) if matches!(answer.number, 11 | 13) => self.keep(call),
-            Outcome::Fetched(fetched, _) => {
+            Outcome::Fetched(fetched) => {
                 if let (Some(card), 0) = (self.fetching.take(), fetched.number) {
                     let frames = out[..SIZE * fetched.count].to_vec();
                     let call = self.call(card, What::Branch(frames));

@@ -2,7 +2,7 @@
 
 use crate::frame::{Frame, SIZE};
 use crate::model::{leader, seats, whole_frames};
-use crate::model::{Record, Rotation, Setup, LEAST_OUT, MOST_BLAMES};
+use crate::model::{Record, Rotation, Setup, LEAST_OUT, MOST_BLAMES, MOST_TERM};
 
 /// What a list is about.
 #[derive(Clone, Debug)]
@@ -25,6 +25,11 @@ impl Head {
 
     pub fn leader(&self, round: u32) -> u8 {
         leader(round, self.f, &self.rotation)
+    }
+
+    /// Whether there is no smaller term, or no larger one.
+    pub fn term_at_edge(&self) -> bool {
+        self.term == 1 || self.term == MOST_TERM
     }
 }
 

@@ -584,8 +584,8 @@ const SIZED: [&str; 4] = [
 /// Sometimes, and often at the edges of the range, lends a call the log and masks of another term.
 fn resize(hand: &mut Hand, call: &mut Call) -> Option<(u32, &'static str)> {
     let term = hand.head.term;
-    let at_edge = term == 1 || term == MOST_TERM;
-    if !hand.rng.chance(if at_edge { 60 } else { 10 }) {
+    let percent = if hand.head.term_at_edge() { 60 } else { 10 };
+    if !hand.rng.chance(percent) {
         return None;
     }
     let new = match term {
@@ -649,7 +649,8 @@ fn opening(hand: &mut Hand, call: &mut Call) -> bool {
     }
 }
 
-fn setup(hand: &mut Hand, call: &mut Call) -> bool {
+/// Puts a number of an open at an edge, or lends it the log and masks of another term.
+pub fn setup(hand: &mut Hand, call: &mut Call) -> bool {
     let What::Open(mut setup, _) = call.what else {
         return false;
     };

@@ -1,7 +1,8 @@
 //! The three claims about sound cards, checked call by call on the library's buffers, and what
 //! committing by R adds to them: sound cards that wait for one round have committed the same, R is at
 //! most 2f + 1 above the committed round, and the search for it reads at most f + 1 slots. Beside
-//! them: sound cards tell one leader for a round, and another for each of n rounds in a row.
+//! them: sound cards tell one leader for a round, and another for each of n rounds in a row. What a
+//! card that comes back is answered is in catch_up.rs.
 //!
 //! The premises are judged from the calls themselves, so a list with calls left out is judged
 //! afresh: at most f cards that are not sound, one rotation for the sound ones, no forged frame, and
@@ -85,6 +86,24 @@ impl Claims {
         card < 16 && self.open >> card & 1 == 1
     }
 
+    /// No premise failed, and at most f cards are not sound or not open.
+    fn premises_hold(&self) -> bool {
+        let others = cards(self.f) - self.open.count_ones();
+        self.broken.is_none() && others <= u32::from(self.f)
+    }
+
+    /// Whether the claims about sound cards are due for a card.
+    pub fn are_due_for(&self, card: usize) -> bool {
+        self.is_open(card) && self.premises_hold()
+    }
+
+    /// Whether the claims about every card are due for a card.
+    pub fn rules_are_due_for(&self, card: usize) -> bool {
+        self.rules
+            .as_ref()
+            .is_some_and(|rules| rules.are_kept(card))
+    }
+
     /// The host wrote a card's state by itself.
     pub fn written(&mut self, card: usize) {
         if let Some(rules) = &mut self.rules {
@@ -150,8 +169,7 @@ impl Claims {
             (Some(answer), None) => self.check_leader(answer)?,
             _ => false,
         };
-        let others = cards(self.f) - self.open.count_ones();
-        if self.broken.is_some() || others > u32::from(self.f) {
+        if !self.premises_hold() {
             return Ok(Due {
                 leaders,
                 ..Due::default()

@@ -1,8 +1,10 @@
-//! How often each refusal of each call, each way of taking and each way of a search was reached.
+//! How often each refusal of each call, each way of taking, each way of a search and of catching up
+//! was reached.
 
 use std::collections::BTreeMap;
 
 use crate::call::{Call, Head, What};
+use crate::catch_up::{CatchUp, Checked, Reply};
 use crate::changes;
 use crate::claims::Due;
 use crate::frame::{self, Frame, MOST_ENTRY, SIZE};
@@ -143,8 +145,41 @@ const WAYS: &[Row] = &[
     ("read", "found"),
     ("read", "found, no bytes"),
     ("read", "found, 400 bytes"),
-    ("fetch", "all frames"),
-    ("fetch", "a part of the frames"),
+    ("fetch", "short tray, no bytes"),
+    ("fetch", "short tray, 1,023 bytes"),
+    ("fetch", "short tray, and absent"),
+    ("fetch", "record, and short tray"),
+    ("fetch", "record, and absent"),
+    ("fetch", "absent, no frame held"),
+    ("fetch", "absent, frames held"),
+    ("fetch", "absent, at the tip's height"),
+    ("fetch", "absent, above the tip's height"),
+    ("fetch", "absent, 4,294,967,295"),
+    ("fetch", "all frames, room left"),
+    ("fetch", "all frames, tray full"),
+    ("fetch", "a part, tray full"),
+    ("fetch", "tray of 2 frames, full"),
+    ("fetch", "tray of 3 frames, full"),
+    ("fetch", "tray of over 15 frames, full"),
+    ("fetch", "tray of over T frames"),
+    ("fetch", "tail of 1 byte, and room left"),
+    ("fetch", "tail of 1 byte, all frames, full"),
+    ("fetch", "tail of 1 byte, a part"),
+    ("fetch", "tail of 511 bytes, a part"),
+    ("fetch", "tail of other length, a part"),
+    ("fetch", "above 0"),
+    ("fetch", "above the committed height"),
+    ("fetch", "above the tip's height - 1"),
+    ("fetch", "above the tip's height"),
+    ("fetch", "above more than the tip's height"),
+    ("fetch", "above more than T"),
+    ("fetch", "frames up to the committed round"),
+    ("fetch", "frames above the committed round"),
+    ("fetch", "frames above the tip"),
+    ("fetch", "heights fall"),
+    ("fetch", "a height twice"),
+    ("fetch", "a frame between not above"),
+    ("fetch", "empty slots between"),
     ("digest", "made"),
     ("search", "no round allowed"),
     ("search", "found at the limit"),
@@ -280,6 +315,39 @@ const TWO_ENDS: Row = ("claims", "tips of two rounds at R = T + 1");
 const SET_OF_ONE: Row = ("claims", "a set of one beside a blame");
 const LEADERS_TOLD: Row = ("claims", "leaders of n rounds in a row");
 
+pub const CATCHING_UP: &str = "catching up";
+
+/// What a card that comes back is answered to all frames that another has for it, and to fewer.
+const REPLIES: [&str; 5] = [
+    "term over",
+    "stale",
+    "unshown, up to R",
+    "unshown, above R, so split",
+    "taken",
+];
+const ALL: &str = "catching up, all frames";
+const FEWER: &str = "catching up, fewer frames";
+
+/// How the giver's frames were fetched; the last where the claims about sound cards are not due.
+const FETCHED_ON: [&str; 4] = [
+    "fetched in one piece",
+    "fetched in two pieces",
+    "fetched in three or more",
+    "fetched, whoever lies",
+];
+
+/// How the two sound cards stand to each other.
+const TWO_CARDS: [&str; 8] = [
+    "giver behind",
+    "giver at the same R",
+    "giver ahead",
+    "giver ahead, and stale",
+    "giver on another branch, and stale",
+    "taker holds some of the frames",
+    "taker holds other frames, taken",
+    "first frame on the genesis, taken",
+];
+
 /// A size of lists and how it is told.
 type Size = (&'static str, fn(&Head) -> bool);
 
@@ -317,6 +385,8 @@ pub struct Before {
     attach: Option<(u32, bool)>,
     /// Whether the rule gives another slot at R than the committed one.
     another_due: bool,
+    /// Round and height of each frame of the line, for a fetch.
+    line: Vec<(u32, u32)>,
 }
 
 impl Before {
@@ -337,6 +407,10 @@ impl Before {
                 _ => None,
             },
             another_due: committed(log, record.round, record.f) != stands,
+            line: match call.what {
+                What::Fetch(_) => line(log),
+                _ => Vec::new(),
+            },
         }
     }
 
@@ -368,6 +442,15 @@ fn faults(frames: &[Frame]) -> (bool, bool) {
     let rounds = |pair: &[Frame]| frame::round(&pair[0]) != frame::round(&pair[1]);
     let different = signers(frames).count_ones() as usize;
     (frames.windows(2).any(rounds), different < frames.len())
+}
+
+fn line(log: &[u8]) -> Vec<(u32, u32)> {
+    let filled = (1..)
+        .zip(slots(log))
+        .filter(|(_, slot)| frame::filled(slot));
+    filled
+        .map(|(round, slot)| (round, frame::height(slot)))
+        .collect()
 }
 
 fn attach(frames: &[u8], log: &[u8]) -> Option<(u32, bool)> {
@@ -430,6 +513,11 @@ impl Coverage {
             rows.extend(claimed.iter().map(|row| (group, *row)));
         }
         rows.extend([TWO_BLOCKS, TWO_TIPS, TWO_ENDS, SET_OF_ONE, LEADERS_TOLD]);
+        rows.extend(FETCHED_ON.map(|row| (CATCHING_UP, row)));
+        rows.extend(TWO_CARDS.map(|row| (CATCHING_UP, row)));
+        for group in [ALL, FEWER] {
+            rows.extend(REPLIES.map(|row| (group, row)));
+        }
         rows.extend(SIZES.iter().map(|size| ("list", size.0)));
         Coverage {
             rows,
@@ -496,7 +584,7 @@ impl Coverage {
             Outcome::Answer(answer) if answer.number != 0 => self.refused(call, before, answer),
             Outcome::Answer(answer) => self.taken(call, before, answer),
             Outcome::Part(part) => self.part(call, part),
-            Outcome::Fetched(fetched, all) => self.fetched(call, fetched, *all),
+            Outcome::Fetched(fetched) => self.fetched(call, before, fetched),
             Outcome::Digest => self.add("digest", "made"),
             Outcome::Written => {}
         }
@@ -905,12 +993,182 @@ impl Coverage {
         }
     }
 
-    fn fetched(&mut self, call: &Call, fetched: &Fetched, all: usize) {
-        match fetched.number {
-            0 if fetched.count == all => self.add("fetch", "all frames"),
-            0 => self.add("fetch", "a part of the frames"),
-            number => self.refusal(call, number),
+    fn fetched(&mut self, call: &Call, before: &Before, fetched: &Fetched) {
+        let What::Fetch(height) = call.what else {
+            return;
+        };
+        let mut all = before.line.clone();
+        all.retain(|frame| frame.1 > height);
+        if fetched.number != 0 {
+            self.refusal(call, fetched.number);
+            self.refused_fetch(call, height, before, all.is_empty());
+            return;
         }
+        self.tray(call, before, fetched.count, all.len());
+        self.asked_above(height, &before.record);
+        all.truncate(fetched.count);
+        self.given(&all, before);
+    }
+
+    fn refused_fetch(&mut self, call: &Call, height: u32, before: &Before, absent: bool) {
+        let (record, out) = (&before.record, call.out_len);
+        let bad = !record_holds(record, call.log_len, None);
+        let (short, at) = (out < LEAST_OUT, height.cmp(&record.tip_height));
+        let held = !before.line.is_empty();
+        let mut rows = vec![
+            (bad && short, "record, and short tray"),
+            (bad && absent, "record, and absent"),
+        ];
+        if !bad && short {
+            rows.extend([
+                (out == 0, "short tray, no bytes"),
+                (out == LEAST_OUT - 1, "short tray, 1,023 bytes"),
+                (absent, "short tray, and absent"),
+            ]);
+        }
+        if !bad && !short {
+            rows.extend([
+                (!held, "absent, no frame held"),
+                (held, "absent, frames held"),
+                (held && at.is_eq(), "absent, at the tip's height"),
+                (held && at.is_gt(), "absent, above the tip's height"),
+                (height == u32::MAX, "absent, 4,294,967,295"),
+            ]);
+        }
+        self.add_all("fetch", &rows);
+    }
+
+    /// How a fetch that was taken fills the out buffer with all frames or a part of them.
+    fn tray(&mut self, call: &Call, before: &Before, count: usize, all: usize) {
+        let (room, tail) = (call.out_len / SIZE, call.out_len % SIZE);
+        let (full, part) = (count == room, count < all);
+        self.add_all(
+            "fetch",
+            &[
+                (!full, "all frames, room left"),
+                (full && !part, "all frames, tray full"),
+                (part, "a part, tray full"),
+                (full && room == 2, "tray of 2 frames, full"),
+                (full && room == 3, "tray of 3 frames, full"),
+                (full && room > 15, "tray of over 15 frames, full"),
+                (room > before.record.term as usize, "tray of over T frames"),
+                (tail == 1 && !full, "tail of 1 byte, and room left"),
+                (
+                    tail == 1 && full && !part,
+                    "tail of 1 byte, all frames, full",
+                ),
+                (tail == 1 && part, "tail of 1 byte, a part"),
+                (tail == SIZE - 1 && part, "tail of 511 bytes, a part"),
+                (
+                    (2..SIZE - 1).contains(&tail) && part,
+                    "tail of other length, a part",
+                ),
+            ],
+        );
+    }
+
+    /// The height of a fetch that was taken.
+    fn asked_above(&mut self, height: u32, record: &Record) {
+        let (committed, tip) = (record.committed_height, record.tip_height);
+        self.add_all(
+            "fetch",
+            &[
+                (height == 0, "above 0"),
+                (
+                    height == committed && height > 0,
+                    "above the committed height",
+                ),
+                (
+                    height.checked_add(1) == Some(tip),
+                    "above the tip's height - 1",
+                ),
+                (height == tip, "above the tip's height"),
+                (height > tip, "above more than the tip's height"),
+                (height > record.term, "above more than T"),
+            ],
+        );
+    }
+
+    /// Round and height of the frames that a fetch gave.
+    fn given(&mut self, given: &[(u32, u32)], before: &Before) {
+        let record = &before.record;
+        let (Some(&(first, _)), Some(&(last, _))) = (given.first(), given.last()) else {
+            return;
+        };
+        let between = |&&(round, _): &&(u32, u32)| (first..=last).contains(&round);
+        let between = before.line.iter().filter(between).count();
+        let rounds = (last - first + 1) as usize;
+        let mut heights: Vec<u32> = given.iter().map(|frame| frame.1).collect();
+        let fall = heights.windows(2).any(|pair| pair[0] > pair[1]);
+        heights.sort();
+        let twice = heights.windows(2).any(|pair| pair[0] == pair[1]);
+        self.add_all(
+            "fetch",
+            &[
+                (
+                    first <= record.committed_round,
+                    "frames up to the committed round",
+                ),
+                (
+                    last > record.committed_round,
+                    "frames above the committed round",
+                ),
+                (last > record.tip_round, "frames above the tip"),
+                (fall, "heights fall"),
+                (twice, "a height twice"),
+                (between > given.len(), "a frame between not above"),
+                (rounds > between, "empty slots between"),
+            ],
+        );
+    }
+
+    /// Counts what was checked of a card that comes back and of the giver.
+    pub fn catch_up(&mut self, between: &CatchUp, checked: &Checked) {
+        let reached = [
+            checked.pieces == Some(1),
+            checked.pieces == Some(2),
+            checked.pieces.is_some_and(|pieces| pieces > 2),
+            checked.all.is_none(),
+        ];
+        self.add_all(CATCHING_UP, &zip(reached, FETCHED_ON));
+        if let Some(reply) = checked.all {
+            self.two_cards(between, reply);
+            self.reply(ALL, reply);
+        }
+        if let Some(reply) = checked.fewer {
+            self.reply(FEWER, reply);
+        }
+    }
+
+    fn two_cards(&mut self, between: &CatchUp, reply: Reply) {
+        let (taker, giver) = (&between.taker().record, &between.giver().record);
+        let (held, frames) = (between.held(), between.frames());
+        let holds_some = held.first() == frames.first();
+        let (stale, taken) = (reply == Reply::Stale, reply == Reply::Taken);
+        let at = giver.round.cmp(&taker.round);
+        let reached = [
+            at.is_lt(),
+            at.is_eq(),
+            at.is_gt(),
+            stale && at.is_gt(),
+            stale && !between.attaches(),
+            holds_some,
+            taken && !holds_some && !held.is_empty(),
+            taken && taker.committed_round == 0,
+        ];
+        self.add_all(CATCHING_UP, &zip(reached, TWO_CARDS));
+    }
+
+    fn reply(&mut self, group: &'static str, reply: Reply) {
+        let [term_over, stale, unshown, split, taken] = REPLIES;
+        let row = match reply {
+            Reply::TermOver => term_over,
+            Reply::Stale => stale,
+            Reply::Unshown(_) => unshown,
+            Reply::Split(_) => split,
+            Reply::Taken => taken,
+        };
+        self.add(group, row);
     }
 
     /// Counts the searches after a call at a card; the claims are about the first.

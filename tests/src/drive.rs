@@ -57,6 +57,9 @@ pub fn run_on(
             break;
         }
     }
+    if wrong.is_none() {
+        wrong = runner.end(coverage).err();
+    }
     if let (None, true, Some(premise)) = (&wrong, maker.is_strict(), runner.claims.broken()) {
         wrong = Some(format!("the list itself broke a premise: {premise}"));
     }
@@ -74,7 +77,7 @@ pub fn run_on(
     }
 }
 
-/// Runs a list again; the step that failed and what was wrong.
+/// Runs a list again; the step that failed, the last if it is the end that did, and what was wrong.
 pub fn replay(library: &dyn Library, list: &List) -> Result<(), (usize, String)> {
     let mut runner = Runner::new(library, &list.head);
     let mut coverage = Coverage::new();
@@ -83,7 +86,8 @@ pub fn replay(library: &dyn Library, list: &List) -> Result<(), (usize, String)>
             return Err((index, message));
         }
     }
-    Ok(())
+    let last = list.steps.len().saturating_sub(1);
+    runner.end(&mut coverage).map_err(|message| (last, message))
 }
 
 /// How long a list is shrunk at most.

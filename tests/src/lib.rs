@@ -2,12 +2,14 @@
 
 pub mod cabinet;
 pub mod call;
+pub mod catch_up;
 pub mod changes;
 pub mod claims;
 pub mod coverage;
 pub mod crash;
 pub mod drive;
 pub mod emit;
+pub mod fetches;
 pub mod ffi;
 pub mod frame;
 pub mod library;

@@ -159,11 +159,14 @@ fn slot(log: &[u8], round: u32) -> &Frame {
     &slots(log)[round as usize - 1]
 }
 
-/// The line's frames above a height, in rising round.
+/// The line: the filled slots in rising round.
+pub fn line(log: &[u8]) -> impl Iterator<Item = &Frame> {
+    slots(log).iter().filter(|slot| frame::filled(slot))
+}
+
+/// The line's frames above a height.
 pub fn line_above(log: &[u8], height: u32) -> impl Iterator<Item = &Frame> {
-    slots(log)
-        .iter()
-        .filter(move |slot| frame::filled(slot) && frame::height(slot) > height)
+    line(log).filter(move |frame| frame::height(frame) > height)
 }
 
 /// The highest round that R allows to be committed, R - 1 - f; 0 if it allows none.
@@ -311,19 +314,8 @@ pub fn read(record: Record, log: &[u8], height: u32) -> Part {
     }
 }
 
-/// Copies line frames above a height: as many as fit.
+/// Copies line frames above a height, lowest rounds first: as many as there are and as fit whole.
 pub fn fetch(record: Record, log: &[u8], height: u32, out: &mut [u8]) -> Fetched {
-    fetch_at_most(usize::MAX, record, log, height, out)
-}
-
-/// Fetch with a bound on the count, for a host content with fewer.
-pub fn fetch_at_most(
-    most: usize,
-    record: Record,
-    log: &[u8],
-    height: u32,
-    out: &mut [u8],
-) -> Fetched {
     let refused = |number| Fetched { number, count: 0 };
     if !record_holds(&record, log.len(), None) {
         return refused(2);
@@ -332,11 +324,7 @@ pub fn fetch_at_most(
         return refused(4);
     }
     let mut count = 0;
-    for (place, frame) in slots_mut(out)
-        .iter_mut()
-        .take(most)
-        .zip(line_above(log, height))
-    {
+    for (place, frame) in slots_mut(out).iter_mut().zip(line_above(log, height)) {
         *place = *frame;
         count += 1;
     }
@@ -497,7 +485,7 @@ pub fn block_in_form(record: &Record, block: &Frame) -> bool {
         && all_zero(&block[ENTRY_AT + length..frame::CHECK_AT])
 }
 
-fn is_child(frame: &Frame, parent: &Frame) -> bool {
+pub fn is_child(frame: &Frame, parent: &Frame) -> bool {
     frame::parent(frame) == frame::name(parent)
         && frame::height(frame) == frame::height(parent) + 1
         && frame::round(frame) > frame::round(parent)
@@ -517,8 +505,8 @@ pub fn attaching(log: &[u8], first: &Frame) -> Option<u32> {
     }
 }
 
-/// The first skipped round that is not shown.
-fn unshown(masks: &[u16], f: u8, attach: u32, frames: &[Frame]) -> Option<u32> {
+/// The first skipped round that is not shown, of frames that attach to a round.
+pub fn unshown(masks: &[u16], f: u8, attach: u32, frames: &[Frame]) -> Option<u32> {
     let mut parent = attach;
     for frame in frames {
         let round = frame::round(frame);

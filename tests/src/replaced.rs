@@ -115,3 +115,13 @@ pub fn honest(ask: &Ask, lent: Lent) -> Answer {
         Ask::Tick(record) => model::tick(record, lent),
     }
 }
+
+/// The same buffers for one call more.
+pub fn again<'a>(lent: &'a mut Lent) -> Lent<'a> {
+    Lent {
+        log: lent.log,
+        masks: lent.masks,
+        entry: lent.entry,
+        out: lent.out,
+    }
+}

@@ -5,7 +5,7 @@
 
 use crate::call::{Call, Head, What};
 use crate::frame::{self, Frame, SIZE};
-use crate::model::{limit, shown, slots, Search};
+use crate::model::{limit, line, shown, Search};
 use crate::runner::{Outcome, Side};
 
 pub struct Rules {
@@ -25,6 +25,11 @@ impl Rules {
     /// The host wrote a card's state by itself.
     pub fn written(&mut self, card: usize) {
         self.lists[card] = None;
+    }
+
+    /// Whether a card was opened and its host has kept the rules since.
+    pub fn are_kept(&self, card: usize) -> bool {
+        self.lists[card].is_some()
     }
 
     /// Checks them after a call at a card; the side and the search are the library's.
@@ -68,8 +73,8 @@ impl Rules {
 
 /// Adds what is new to a committed list; false if the side's does not begin with it.
 fn grow(list: &mut Vec<Frame>, side: &Side) -> bool {
-    let book = slots(side.log.part(SIZE * side.record.committed_round as usize));
-    let mut committed = book.iter().filter(|slot| frame::filled(slot));
+    let book = side.log.part(SIZE * side.record.committed_round as usize);
+    let mut committed = line(book);
     let kept = list.iter().all(|held| committed.next() == Some(held));
     list.extend(committed);
     kept

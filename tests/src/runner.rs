@@ -1,6 +1,8 @@
 //! Runs calls on the library and on the model and compares every byte after each, and two searches.
+//! After some calls, and at the end, a card catches up with another on copies.
 
 use crate::call::{Call, Head, State, Step, What};
+use crate::catch_up::{Card, CatchUp};
 use crate::claims::Claims;
 use crate::coverage::{Before, Coverage};
 use crate::frame::{Frame, SIZE};
@@ -15,6 +17,8 @@ const GUARD: usize = 65;
 const SLACK: usize = 1024;
 /// How far above T a search begins at most.
 const ABOVE: u32 = 3;
+/// One in so many calls is followed by a card's catching up.
+const CATCH_UPS: usize = 16;
 
 /// A lent buffer between two guards.
 #[derive(Clone)]
@@ -106,8 +110,7 @@ pub enum Outcome {
     Written,
     Answer(Answer),
     Part(Part),
-    /// With the number of frames that there were to copy.
-    Fetched(Fetched, usize),
+    Fetched(Fetched),
     Digest,
 }
 
@@ -123,7 +126,7 @@ impl Outcome {
         match self {
             Outcome::Answer(answer) => Some(answer.number),
             Outcome::Part(part) => Some(part.number),
-            Outcome::Fetched(fetched, _) => Some(fetched.number),
+            Outcome::Fetched(fetched) => Some(fetched.number),
             Outcome::Written | Outcome::Digest => None,
         }
     }
@@ -183,7 +186,7 @@ impl<'l> Runner<'l> {
         Runner::beside(library, &Model, head)
     }
 
-    /// Another reference than the model for open, branch, blame, blames, tick and the search.
+    /// Another reference than the model.
     pub fn beside(library: &'l dyn Library, reference: &'l dyn Library, head: &Head) -> Self {
         let sides = || (0..head.cards).map(|_| Side::new(head.term)).collect();
         let out = || Buffer::new(SIZE * head.term as usize + 4 * SLACK, 0, 0x5a);
@@ -252,6 +255,7 @@ impl<'l> Runner<'l> {
         let due = self
             .claims
             .after(call, &outcome, &self.tried, out, search)?;
+        self.catch_up_after(call, coverage)?;
         coverage.call(call, &before, &outcome, due);
         coverage.searches(&searched, &self.tried[call.card]);
         Ok(outcome)
@@ -309,12 +313,13 @@ impl<'l> Runner<'l> {
             .read(record, tried.log.part(call.log_len), height);
         let model = &self.model[call.card];
         let record = call.record.unwrap_or(model.record);
-        let expected = model::read(record, model.log.part(call.log_len), height);
+        let expected = self
+            .reference
+            .read(record, model.log.part(call.log_len), height);
         same("part", part, expected)?;
         Ok(Outcome::Part(part))
     }
 
-    /// Any count from one to all that fit passes; the model then copies as many.
     fn fetch(&mut self, call: &Call, height: u32) -> Result<Outcome, String> {
         let tried = &self.tried[call.card];
         let record = call.record.unwrap_or(tried.record);
@@ -324,12 +329,10 @@ impl<'l> Runner<'l> {
         let model = &self.model[call.card];
         let record = call.record.unwrap_or(model.record);
         let log = model.log.part(call.log_len);
-        let all = model::line_above(log, height).count();
-        let most = fetched.count.max(1);
         let out = self.model_out.lent(call.out_len);
-        let expected = model::fetch_at_most(most, record, log, height, out);
+        let expected = self.reference.fetch(record, log, height, out);
         same("fetched", fetched, expected)?;
-        Ok(Outcome::Fetched(fetched, all))
+        Ok(Outcome::Fetched(fetched))
     }
 
     fn digest(&mut self, bytes: &[u8]) -> Result<Outcome, String> {
@@ -369,6 +372,60 @@ impl<'l> Runner<'l> {
             limit,
             answer,
         })
+    }
+
+    /// After some calls the called card catches up with another or, more often, another with it;
+    /// mostly that is the sound card with the lowest R.
+    fn catch_up_after(&self, call: &Call, coverage: &mut Coverage) -> Result<(), String> {
+        let (mut rng, cards) = (Rng::new(!call.mark()), self.tried.len());
+        if cards == 1 || rng.below(CATCH_UPS) > 0 {
+            return Ok(());
+        }
+        let called = call.card;
+        let other = (called + 1 + rng.below(cards - 1)) % cards;
+        let sound = (0..cards).filter(|&card| card != called && self.claims.are_due_for(card));
+        let lowest = sound.min_by_key(|&card| self.tried[card].record.round);
+        let lowest = lowest.unwrap_or(other);
+        let (taker, giver) = match rng.below(5) {
+            0 => (called, other),
+            1 => (called, lowest),
+            2 => (other, called),
+            _ => (lowest, called),
+        };
+        self.catch_up(taker, giver, &mut rng, coverage)
+    }
+
+    /// At the end of a list each card catches up with the next.
+    pub fn end(&self, coverage: &mut Coverage) -> Result<(), String> {
+        let cards = self.tried.len();
+        (0..cards).try_for_each(|taker| {
+            let mut rng = Rng::new(taker as u64);
+            self.catch_up(taker, (taker + 1) % cards, &mut rng, coverage)
+        })
+    }
+
+    /// One card catches up with another, on copies.
+    fn catch_up(
+        &self,
+        taker: usize,
+        giver: usize,
+        rng: &mut Rng,
+        coverage: &mut Coverage,
+    ) -> Result<(), String> {
+        let kept = self.claims.rules_are_due_for(giver);
+        let due = self.claims.are_due_for(giver) && self.claims.are_due_for(taker);
+        if !kept && !due {
+            return Ok(());
+        }
+        let card = |number| Card {
+            number,
+            side: &self.tried[number],
+        };
+        if let Some(catch_up) = CatchUp::new(self.library, card(taker), card(giver)) {
+            let checked = catch_up.check(kept, due, rng)?;
+            coverage.catch_up(&catch_up, &checked);
+        }
+        Ok(())
     }
 
     /// Every byte of every buffer after a call.

@@ -1,10 +1,11 @@
 //! Records, books and masks that no call made, and calls on them.
 
 use crate::call::{Call, Head, State, Step, What};
-use crate::changes::{change, edge, rotation, Hand};
+use crate::changes::{self, change, edge, rotation, Hand};
+use crate::fetches;
 use crate::frame::{self, Frame, Name, GENESIS, MOST_ENTRY, SIZE};
-use crate::model::{cards, in_turn, leader, seats, slots};
-use crate::model::{Record, Rotation, Setup, LEAST_OUT, MOST_TERM};
+use crate::model::{cards, in_turn, leader, line_above, seats, slots};
+use crate::model::{Record, Rotation, Setup, LEAST_OUT};
 use crate::rng::Rng;
 use crate::runner::Side;
 
@@ -254,27 +255,36 @@ impl Wild {
     }
 
     fn choose(&mut self, side: &Side) -> Call {
-        let at_edge = self.head.term == 1 || self.head.term == MOST_TERM;
-        let what = match self.rng.below(if at_edge { 110 } else { 100 }) {
+        let kinds = if self.head.term_at_edge() { 110 } else { 100 };
+        let what = match self.rng.below(kinds) {
             0..=42 => What::Branch(self.branch(side)),
             43..=52 => What::Blame(self.blame(side)),
             53..=64 => What::Blames(self.set(side)),
             65..=77 => What::Tick,
             78..=87 => What::Read(self.height(side)),
-            88..=96 => What::Fetch(self.height(side)),
+            88..=96 => return self.fetch(side),
             _ => return self.open(side),
         };
         let mut call = Call::new(&self.head, 0, what);
         let length = self.rng.pick(&[0, 0, 1, 4, 400]);
         call.entry = self.rng.bytes(length);
-        if matches!(call.what, What::Fetch(_)) {
-            let most = SIZE * (self.head.term as usize + 1);
-            call.out_len = LEAST_OUT + self.rng.below(most.saturating_sub(LEAST_OUT) + 1);
-        }
         call
     }
 
-    /// An open, at times with a rotation that is none, and then at times with other faults.
+    fn fetch(&mut self, side: &Side) -> Call {
+        let height = match self.rng.chance(35) {
+            true => fetches::height(&mut self.rng, &side.record),
+            false => self.height(side),
+        };
+        let mut call = Call::new(&self.head, 0, What::Fetch(height));
+        let frames = line_above(side.log.part(call.log_len), height).count();
+        let most = self.head.term as usize + 2;
+        call.out_len = fetches::tray(&mut self.rng, frames, most);
+        call
+    }
+
+    /// An open, at times with a rotation that is none, and then at times with other faults, or with
+    /// sizes beyond the edge.
     fn open(&mut self, side: &Side) -> Call {
         let setup = Setup {
             own: self.rng.within(0, cards(self.head.f) - 1) as u8,
@@ -286,7 +296,9 @@ impl Wild {
         let mut call = Call::new(&self.head, 0, What::Open(setup, seats));
         let length = self.rng.pick(&[0, 0, 1, 4, 400]);
         call.entry = self.rng.bytes(length);
-        if self.rng.chance(30) {
+        if self.head.term_at_edge() && self.rng.chance(20) {
+            changes::setup(&mut self.hand(side.record), &mut call);
+        } else if self.rng.chance(30) {
             rotation(&mut self.hand(side.record), &mut call);
             if self.rng.chance(20) {
                 call.out_len = self.rng.pick(&[0, 512, LEAST_OUT - 1]);

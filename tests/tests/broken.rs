@@ -5,9 +5,9 @@ use beside::coverage::Coverage;
 use beside::drive::{replay, run, run_on, shrink, Failure};
 use beside::frame::{self, Frame, SIZE};
 use beside::lists::{Maker, Sizes};
-use beside::model::{self, attaching, in_turn, is_rotation, seats, shown, slots};
+use beside::model::{self, attaching, in_turn, is_rotation, line, line_above, seats, shown, slots};
 use beside::model::{Answer, Fetched, Lent, Part, Record, Rotation, Search, LEAST_OUT, NOBODY};
-use beside::replaced::{honest, Ask, Find, Machine, Replaced};
+use beside::replaced::{again, honest, Ask, Fetch, Find, Machine, Replaced};
 use beside::runner::Runner;
 
 /// What the model would answer, with other masks perhaps.
@@ -29,16 +29,6 @@ fn on_copies(lent: &Lent, masks: &[u16], call: impl FnOnce(Lent) -> Answer) -> A
 /// The leader of a round by a record's rotation.
 fn leader(round: u32, record: &Record) -> u8 {
     model::leader(round, record.f, &record.rotation)
-}
-
-/// The same buffers for one call more.
-fn again<'a>(lent: &'a mut Lent) -> Lent<'a> {
-    Lent {
-        log: lent.log,
-        masks: lent.masks,
-        entry: lent.entry,
-        out: lent.out,
-    }
 }
 
 fn refusal(number: u8, record: Record) -> Answer {
@@ -722,6 +712,34 @@ fn undoes(ask: &Ask, mut lent: Lent) -> Answer {
     model::branch(forgetful, bytes, lent)
 }
 
+/// Gives another number where the model takes a branch on the committed block, or says 13 to it.
+fn instead_on_the_committed_block(
+    ask: &Ask,
+    lent: Lent,
+    number: u8,
+    fits: fn(&Record) -> bool,
+) -> Answer {
+    let answer = trial(ask, &lent, lent.masks);
+    if let (Ask::Branch(record, bytes), 0 | 13) = (ask, answer.number) {
+        let attach = attaching(lent.log, &slots(bytes)[0]);
+        if attach == Some(record.committed_round) && fits(record) {
+            return refusal(number, *record);
+        }
+    }
+    honest(ask, lent)
+}
+
+fn loose_on_the_committed_block(ask: &Ask, lent: Lent) -> Answer {
+    instead_on_the_committed_block(ask, lent, 11, |record| record.committed_round > 0)
+}
+
+/// Where frames above it are held.
+fn undone_on_the_committed_block(ask: &Ask, lent: Lent) -> Answer {
+    instead_on_the_committed_block(ask, lent, 12, |record| {
+        record.tip_round > record.committed_round
+    })
+}
+
 /// After a set, waits for the round of the block that it put out, and commits by that round.
 fn waits_for_its_own_round(ask: &Ask, lent: Lent) -> Answer {
     let Ask::Blames(..) = ask else {
@@ -790,9 +808,164 @@ fn fetch_more_than_said(record: Record, log: &[u8], height: u32, out: &mut [u8])
     fetched
 }
 
-/// Fewer than fit is allowed.
+/// Copies the frames that a slip takes for the right ones, as many as fit.
+fn give<'a>(
+    record: Record,
+    log: &[u8],
+    out: &mut [u8],
+    frames: impl Iterator<Item = &'a Frame>,
+) -> Fetched {
+    let judged = model::fetch(record, log, 0, &mut out.to_vec());
+    if matches!(judged.number, 2 | 4) {
+        return judged;
+    }
+    let mut count = 0;
+    for (place, frame) in out.as_chunks_mut().0.iter_mut().zip(frames) {
+        *place = *frame;
+        count += 1;
+    }
+    let number = if count == 0 { 15 } else { 0 };
+    Fetched { number, count }
+}
+
+fn room(out: &[u8]) -> usize {
+    out.len() / SIZE
+}
+
+fn fetch_one_fewer(record: Record, log: &[u8], height: u32, out: &mut [u8]) -> Fetched {
+    let most = room(out).saturating_sub(1);
+    give(record, log, out, line_above(log, height).take(most))
+}
+
 fn fetch_one(record: Record, log: &[u8], height: u32, out: &mut [u8]) -> Fetched {
-    model::fetch_at_most(1, record, log, height, out)
+    give(record, log, out, line_above(log, height).take(1))
+}
+
+fn fetch_highest_first(record: Record, log: &[u8], height: u32, out: &mut [u8]) -> Fetched {
+    let frames: Vec<_> = line_above(log, height).collect();
+    give(record, log, out, frames.into_iter().rev())
+}
+
+/// In rising round, but the last that fit.
+fn fetch_the_highest(record: Record, log: &[u8], height: u32, out: &mut [u8]) -> Fetched {
+    let frames: Vec<_> = line_above(log, height).collect();
+    let spare = frames.len().saturating_sub(room(out));
+    give(record, log, out, frames.into_iter().skip(spare))
+}
+
+fn fetch_lowest_heights(record: Record, log: &[u8], height: u32, out: &mut [u8]) -> Fetched {
+    let mut frames: Vec<_> = line_above(log, height).collect();
+    frames.sort_by_key(|frame| frame::height(frame));
+    give(record, log, out, frames.into_iter())
+}
+
+/// Frames above a height from the slots up to a round.
+fn line_up_to(log: &[u8], round: u32, height: u32) -> impl Iterator<Item = &Frame> {
+    line_above(&log[..log.len().min(SIZE * round as usize)], height)
+}
+
+fn fetch_committed(record: Record, log: &[u8], height: u32, out: &mut [u8]) -> Fetched {
+    let frames = line_up_to(log, record.committed_round, height);
+    give(record, log, out, frames)
+}
+
+fn fetch_up_to_the_tip(record: Record, log: &[u8], height: u32, out: &mut [u8]) -> Fetched {
+    give(record, log, out, line_up_to(log, record.tip_round, height))
+}
+
+/// Room counted in slots walked.
+fn fetch_from_as_many_slots(record: Record, log: &[u8], height: u32, out: &mut [u8]) -> Fetched {
+    let frames = line_up_to(log, room(out) as u32, height);
+    give(record, log, out, frames)
+}
+
+/// Room counted in frames of the line, whatever their heights.
+fn fetch_from_as_many_frames(record: Record, log: &[u8], height: u32, out: &mut [u8]) -> Fetched {
+    let above = |frame: &&Frame| frame::height(frame) > height;
+    let frames = line(log).take(room(out)).filter(above);
+    give(record, log, out, frames)
+}
+
+fn fetch_of_the_height_too(record: Record, log: &[u8], height: u32, out: &mut [u8]) -> Fetched {
+    let above = |frame: &&Frame| frame::height(frame) >= height;
+    give(record, log, out, line(log).filter(above))
+}
+
+/// Takes the height for a round.
+fn fetch_above_a_round(record: Record, log: &[u8], height: u32, out: &mut [u8]) -> Fetched {
+    let above = log.get(SIZE * height as usize..).unwrap_or_default();
+    give(record, log, out, line(above))
+}
+
+/// Ends at a frame that is not above the height, once it has one that is.
+fn fetch_to_a_low_frame(record: Record, log: &[u8], height: u32, out: &mut [u8]) -> Fetched {
+    let above = |frame: &&Frame| frame::height(frame) > height;
+    let first = |frame: &&Frame| !above(frame);
+    let frames = line(log).skip_while(first).take_while(above);
+    give(record, log, out, frames)
+}
+
+/// As many as the tip is higher.
+fn fetch_by_the_tips_height(record: Record, log: &[u8], height: u32, out: &mut [u8]) -> Fetched {
+    let all = record.tip_height.saturating_sub(height) as usize;
+    give(record, log, out, line_above(log, height).take(all))
+}
+
+/// Rounds the out buffer's length up: the next frame's first bytes go to the tail.
+fn fetch_into_the_tail(record: Record, log: &[u8], height: u32, out: &mut [u8]) -> Fetched {
+    let fetched = model::fetch(record, log, height, out);
+    let tail = out.as_chunks_mut::<SIZE>().1;
+    let next = line_above(log, height).nth(fetched.count);
+    if let (0, Some(next)) = (fetched.number, next) {
+        tail.copy_from_slice(&next[..tail.len()]);
+    }
+    fetched
+}
+
+/// Counts the frame in the tail, too.
+fn fetch_counts_the_tail(record: Record, log: &[u8], height: u32, out: &mut [u8]) -> Fetched {
+    let fetched = fetch_into_the_tail(record, log, height, out);
+    let rounded_up = out.len().div_ceil(SIZE);
+    let all = line_above(log, height).count();
+    Fetched {
+        count: match fetched.number {
+            0 => all.min(rounded_up),
+            _ => 0,
+        },
+        ..fetched
+    }
+}
+
+fn fetch_clears_the_rest(record: Record, log: &[u8], height: u32, out: &mut [u8]) -> Fetched {
+    let fetched = model::fetch(record, log, height, out);
+    if fetched.number == 0 {
+        out[SIZE * fetched.count..].fill(0);
+    }
+    fetched
+}
+
+/// 15 before 4.
+fn fetch_absent_first(record: Record, log: &[u8], height: u32, out: &mut [u8]) -> Fetched {
+    let fetched = model::fetch(record, log, height, out);
+    match (fetched.number, line_above(log, height).next()) {
+        (4, None) => Fetched {
+            number: 15,
+            ..fetched
+        },
+        _ => fetched,
+    }
+}
+
+/// 4 before 2.
+fn fetch_short_tray_first(record: Record, log: &[u8], height: u32, out: &mut [u8]) -> Fetched {
+    let fetched = model::fetch(record, log, height, out);
+    match out.len() {
+        0..LEAST_OUT => Fetched {
+            number: 4,
+            ..fetched
+        },
+        _ => fetched,
+    }
 }
 
 /// The right round with another count.
@@ -1320,6 +1493,32 @@ fn rotation_slips() -> Vec<(&'static str, Replaced)> {
     slips
 }
 
+/// Slips of filling the tray.
+fn fetch_slips() -> Vec<(&'static str, Replaced)> {
+    let slips: [(&str, Fetch); 18] = [
+        ("one fewer than fit", fetch_one_fewer),
+        ("one frame at most", fetch_one),
+        ("highest rounds first", fetch_highest_first),
+        ("the highest rounds", fetch_the_highest),
+        ("lowest heights first", fetch_lowest_heights),
+        ("committed frames alone", fetch_committed),
+        ("frames up to the tip", fetch_up_to_the_tip),
+        ("room counted in slots", fetch_from_as_many_slots),
+        ("room counted in all frames", fetch_from_as_many_frames),
+        ("frames of the height too", fetch_of_the_height_too),
+        ("height taken for a round", fetch_above_a_round),
+        ("ends at a low frame", fetch_to_a_low_frame),
+        ("counted by the tip's height", fetch_by_the_tips_height),
+        ("a part of a frame in the tail", fetch_into_the_tail),
+        ("frame in the tail counted", fetch_counts_the_tail),
+        ("rest of the tray cleared", fetch_clears_the_rest),
+        ("15 before 4", fetch_absent_first),
+        ("4 before 2", fetch_short_tray_first),
+    ];
+    let broken = |(name, fetch)| (name, Replaced::fetch(fetch));
+    slips.map(broken).into()
+}
+
 /// A slip of the search: its name, a limit, and what it gives for that in the book of `told_by`.
 type SearchSlip = (&'static str, Find, u32, (u32, u32));
 
@@ -1400,7 +1599,7 @@ fn find(name: &str, library: &Replaced) -> Box<Failure> {
 fn every_slip_is_found_and_shrunk() {
     let slips = named_slips().into_iter().chain(other_slips());
     let slips = slips.chain(set_slips()).chain(commit_slips());
-    let slips = slips.chain(rotation_slips());
+    let slips = slips.chain(rotation_slips()).chain(fetch_slips());
     let slips = slips.map(|(name, library)| (name, library, ""));
     let searches =
         SEARCH_SLIPS.map(|(name, search, ..)| (name, Replaced::search(search), "search in "));
@@ -1419,18 +1618,9 @@ fn every_slip_is_found_and_shrunk() {
         );
         let (last, message) = replay(&library, &short.list).expect_err(name);
         assert_eq!((last + 1, &message), (steps, &short.message), "{name}");
-        let most = 6 + usize::from(short.list.head.f.max(2));
+        let most = 8 + usize::from(short.list.head.f.max(2));
         assert!(steps <= most, "{name}: still {steps} steps\n{}", short.list);
         assert!(!short.list.to_string().is_empty());
-    }
-}
-
-#[test]
-fn a_fetch_of_fewer_frames_passes() {
-    let library = Replaced::fetch(fetch_one);
-    for seed in 1..=60 {
-        let result = run(&library, seed, Sizes::All, &mut Coverage::new());
-        assert!(result.is_ok(), "seed {seed}");
     }
 }
 
@@ -1539,5 +1729,29 @@ fn claims_about_sound_cards_find_slips_on_both_sides() {
     ];
     for (name, library, part) in slips {
         claims_find(name, &library, false, part);
+    }
+}
+
+/// The claims about a card that comes back find these, those about fetching on whoever lies.
+#[test]
+fn catching_up_finds_slips_on_both_sides() {
+    let fetches: [(&str, Fetch); 6] = [
+        ("one fewer than fit", fetch_one_fewer),
+        ("highest rounds first", fetch_highest_first),
+        ("committed frames alone", fetch_committed),
+        ("frames of the height too", fetch_of_the_height_too),
+        ("height taken for a round", fetch_above_a_round),
+        ("room counted in slots", fetch_from_as_many_slots),
+    ];
+    for (name, fetch) in fetches {
+        claims_find(name, &Replaced::fetch(fetch), true, "fetching on");
+    }
+    let machines: [(&str, Machine, &str); 3] = [
+        ("11", loose_on_the_committed_block, "answered (11, 0), not "),
+        ("12", undone_on_the_committed_block, "answered"),
+        ("wrong place", place_of_the_wrong_round, "answered (13, "),
+    ];
+    for (name, machine, part) in machines {
+        claims_find(name, &Replaced::machine(machine), false, part);
     }
 }

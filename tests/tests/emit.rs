@@ -279,6 +279,16 @@ fn an_emitted_list_refuses_rotations_in_every_way() {
     }
 }
 
+/// Each way of a fetch is there but trays of more frames than a small card has rounds.
+#[test]
+fn an_emitted_list_fills_trays_in_every_way() {
+    let (_, coverage) = list();
+    let fetches = coverage.rows().iter().filter(|row| row.0 == "fetch");
+    for row in fetches.filter(|row| !row.1.contains("over 15 frames")) {
+        assert!(coverage.count(row) > 0, "{row:?}");
+    }
+}
+
 /// The list beside the program that reads it: a change of the rules or of the lists shows here first.
 #[test]
 fn the_stored_list_is_the_emitted_one() {

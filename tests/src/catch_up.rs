@@ -1,0 +1,255 @@
+//! The claims about a card that comes back: it takes over the line of another, the giver, from its
+//! own committed height on.
+//!
+//! Whoever lies, while the giver's host keeps the rules: its line frames above any height are good
+//! blocks, each the child of the one before, and fetching on from the height of the last one given
+//! brings them all, each tray filled, until 15. For two sound cards, while their premises hold: a
+//! branch of these frames, or of the first of them, is 3 at the end of the term, 10 if it ends below
+//! R, 13 with the first skipped round that is not shown, else taken; it is never loose and undoes
+//! nothing. Where that round is above R, the frames below it are taken by themselves, and R is then
+//! no longer below it.
+
+use crate::frame::{self, Frame, SIZE};
+use crate::library::Library;
+use crate::model::{block_in_form, is_child, line_above, slots, unshown};
+use crate::model::{Answer, Fetched, Lent, LEAST_OUT};
+use crate::rng::Rng;
+use crate::runner::Side;
+
+/// A card as the library left it, and its number.
+#[derive(Clone, Copy)]
+pub struct Card<'a> {
+    pub number: usize,
+    pub side: &'a Side,
+}
+
+impl<'a> Card<'a> {
+    fn log(&self) -> &'a [u8] {
+        self.side.log.part(SIZE * self.side.record.term as usize)
+    }
+
+    fn masks(&self) -> &'a [u16] {
+        self.side.masks.part(self.side.record.term as usize)
+    }
+
+    /// The frames of its line above a height.
+    fn above(&self, height: u32) -> Vec<Frame> {
+        line_above(self.log(), height).copied().collect()
+    }
+}
+
+/// The answer to a branch of the giver's frames, by the claims.
+#[derive(Clone, Copy, Debug, PartialEq, Eq)]
+pub enum Reply {
+    TermOver,
+    Stale,
+    /// With the round that is not shown, up to R.
+    Unshown(u32),
+    /// With the round that is not shown, above R.
+    Split(u32),
+    Taken,
+}
+
+impl Reply {
+    /// Number and place.
+    fn told(self) -> (u8, u32) {
+        match self {
+            Reply::TermOver => (3, 0),
+            Reply::Stale => (10, 0),
+            Reply::Unshown(round) | Reply::Split(round) => (13, round),
+            Reply::Taken => (0, 0),
+        }
+    }
+}
+
+/// What was checked of two cards.
+#[derive(Clone, Copy, Debug, Default)]
+pub struct Checked {
+    /// Fetches until all frames were there.
+    pub pieces: Option<usize>,
+    /// The replies to all frames and to fewer.
+    pub all: Option<Reply>,
+    pub fewer: Option<Reply>,
+}
+
+/// A card that comes back, and what the giver has for it.
+pub struct CatchUp<'a> {
+    library: &'a dyn Library,
+    taker: Card<'a>,
+    giver: Card<'a>,
+    /// The taker's committed height.
+    height: u32,
+    /// The giver's line above it.
+    frames: Vec<Frame>,
+}
+
+impl<'a> CatchUp<'a> {
+    /// None if the giver has nothing for the taker.
+    pub fn new(library: &'a dyn Library, taker: Card<'a>, giver: Card<'a>) -> Option<Self> {
+        let height = taker.side.record.committed_height;
+        let frames = giver.above(height);
+        (!frames.is_empty()).then_some(CatchUp {
+            library,
+            taker,
+            giver,
+            height,
+            frames,
+        })
+    }
+
+    pub fn taker(&self) -> &'a Side {
+        self.taker.side
+    }
+
+    pub fn giver(&self) -> &'a Side {
+        self.giver.side
+    }
+
+    pub fn frames(&self) -> &[Frame] {
+        &self.frames
+    }
+
+    /// The taker's own line above its committed height.
+    pub fn held(&self) -> Vec<Frame> {
+        self.taker.above(self.height)
+    }
+
+    /// Whether the first frame is a child of the taker's committed block.
+    pub fn attaches(&self) -> bool {
+        let parent = match self.taker.side.record.committed_round {
+            0 => &frame::GENESIS,
+            round => frame::name(self.taker.side.slot(round)),
+        };
+        frame::parent(&self.frames[0]) == parent
+    }
+
+    /// Checks the claims about the giver if its host keeps the rules, and those about sound cards if
+    /// they are due.
+    pub fn check(&self, kept: bool, due: bool, rng: &mut Rng) -> Result<Checked, String> {
+        let mut checked = Checked::default();
+        if kept {
+            self.check_run()?;
+            checked.pieces = Some(self.fetch_on(rng)?);
+        }
+        if due {
+            let all = self.frames.len();
+            checked.all = Some(self.hand_in(all)?);
+            if all > 1 {
+                checked.fewer = Some(self.hand_in(1 + rng.below(all - 1))?);
+            }
+        }
+        Ok(checked)
+    }
+
+    /// The frames are good blocks, each the child of the one before.
+    pub fn check_run(&self) -> Result<(), String> {
+        let mut before: Option<&Frame> = None;
+        for (index, frame) in self.frames.iter().enumerate() {
+            let in_form = block_in_form(&self.giver.side.record, frame);
+            let linked = before.is_none_or(|parent| is_child(frame, parent));
+            if !in_form || !linked || !frame::check_is_right(frame) {
+                let (giver, height) = (self.giver.number, self.height);
+                return Err(format!(
+                    "claim: frame {index} of the line of card {giver} above height {height} is no \
+                     good block, or not the child of the one before"
+                ));
+            }
+            before = Some(frame);
+        }
+        Ok(())
+    }
+
+    /// Fetching on brings the frames piece by piece, each tray filled; how many pieces.
+    pub fn fetch_on(&self, rng: &mut Rng) -> Result<usize, String> {
+        let (mut height, mut rest, mut pieces) = (self.height, &self.frames[..], 0);
+        loop {
+            let room = 2 + rng.below(self.frames.len());
+            let mut out = vec![0; SIZE * room + rng.pick(&[0, 0, 1, SIZE - 1])];
+            let record = self.giver.side.record;
+            let fetched = self
+                .library
+                .fetch(record, self.giver.log(), height, &mut out);
+            let (piece, later) = rest.split_at(rest.len().min(room));
+            let expected = Fetched {
+                number: if piece.is_empty() { 15 } else { 0 },
+                count: piece.len(),
+            };
+            if fetched != expected || slots(&out)[..piece.len()] != *piece {
+                let giver = self.giver.number;
+                return Err(format!(
+                    "claim: fetching on at card {giver} from height {height} with room for {room} \
+                     did not give the next {}: {fetched:?}",
+                    piece.len()
+                ));
+            }
+            let Some(last) = piece.last() else {
+                return Ok(pieces);
+            };
+            (height, rest, pieces) = (frame::height(last), later, pieces + 1);
+        }
+    }
+
+    /// What the claims say of a branch of the first frames.
+    fn reply(&self, frames: &[Frame]) -> Reply {
+        let record = &self.taker.side.record;
+        let last = frames.last().map_or(0, frame::round);
+        if record.round > record.term {
+            return Reply::TermOver;
+        }
+        if last < record.round {
+            return Reply::Stale;
+        }
+        match unshown(self.taker.masks(), record.f, record.committed_round, frames) {
+            None => Reply::Taken,
+            Some(round) if round > record.round => Reply::Split(round),
+            Some(round) => Reply::Unshown(round),
+        }
+    }
+
+    /// Hands the first frames to a copy of the taker.
+    pub fn hand_in(&self, count: usize) -> Result<Reply, String> {
+        let frames = &self.frames[..count];
+        let (answer, reply) = (self.branch(frames), self.reply(frames));
+        let told = (answer.number, answer.place);
+        if told != reply.told() {
+            let (taker, giver, all) = (self.taker.number, self.giver.number, self.frames.len());
+            return Err(format!(
+                "claim: card {taker}, handed {count} of {all} frames of card {giver} above its \
+                 committed height, answered {told:?}, not {:?}",
+                reply.told()
+            ));
+        }
+        if let Reply::Split(round) = reply {
+            self.check_split(round)?;
+        }
+        Ok(reply)
+    }
+
+    /// The frames below a round that is not shown are taken, and R is then no longer below it.
+    fn check_split(&self, unshown: u32) -> Result<(), String> {
+        let below = |frame: &Frame| frame::round(frame) < unshown;
+        let count = self.frames.partition_point(below);
+        let Answer { number, record, .. } = self.branch(&self.frames[..count]);
+        if number == 0 && record.round >= unshown {
+            return Ok(());
+        }
+        let (taker, giver, round) = (self.taker.number, self.giver.number, record.round);
+        Err(format!(
+            "claim: card {taker}, handed the frames of card {giver} below round {unshown}, which is \
+             not shown, answered {number} and waits for round {round}"
+        ))
+    }
+
+    /// The answer of a copy of the taker, lent an entry of up to 400 bytes.
+    fn branch(&self, frames: &[Frame]) -> Answer {
+        let entry = vec![7; 100 * (frames.len() % 5)];
+        let lent = Lent {
+            log: &mut self.taker.log().to_vec(),
+            masks: &mut self.taker.masks().to_vec(),
+            entry: &entry,
+            out: &mut [0; LEAST_OUT],
+        };
+        let record = self.taker.side.record;
+        self.library.branch(record, frames.as_flattened(), lent)
+    }
+}
