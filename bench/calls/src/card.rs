@@ -1,4 +1,4 @@
-//! One card on the library, for terms that are counted and not timed; and the rotation of all that is run here.
+//! One card, for whole terms and for one that comes back; and the rotation of all that is run here.
 
 use beside::frame::SIZE;
 use beside::model::{cards, Answer, Lent, Record, Rotation, LEAST_OUT};
@@ -15,7 +15,7 @@ pub fn rotation(f: u8) -> Rotation {
 pub struct Card {
     pub record: Record,
     pub log: Vec<u8>,
-    masks: Vec<u16>,
+    pub masks: Vec<u16>,
 }
 
 impl Card {
@@ -26,6 +26,13 @@ impl Card {
             log: vec![0; term as usize * SIZE],
             masks: vec![0; term as usize],
         }
+    }
+
+    /// Its record and buffers become copies of another card's.
+    pub fn become_like(&mut self, other: &Card) {
+        self.record = other.record;
+        self.log.copy_from_slice(&other.log);
+        self.masks.copy_from_slice(&other.masks);
     }
 
     /// One call, lent this entry: its answer, and the frames that it emitted.

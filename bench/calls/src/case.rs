@@ -1,15 +1,19 @@
 //! What is timed: calls that are taken. Each leaves a state on which the same call, with the record as it was, does the same
 //! work again, but for the mask of the round blamed, which is set back before each call.
 
+use crate::book::{book, entry};
 use crate::card::rotation;
-use beside::frame::{self, GENESIS, SIZE};
-use beside::model::{self, Record, MOST_F};
+use crate::placed::Placed;
+use beside::frame::{self, SIZE};
+use beside::model::{self, Record, LEAST_OUT, MOST_F};
 
 /// f of every case that does not say it: five cards. That of the sets of blames is 7: fifteen cards.
 const F: u8 = 2;
 const TIMEOUT: u32 = 100;
-/// The bytes of an entry.
-const ENTRY: u32 = 100;
+/// The log begins a page; what is handed in and the out buffer begin in the middle of one, far from it for every copy.
+const MIDDLE: usize = 2048;
+/// The frames of a tray smaller than the chain.
+const TRAY: u32 = 16;
 
 #[derive(Clone, Copy)]
 pub enum Call {
@@ -33,11 +37,11 @@ pub enum Call {
 }
 
 /// The buffers that a call is lent and may write.
-#[derive(Clone, PartialEq, Eq)]
+#[derive(Clone, PartialEq)]
 pub struct Lent {
-    pub log: Vec<u8>,
+    pub log: Placed,
     pub masks: Vec<u16>,
-    pub out: Vec<u8>,
+    pub out: Placed,
 }
 
 #[derive(Clone)]
@@ -47,7 +51,7 @@ pub struct Case {
     pub record: Record,
     pub lent: Lent,
     /// What is handed in; where nothing is, frames for the digests beside the call.
-    pub frames: Vec<u8>,
+    pub frames: Placed,
     pub entry: Vec<u8>,
     /// How many digests the call makes.
     pub digests: usize,
@@ -72,21 +76,18 @@ fn leader(round: u32, f: u8) -> u8 {
     model::leader(round, f, &rotation(f))
 }
 
-fn entry(seed: u32) -> Vec<u8> {
-    (0..ENTRY)
-        .map(|i| (i * 167 + seed * 31 + 13) as u8)
-        .collect()
-}
-
 /// A chain with a block in each round up to `last`.
 fn chain(f: u8, last: u32) -> Vec<u8> {
-    let mut parent = GENESIS;
-    let block = |round| {
-        let block = frame::block(leader(round, f), round, round, &parent, &entry(round));
-        parent = *frame::name(&block);
-        block
-    };
-    (1..=last).flat_map(block).collect()
+    book(f, last, |_| false)
+}
+
+fn handed(frames: &[u8]) -> Placed {
+    Placed::new(MIDDLE, frames)
+}
+
+/// An out buffer of so many bytes.
+fn tray(size: usize) -> Placed {
+    Placed::new(MIDDLE, &vec![0; size])
 }
 
 /// The record of a card that holds a block in each round up to `tip` and leads neither of the next two rounds.
@@ -120,11 +121,11 @@ fn case_of(f: u8, name: &'static str, call: Call, term: u32, tip: u32) -> Case {
         call,
         record: record(f, term, tip),
         lent: Lent {
-            log,
+            log: Placed::new(0, &log),
             masks: vec![0; term as usize],
-            out: vec![0; 2 * SIZE],
+            out: tray(LEAST_OUT),
         },
-        frames: chain(f, 1),
+        frames: handed(&chain(f, 1)),
         entry: entry(0),
         digests: 0,
         zeroed: None,
@@ -151,7 +152,7 @@ fn tick_that_blames(term: u32) -> Case {
 fn blame_that_sets_a_bit(term: u32) -> Case {
     let call = Call::Blame { mask: 0 };
     let mut case = case("blame that sets a bit", call, term, term / 2);
-    case.frames = frame::blame(case.record.own ^ 1, case.record.round).to_vec();
+    case.frames = handed(&frame::blame(case.record.own ^ 1, case.record.round));
     case.digests = 1;
     case
 }
@@ -168,7 +169,7 @@ fn blame_that_passes(term: u32) -> Case {
     let signer = |i: u8| (own + 1 + i) % (2 * F + 1);
     let mask = (1..=F).map(|i| 1 << signer(i)).sum();
     case.call = Call::Blame { mask };
-    case.frames = frame::blame(signer(0), round).to_vec();
+    case.frames = handed(&frame::blame(signer(0), round));
     case.digests = 1;
     case
 }
@@ -185,7 +186,7 @@ fn blame_that_certifies(term: u32) -> Case {
         term / 2,
     );
     case.record.own = proposer;
-    case.frames = frame::blame(signer(0), round).to_vec();
+    case.frames = handed(&frame::blame(signer(0), round));
     case.digests = 2;
     case.frames_out = 1;
     case
@@ -196,9 +197,10 @@ fn set(name: &'static str, call: Call, term: u32) -> Case {
     let mut case = case_of(MOST_F, name, call, term, term / 2);
     let Record { own, f, round, .. } = case.record;
     let signers = (0..=f).map(|i| (own + 1 + i) % (2 * f + 1));
-    case.frames = signers
+    let blames: Vec<u8> = signers
         .flat_map(|signer| frame::blame(signer, round))
         .collect();
+    case.frames = handed(&blames);
     case.digests = usize::from(f) + 1;
     case
 }
@@ -206,16 +208,17 @@ fn set(name: &'static str, call: Call, term: u32) -> Case {
 /// The frames of rounds tip + 1 up to last, on the tip.
 fn branch(name: &'static str, term: u32, tip: u32, last: u32) -> Case {
     let mut case = case(name, Call::Branch, term, tip);
-    case.frames = chain(F, last)[tip as usize * SIZE..].to_vec();
+    case.frames = handed(&chain(F, last)[tip as usize * SIZE..]);
     case.digests = (last - tip) as usize;
     case.zeroed = Some(tip as usize);
     case
 }
 
-fn fetch(term: u32) -> Case {
-    let mut case = case("fetch of T", Call::Fetch { height: 0 }, term, term);
-    case.lent.out = vec![0; term as usize * SIZE];
-    case.frames_out = term as usize;
+/// Fills a tray of so many frames from a height on; a block in every round.
+fn fetch(name: &'static str, term: u32, height: u32, frames: u32) -> Case {
+    let mut case = case(name, Call::Fetch { height }, term, term);
+    case.lent.out = tray(frames as usize * SIZE);
+    case.frames_out = frames as usize;
     case
 }
 
@@ -237,6 +240,9 @@ pub fn cases(term: u32) -> Vec<Case> {
         branch("branch of 1 on round T / 2", term, term / 2, term / 2 + 1),
         branch("branch of T on round 0", term, 0, term),
         case("read, newest committed", Call::Read { height }, term, term),
-        fetch(term),
+        fetch("fetch of T", term, 0, term),
+        fetch("fetch of 16 above height 0", term, 0, TRAY),
+        fetch("fetch of 16 above height T / 2", term, term / 2, TRAY),
+        fetch("fetch of the last 16", term, term - TRAY, TRAY),
     ]
 }

@@ -1,13 +1,17 @@
 //! The calls of the library beside the Rust implementation of `tests`: medians of passes in which both sides, their digests,
 //! memset and memcpy run in turn, on the same buffers. Before a case is timed, either side makes its call three times over on a
 //! copy of the state, and every result and byte must be alike. Then the search for the last committed slot by itself, which
-//! `calls searches` prints alone. Then what is counted: terms without faults, and how long an entry waits where cards are dead.
-//! `calls counts` prints these alone.
+//! `calls searches` prints alone, and a card that comes back after 1,000 rounds: `calls comes-back`. Then what is counted: terms
+//! without faults, and how long an entry waits where cards are dead. `calls counts` prints these alone.
 
+mod book;
 mod card;
 mod case;
+mod comes_back;
 mod dead_leaders;
 mod fault_free;
+mod placed;
+mod recipes;
 mod searches;
 mod side;
 mod waits;
@@ -175,18 +179,21 @@ fn head(cells: &str) -> Vec<String> {
     cells.split(", ").map(String::from).collect()
 }
 
+/// Shows what is under way on a terminal, in place of what was shown before.
+fn progress(what: &str) {
+    if stderr().is_terminal() {
+        eprint!("\r{:60}\r{what} ", "");
+    }
+}
+
 fn calls() {
     let mut measured = Vec::new();
     for mut case in TERMS.into_iter().flat_map(cases) {
-        if stderr().is_terminal() {
-            eprint!("\r{:50}\r{}, T = {} ", "", case.name, case.record.term);
-        }
+        progress(&format!("{}, T = {}", case.name, case.record.term));
         let times = measure(&mut case);
         measured.push((case, times));
     }
-    if stderr().is_terminal() {
-        eprint!("\r{:50}\r", "");
-    }
+    progress("");
     let mut rows = vec![head(
         "call, T, ours, beside Rust, its digests, beside Rust, the rest, beside Rust, memset, rest / memset, rest / memset and memcpy",
     )];
@@ -213,6 +220,13 @@ fn searches() {
     let f = searches::F;
     println!("The search for the last committed slot, from round T - f down, f = {f}. Over ours: a time over ours, above 1 ours is faster.");
     print(&searches::table());
+}
+
+fn comes_back() {
+    let (rounds, term) = (comes_back::ROUNDS, comes_back::TERM);
+    println!("A card that comes back after {rounds} rounds, T = {term}. Exchanges are the fetches answered with frames and the sets of blames, one a");
+    println!("round. Digests: one for each frame handed in or emitted. Fetching: all fetches, where they come first. All: fetches and other calls.");
+    print(&comes_back::table());
 }
 
 fn fault_free() -> Vec<Vec<String>> {
@@ -255,6 +269,8 @@ fn all() {
     println!();
     searches();
     println!();
+    comes_back();
+    println!();
     counts();
 }
 
@@ -264,9 +280,10 @@ fn main() -> ExitCode {
     match words[..] {
         [] => all(),
         ["searches"] => searches(),
+        ["comes-back"] => comes_back(),
         ["counts"] => counts(),
         _ => {
-            eprintln!("calls [searches | counts]");
+            eprintln!("calls [searches | comes-back | counts]");
             return ExitCode::from(2);
         }
     }

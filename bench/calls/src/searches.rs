@@ -2,12 +2,11 @@
 //! reads every slot allowed, and its own search downward. Before a case is timed, all three must find the same slot, and both
 //! searches read as many.
 
-use crate::card::rotation;
+use crate::book::book;
 use crate::side::timed;
 use crate::{head, median, ratio, time, BATCH, PASSES, TERMS};
 use beside::ffi::{self, ApolloSearch};
-use beside::frame::{self, GENESIS, SIZE};
-use beside::model::{self, leader, Search};
+use beside::model::{self, Search};
 use std::hint::black_box;
 
 pub const F: u8 = 2;
@@ -24,20 +23,10 @@ struct Case {
 
 /// A term's book with blocks in the rounds that are not skipped.
 fn case(name: &'static str, term: u32, skipped: impl Fn(u32) -> bool) -> Case {
-    let (mut parent, mut height) = (GENESIS, 0);
-    let mut log = vec![0; term as usize * SIZE];
-    for (slot, round) in log.as_chunks_mut().0.iter_mut().zip(1..=term) {
-        if !skipped(round) {
-            height += 1;
-            let signer = leader(round, F, &rotation(F));
-            frame::write_block(slot, signer, round, height, &parent, &[]);
-            parent = *frame::name(slot);
-        }
-    }
     Case {
         name,
         term,
-        log,
+        log: book(F, term, skipped),
         limit: term - u32::from(F),
     }
 }

@@ -59,7 +59,7 @@ fn each_frame<T>(frames: &[u8], call: impl FnMut(&[u8]) -> T) -> T {
 }
 
 /// Calls of the library.
-// Safety of each: a pointer comes from a vector with its length, no two overlap, and the round waited for has a mask.
+// Safety of each: a pointer comes from a buffer with its length, no two overlap, and the round waited for has a mask.
 #[rustfmt::skip]
 pub fn ours(case: &mut Case, times: usize) -> (f64, Outcome) {
     let replica = ApolloReplica::from(case.record);
