@@ -2,7 +2,7 @@
 use mathlib.Core.Path.{_≡_, refl, sym, ap, _∙_}
 use mathlib.Core.Bool.{Bool, true, false, _&&_, cond}
 use mathlib.Core.List.{List, [], _∷_, _++_, flatten, append-assoc, append-nil}
-use Prim.Native.Nat.{ℕ, zero, suc, _+_, _-_, _*_, _/_, _≤_, min}
+use Prim.Native.Nat.{ℕ, zero, suc, _+_, _-_, _*_, _/_, _≤_, _<_, min}
 use native.Mathlib.Nat.{le-refl}
 use native.Mathlib.Numerals.{add-one}
 use native.Mathlib.Omega.{arith}
@@ -14,7 +14,7 @@ use Rattle.apollo.specs.Log.{slot, filled, store, chain}
 use Rattle.apollo.specs.Fetch.{above}
 use Rattle.apollo.proofs.Fetch.{above-append}
 use Rattle.frame.proofs.Frames.{frame-part}
-use Rattle.log_heights.specs.Fetch.{isTall}
+use Rattle.log_heights.specs.Fetch.{isTall, lastLow}
 
 above-one : (h : ℕ) (x : List ℕ) (b : Bool) → above h (cond b (x ∷ []) []) ≡ cond (b && ltb h (height x)) (x ∷ []) []
 unfolding above
@@ -48,6 +48,50 @@ module _ (log : List ℕ) (h : ℕ) where
       above-append h (chain log r) (cond (filled (slot log (suc r))) (slot log (suc r) ∷ []) [])
       ∙ ap (λ (l : List (List ℕ)). upTo r ++ l) (above-one h (slot log (suc r)) (filled (slot log (suc r))))
 
+  -- none up to the last round before the first
+  low-none : (m lo : ℕ) → upTo lo ≡ [] → (lastLow log h lo m ≤ lo + m) × (upTo (lastLow log h lo m) ≡ [])
+  unfolding lastLow
+  low-none zero lo e = (omega arith, e)
+  low-none (suc m) lo e = by (low-none m (lo + 1)) (isTall (slot log (lo + 1)) h) refl
+    where
+      by : (upTo (lo + 1) ≡ [] → (lastLow log h (lo + 1) m ≤ lo + 1 + m) × (upTo (lastLow log h (lo + 1) m) ≡ []))
+          → (b : Bool) → isTall (slot log (lo + 1)) h ≡ b
+          → (cond b lo (lastLow log h (lo + 1) m) ≤ lo + suc m) × (upTo (cond b lo (lastLow log h (lo + 1) m)) ≡ [])
+      by ih true t = (omega arith, e)
+      by ih false t =
+          let f : isTall (slot log (suc lo)) h ≡ false = rw add-one at t in
+          let r : (lastLow log h (lo + 1) m ≤ lo + 1 + m) × (upTo (lastLow log h (lo + 1) m) ≡ []) =
+          ih (rw add-one (up-more lo ∙ rw (e, f))) in
+          (omega (arith, r .0), r .1)
+
+  pub last-low : (c r : ℕ) → r ≡ lastLow log h 0 c → (r ≤ c) × (upTo r ≡ [])
+  last-low c r e =
+      let n : (lastLow log h 0 c ≤ 0 + c) × (upTo (lastLow log h 0 c) ≡ []) = low-none c 0 (unfold chain above in refl) in
+      rw e (omega (arith, n .0), n .1)
+
+  -- that round found in a walk upwards, at slot lo + 1 of c
+  low-more : (lo c : ℕ) → lo < c → lastLow log h lo (c - lo) ≡ cond (isTall (slot log (lo + 1)) h) lo (lastLow log h (lo + 1) (c - (lo + 1)))
+  unfolding lastLow
+  low-more lo c g =
+      let q : c - lo ≡ suc (c - (lo + 1)) = omega arith in
+      rw q
+
+  module _ (lo c : ℕ) (b : Bool) (e : b ≡ isTall (lent log lo) h) where
+    tall-slot : isTall (slot log (lo + 1)) h ≡ b
+    tall-slot = rw add-one (sym (rw (lent-slot log lo) at e))
+
+    pub low-here : lo < c → b ≡ true → lo ≡ lastLow log h lo (c - lo)
+    low-here g t = rw (low-more lo c g, tall-slot, t)
+
+    pub low-above : lo < c → b ≡ false → lastLow log h (lo + 1) (c - (lo + 1)) ≡ lastLow log h lo (c - lo)
+    low-above g t = rw (low-more lo c g, tall-slot, t)
+
+  pub low-all : (lo c : ℕ) → c ≤ lo → lo ≡ lastLow log h lo (c - lo)
+  unfolding lastLow
+  low-all lo c g =
+      let z : c - lo ≡ 0 = omega arith in
+      rw z
+
   -- those up to a lower round come first
   up-first : (r d : ℕ) → (length (upTo r) ≤ length (upTo (r + d))) × (take (length (upTo r)) (upTo (r + d)) ≡ upTo r)
   up-first r zero =
@@ -67,9 +111,9 @@ module _ (log : List ℕ) (h : ℕ) where
     pub size : length (flatten (upTo r)) ≡ 512 * k
     pub bytes : out ≡ flatten (upTo r) ++ drop (512 * k) o
 
-  pub copied-none : (o : List ℕ) → Copied o 0 0 o
-  unfolding chain above flatten
-  copied-none o = record { fits = omega arith; count = refl; size = refl; bytes = refl }
+  pub copied-none : (o : List ℕ) (r : ℕ) → upTo r ≡ [] → Copied o r 0 o
+  unfolding flatten
+  copied-none o r e = record { fits = omega arith; count = rw e refl; size = rw e refl; bytes = rw e refl }
 
   module _ (o : List ℕ) (r k : ℕ) (out : List ℕ) (c : Copied o r k out) where
     -- a slot that is not among them, and one that is

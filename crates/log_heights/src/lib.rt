@@ -7,7 +7,7 @@ ghost use lib.ListN.{length, take, drop};
 ghost use Rattle.apollo.specs.Log as Log;
 ghost use Rattle.apollo.specs.Read as Read;
 ghost use Rattle.apollo.specs.Fetch.{above};
-ghost use Rattle.log_heights.specs.Fetch.{isTall};
+ghost use Rattle.log_heights.specs.Fetch.{isTall, lastLow};
 ghost use Rattle.log_heights.specs.Read.{isReadable};
 
 // Slot x is filled, with height h and an entry length of at most 400.
@@ -65,6 +65,23 @@ fn fetch_slot(x: &[u8], h: u32, out: &mut [u8], k: u32) -> u32
     k + 1
 }
 
+// The last round before the first frame that fetch copies. A loop of its own, with one test a slot, is quicker than the one that copies.
+fn last_low(log: &[u8], h: u32, last_round: u32) -> u32
+    requires { ⌜ 512 * «last_round» ≤ length (now log) ⌝ }
+    ensures { λ r. ⌜ r ≡ lastLow (now (log .entry)) h 0 «last_round» ⌝ }
+{
+    let mut r = 0;
+    while r < last_round {
+        let a = 512 * (r as usize);
+        let e = a + 512;
+        if is_tall(&log[a..e], h) {
+            return r;
+        }
+        r += 1;
+    }
+    r
+}
+
 // The chain frames of height above h are copied to out, in rising round, as many as fit; how many. A slot is cut out in 512
 // bytes, and not by `log::slot`, so that the compiler knows how long the copy is.
 pub fn fetch_frames(log: &[u8], h: u32, last_round: u32, out: &mut [u8]) -> usize
@@ -74,7 +91,7 @@ pub fn fetch_frames(log: &[u8], h: u32, last_round: u32, out: &mut [u8]) -> usiz
 {
     let room = out.len() / 512;
     let mut k = 0;
-    let mut r = 0;
+    let mut r = last_low(log, h, last_round);
     while r < last_round {
         if room <= k as usize {
             return k as usize;
