@@ -83,7 +83,7 @@ one-fetch s correct calls p i j c d ec ed tray o e x ys m entry out fits room = 
         (chain-follows s (run start calls .past) j d g (c .replica .«committed_height» .0))
 
     Answered : FetchOutcome → Type 0
-    Answered u = frames (u .answer .count) (u .out) ≡ x ∷ ys → verdictOf (branchCall c (take (512 * u .answer .count) (u .out)) entry out) ≡ received c x ys
+    Answered u = frames (u .answer .count) (u .out) ≡ x ∷ ys → verdictOf (branchCall c (take (512 * u .answer .count) (u .out)) entry out) ≡ received c (c .replica .«committed_round» .0) x ys
 
     none : (k : ℕ) → Answered (record { answer = record { number = k; count = 0 }; out = tray })
     none k v = let z : _≡_ {A = ℕ} 0 1 = cc in absurd (omega arith)

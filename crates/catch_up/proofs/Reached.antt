@@ -1,7 +1,9 @@
 -- Each verdict on a run comes, in the list that shows that demand 3's premises can hold and in beginnings of it. Assumes nothing.
 use Prim.Native.Nat.{ℕ}
 use mathlib.Core.Path.{_≡_, refl}
+use mathlib.Core.Logic.{inr}
 use mathlib.Core.Option.{some}
+use native.Mathlib.Omega.{arith}
 use mathlib.Core.List.{List, [], _∷_, _++_, flatten}
 use Rattle.apollo.specs.declared.Verdict.{Verdict}
 use Rattle.apollo.specs.Enter.{State}
@@ -28,7 +30,7 @@ first-taken = rw checked1 refl
 
 -- in the world of some calls
 abbrev at : (es : List (ℕ × Call)) → Premises setup correct es → (i j : ℕ) (c d : State) → run start es .states i ≡ some c
-    → run start es .states j ≡ some d → (x : List ℕ) (ys : List (List ℕ)) → missing c d ≡ x ∷ ys → (v : Verdict) → received c x ys ≡ v → Comes v
+    → run start es .states j ≡ some d → (x : List ℕ) (ys : List (List ℕ)) → missing c d ≡ x ∷ ys → (v : Verdict) → received c (c .replica .«committed_round» .0) x ys ≡ v → Comes v
 at es p i j c d ec ed x ys m v e =
     record {
       s = setup;
@@ -56,6 +58,9 @@ reached =
       taken = at first-eight eight-premises 2 0 skipped-2 skipped-0 (eight-leave .1) (eight-leave .0) b3 [] refl (verdict 0 0) refl;
       waits = at first-seven seven-premises 2 0 blaming-2 skipped-0 (seven-leave .2) (seven-leave .0) b1 (b3 ∷ []) refl (verdict 13 2) refl;
       waits-for = refl;
+      shared = record { from-committed = omega arith; held = inr refl; same = refl };
+      uncommitted = refl;
+      one-more = refl;
       far = at first-seven seven-premises 1 0 opened-1 skipped-0 (seven-leave .1) (seven-leave .0) b1 (b3 ∷ []) refl (verdict 13 2) refl;
       far-from = refl;
       blames = m2 ++ m0;

@@ -12,7 +12,8 @@ use borrow.Author.Tests.{eqb-true, eqb-false, leb-true, leb-false, ltb-true, ltb
 use Rattle.sha256.specs.Fips.{sha256}
 use Rattle.apollo.specs.declared.Setup.{Setup}
 use Rattle.apollo.specs.declared.Verdict.{Verdict}
-use Rattle.apollo.specs.Frame.{round}
+use Rattle.apollo.specs.Setup.{setupOf}
+use Rattle.apollo.specs.Frame.{round, height}
 use Rattle.apollo.specs.Log.{slot}
 use Rattle.apollo.specs.Masks.{certified, gap}
 use Rattle.apollo.specs.Replica.{leads}
@@ -20,15 +21,16 @@ use Rattle.apollo.specs.Enter.{State, Effect, commit, tipped, holding, entered,
 use Rattle.apollo.specs.Judging.{verdict}
 use Rattle.apollo.specs.Outcome.{taken}
 use Rattle.apollo.specs.Branch.{lastOf, firstUncertified, adopting}
+use Rattle.apollo.specs.Fetch.{fetchable}
 use Rattle.apollo.specs.Calls.{branchCall}
 use Rattle.apollo.specs.BenchSheet.{number, newRound}
 use Rattle.agreement.specs.Run.{Call, start, run}
-use Rattle.agreement.specs.Premises.{Premises}
+use Rattle.agreement.specs.Premises.{Each, Lawful}
 use Rattle.agreement.proofs.Tests.{clash, by-cond, cond-true}
-use Rattle.agreement.proofs.Good.{Good, setup-is, committed-tip}
-use Rattle.catch_up.specs.CatchUp.{missing, lacking, received, beneath, Split}
-use Rattle.catch_up.proofs.Run.{Follows, child-parts, held-round}
-use Rattle.catch_up.proofs.CatchUp.{gc, gd, rests, run-on, held-d, taken-so}
+use Rattle.agreement.proofs.Good.{Good, setup-is}
+use Rattle.catch_up.specs.CatchUp.{lacking, received, Shared, beneath, Split}
+use Rattle.catch_up.proofs.Run.{Follows, child-parts}
+use Rattle.catch_up.proofs.CatchUp.{gc, rests, tip-most, round-d, run-on, taken-so}
 
 -- the first round above lo that is not certified: all before it are
 gap-found : (s : Setup) (masks : List ℕ) (lo k q : ℕ) → gap s masks lo k ≡ q → q ≢ 0
@@ -96,22 +98,22 @@ module _ (s : Setup) (masks : List ℕ) (q : ℕ) (is : q ≢ 0) where
           (λ _. record { before = g .0; none = refl; ends = g .0; between = g .2 })
 
 -- what a 13 says
-record Lacks (c : State) (x : List ℕ) (ys : List (List ℕ)) (q : ℕ) : Type 0 where
+record Lacks (c : State) (k : ℕ) (x : List ℕ) (ys : List (List ℕ)) (q : ℕ) : Type 0 where
   runs : c .replica .round .0 ≢ c .replica .«last_round» .0 + 1
   late : c .replica .round .0 ≤ round (lastOf x ys)
-  first : lacking c x ys ≡ q
+  first : lacking c k x ys ≡ q
   lies : q ≢ 0
 
-lacks : (c : State) (x : List ℕ) (ys : List (List ℕ)) (q : ℕ) → received c x ys ≡ verdict 13 q → Lacks c x ys q
+lacks : (c : State) (k : ℕ) (x : List ℕ) (ys : List (List ℕ)) (q : ℕ) → received c k x ys ≡ verdict 13 q → Lacks c k x ys q
 unfolding received
-lacks c x ys q =
-    by-cond (λ v. v ≡ verdict 13 q → Lacks c x ys q) (eqb (c .replica .round .0) (c .replica .«last_round» .0 + 1))
+lacks c k x ys q =
+    by-cond (λ v. v ≡ verdict 13 q → Lacks c k x ys q) (eqb (c .replica .round .0) (c .replica .«last_round» .0 + 1))
     (λ _ v. absurd (omega (arith, ap (λ (u : Verdict). u .number) v)))
-    (λ n. by-cond (λ v. v ≡ verdict 13 q → Lacks c x ys q) (ltb (round (lastOf x ys)) (c .replica .round .0))
+    (λ n. by-cond (λ v. v ≡ verdict 13 q → Lacks c k x ys q) (ltb (round (lastOf x ys)) (c .replica .round .0))
     (λ _ v. absurd (omega (arith, ap (λ (u : Verdict). u .number) v)))
-    (λ l. by-cond (λ v. v ≡ verdict 13 q → Lacks c x ys q) (eqb (lacking c x ys) 0)
+    (λ l. by-cond (λ v. v ≡ verdict 13 q → Lacks c k x ys q) (eqb (lacking c k x ys) 0)
     (λ _ v. absurd (omega (arith, ap (λ (u : Verdict). u .number) v)))
-    (λ z v. let e : lacking c x ys ≡ q = ap (λ (u : Verdict). u .place) v in
+    (λ z v. let e : lacking c k x ys ≡ q = ap (λ (u : Verdict). u .place) v in
     record { runs = eqb-false _ _ n; late = ltb-false _ _ l; first = e; lies = λ w. eqb-false _ _ z (e ∙ w) })))
 
 -- a taken branch leaves R above its last round
@@ -122,28 +124,26 @@ round-after c a x ys entry out =
     by-cond (λ (e : Effect). round (lastOf x ys) < e .state .replica .round .0) (leads (holding c _ _ _ .replica))
     (λ _. unfold entered commit proposing holding tipped in omega arith) (λ _. unfold entered commit holding tipped in omega arith)
 
-module _ (s : Setup) (correct : ℕ → Bool) (calls : List (ℕ × Call)) (p : Premises s correct calls) (i j : ℕ) (c d : State)
-    (ec : run start calls .states i ≡ some c) (ed : run start calls .states j ≡ some d) (x : List ℕ) (ys zs : List (List ℕ))
-    (m : missing c d ≡ x ∷ (ys ++ zs)) (q : ℕ) (w : Lacks c x ys q) where
+module _ (s : Setup) (calls : List (ℕ × Call)) (l : Each (Lawful s) start calls) (i j : ℕ) (c d : State)
+    (ec : run start calls .states i ≡ some c) (ed : run start calls .states j ≡ some d) (k : ℕ) (sh : Shared c d k)
+    (x : List ℕ) (ys zs : List (List ℕ)) (m : fetchable (d .replica) (d .log) (height (slot (c .log) k)) ≡ x ∷ (ys ++ zs))
+    (q : ℕ) (w : Lacks c k x ys q) where
   abbrev R : ℕ
   R = c .replica .round .0
 
-  abbrev k : ℕ
-  k = c .replica .«committed_round» .0
-
   abbrev g : Good s (run start calls .past) i c
-  g = gc s correct calls p i j c d ec ed
+  g = gc s calls l i j c d ec ed
 
   abbrev us : List (List ℕ)
   us = beneath q (x ∷ ys)
 
+  own : (vs : List (List ℕ)) → firstUncertified (setupOf (c .replica)) (c .masks) k vs ≡ firstUncertified s (c .masks) k vs
+  own vs = ap (λ u. firstUncertified u (c .masks) k vs) (setup-is s i (c .replica) (g .fixed))
+
   under : Below s (c .masks) q (w .lies) k us
   under =
-      below s (c .masks) q (w .lies) (x ∷ ys) (slot (d .log) k) (run-on s correct calls p i j c d ec ed x ys zs m (w .late)) k
-      (held-round s (run start calls .past) (d .masks) (d .log) (d .replica .«tip_round» .0)
-      (gd s correct calls p i j c d ec ed .stored .chain) k (held-d s correct calls p i j c d ec ed x ys zs m (w .late)))
-      (ap (λ u. firstUncertified u (c .masks) k (x ∷ ys)) (sym (setup-is s i (c .replica) (g .fixed)))
-      ∙ w .first)
+      below s (c .masks) q (w .lies) (x ∷ ys) (slot (d .log) k) (run-on s calls l i j c d ec ed k sh x ys zs m) k
+      (round-d s calls l i j c d ec ed k sh x ys zs m) (sym (own (x ∷ ys)) ∙ w .first)
 
   -- a certified round is below R
   passed : (r : ℕ) → certified s (c .masks) r ≡ true → r < R
@@ -152,12 +152,12 @@ module _ (s : Setup) (correct : ℕ → Bool) (calls : List (ℕ × Call)) (p : 
       go : (b : Bool) → leb R r ≡ b → r < R
       go true e =
           absurd (clash (ap (λ u. certified u (c .masks) r) (setup-is s i (c .replica) (g .fixed)) ∙ t)
-          (rests s correct calls p i j c d ec ed .ahead r (leb-true _ _ e)))
+          (rests s calls l i j c d ec ed .ahead r (leb-true _ _ e)))
       go false e = leb-false _ _ e
 
   -- above R, the frames below q end right before it
   ends-right : R < q → endOf k us + 1 ≡ q
-  ends-right l = go (leb q (endOf k us + 1)) refl
+  ends-right u = go (leb q (endOf k us + 1)) refl
     where
       go : (b : Bool) → leb q (endOf k us + 1) ≡ b → endOf k us + 1 ≡ q
       go true e = omega (arith, leb-true q (endOf k us + 1) e, under .ends)
@@ -165,32 +165,27 @@ module _ (s : Setup) (correct : ℕ → Bool) (calls : List (ℕ × Call)) (p : 
           let f : endOf k us + 1 < q = leb-false _ _ e in
           absurd (omega (arith, passed (q - 1) (under .between (q - 1) (omega arith) (omega arith))))
 
-  module _ (entry out : List ℕ) (fits : length entry ≤ 400) (room : 1024 ≤ length out) (l : R < q) where
+  module _ (entry out : List ℕ) (fits : length entry ≤ 400) (room : 1024 ≤ length out) (high : R < q) where
     abbrev Taken : List (List ℕ) → Type 0
     Taken vs = (number (branchCall c (flatten vs) entry out) ≡ 0) × (q ≤ newRound (branchCall c (flatten vs) entry out))
 
-    low : k < R
-    low =
-        omega (arith, committed-tip s (run start calls .past) i c g (rests s correct calls p i j c d ec ed .renewed), g .tip-below)
-
     those : (vs : List (List ℕ)) → us ≡ vs → Taken vs
-    those [] e = absurd (omega (arith, ends-right l, ap (endOf k) e, low))
+    those [] e =
+        absurd (omega (arith, ends-right high, ap (endOf k) e, tip-most s calls l i j c d ec ed k sh x ys zs m, g .tip-below))
     those (z ∷ vs) e =
         let r : (rest : List (List ℕ)) × (x ∷ ys ≡ us ++ rest) = beneath-front q (x ∷ ys) in
-        let n : missing c d ≡ z ∷ (vs ++ (r .0 ++ zs)) =
+        let n : fetchable (d .replica) (d .log) (height (slot (c .log) k)) ≡ z ∷ (vs ++ (r .0 ++ zs)) =
         m ∙ ap (λ ws. ws ++ zs) (r .1 ∙ ap (λ ws. ws ++ r .0) e) ∙ append-assoc (z ∷ vs) (r .0) zs in
-        let end : round (lastOf z vs) + 1 ≡ q = ap (λ t. t + 1) (sym (end-last k z vs) ∙ ap (endOf k) (sym e)) ∙ ends-right l in
-        let none : lacking c z vs ≡ 0 =
-        ap (λ u. firstUncertified u (c .masks) k (z ∷ vs)) (setup-is s i (c .replica) (g .fixed))
-        ∙ ap (firstUncertified s (c .masks) k) (sym e) ∙ under .none in
+        let end : round (lastOf z vs) + 1 ≡ q = ap (λ t. t + 1) (sym (end-last k z vs) ∙ ap (endOf k) (sym e)) ∙ ends-right high in
+        let none : lacking c k z vs ≡ 0 = own (z ∷ vs) ∙ ap (firstUncertified s (c .masks) k) (sym e) ∙ under .none in
         let o : branchCall c (flatten (z ∷ vs)) entry out ≡ taken (adopting sha256 entry c k z vs) out =
-        taken-so s correct calls p i j c d ec ed z vs (r .0 ++ zs) n entry out fits room (w .runs) (omega (arith, end)) none in (
+        taken-so s calls l i j c d ec ed k sh z vs (r .0 ++ zs) n entry out fits room (w .runs) (omega (arith, end)) none in (
           ap number o ∙ (unfold taken in refl),
           subst (λ t. q ≤ newRound t) (sym o) (omega (arith, end, round-after c k z vs entry out)),
         )
 
 pub split : Split
-split s correct calls p i j c d ec ed x ys zs m q e entry out fits room = go (leb q (c .replica .round .0)) refl
+split s calls l i j c d ec ed k sh x ys zs m q e entry out fits room = go (leb q (c .replica .round .0)) refl
   where
     us : List (List ℕ)
     us = beneath q (x ∷ ys)
@@ -200,4 +195,4 @@ split s correct calls p i j c d ec ed x ys zs m q e entry out fits room = go (le
         ⊎ ((number (branchCall c (flatten us) entry out) ≡ 0) × (q ≤ newRound (branchCall c (flatten us) entry out)))
     go true z = inl (leb-true _ _ z)
     go false z =
-        inr (those s correct calls p i j c d ec ed x ys zs m q (lacks c x ys q e) entry out fits room (leb-false _ _ z) us refl)
+        inr (those s calls l i j c d ec ed k sh x ys zs m q (lacks c k x ys q e) entry out fits room (leb-false _ _ z) us refl)

@@ -12,6 +12,7 @@ use Rattle.apollo.specs.declared.Setup.{Setup}
 use Rattle.apollo.specs.declared.Verdict.{Verdict}
 use Rattle.apollo.specs.Setup.{setupOf}
 use Rattle.apollo.specs.Frame.{round, height, frames}
+use Rattle.apollo.specs.Log.{slot, filled}
 use Rattle.apollo.specs.Enter.{State}
 use Rattle.apollo.specs.Judging.{verdict, noRefusal}
 use Rattle.apollo.specs.Outcome.{Outcome}
@@ -27,20 +28,30 @@ use Rattle.agreement.specs.Premises.{Each, Lawful, Premises}
 abbrev pub missing : (c d : State) → List (List ℕ)
 missing c d = fetchable (d .replica) (d .log) (c .replica .«committed_height» .0)
 
+-- and above c's block of round k
+abbrev pub beyond : (c d : State) (k : ℕ) → List (List ℕ)
+beyond c d k = fetchable (d .replica) (d .log) (height (slot (c .log) k))
+
 -- number and place of an answer
 abbrev pub verdictOf : Outcome → Verdict
 verdictOf o = verdict (o .answer .number) (o .answer .place)
 
--- the first round above c's committed one that x and the frames after it skip and that is not certified (shown) at c; 0 if none
-abbrev pub lacking : State → (x : List ℕ) (ys : List (List ℕ)) → ℕ
-lacking c x ys = firstUncertified (setupOf (c .replica)) (c .masks) (c .replica .«committed_round» .0) (x ∷ ys)
+-- the first round above k that x and the frames after it skip and that is not certified (shown) at c; 0 if none
+abbrev pub lacking : State → (k : ℕ) (x : List ℕ) (ys : List (List ℕ)) → ℕ
+lacking c k x ys = firstUncertified (setupOf (c .replica)) (c .masks) k (x ∷ ys)
 
--- how c answers them as a branch: 3, 10, 13 with that round, or taken
-unfoldable pub received : State → (x : List ℕ) (ys : List (List ℕ)) → Verdict
-received c x ys =
+-- how c answers them as a branch on its block of round k: 3, 10, 13 with that round, or taken
+unfoldable pub received : State → (k : ℕ) (x : List ℕ) (ys : List (List ℕ)) → Verdict
+received c k x ys =
     cond (eqb (c .replica .round .0) (c .replica .«last_round» .0 + 1)) (verdict roundsOver 0)
     (cond (ltb (round (lastOf x ys)) (c .replica .round .0)) (verdict stale 0)
-    (cond (eqb (lacking c x ys) 0) noRefusal (verdict notCertified (lacking c x ys))))
+    (cond (eqb (lacking c k x ys) 0) noRefusal (verdict notCertified (lacking c k x ys))))
+
+-- c and d hold the same block in round k, not below c's committed round; or k is 0, the genesis of both
+pub record Shared (c d : State) (k : ℕ) : Type 0 where
+  pub from-committed : c .replica .«committed_round» .0 ≤ k
+  pub held : (k ≡ 0) ⊎ (filled (slot (c .log) k) ≡ true)
+  pub same : slot (c .log) k ≡ slot (d .log) k
 
 -- those of some frames, their rounds rising, that are below round q
 unfoldable pub beneath : (q : ℕ) → List (List ℕ) → List (List ℕ)
@@ -52,7 +63,13 @@ abbrev pub OfOne : (Setup → (d : State) → Type 0) → Type 0
 OfOne P =
     (s : Setup) (calls : List (ℕ × Call)) → Each (Lawful s) start calls → (j : ℕ) (d : State) → run start calls .states j ≡ some d → P s d
 
--- what holds of any two replicas' states c and d after a list that meets demand 3's premises
+-- and of any two replicas' states c and d
+abbrev pub OfAny : ((c d : State) → Type 0) → Type 0
+OfAny P =
+    (s : Setup) (calls : List (ℕ × Call)) → Each (Lawful s) start calls → (i j : ℕ) (c d : State)
+    → run start calls .states i ≡ some c → run start calls .states j ≡ some d → P c d
+
+-- what holds of any two where the list meets demand 3's premises
 abbrev pub OfTwo : ((c d : State) → Type 0) → Type 0
 OfTwo P =
     (s : Setup) (correct : ℕ → Bool) (calls : List (ℕ × Call)) → Premises s correct calls → (i j : ℕ) (c d : State)
@@ -75,27 +92,41 @@ GoesOn =
     OfOne (λ s d. (h : ℕ) (xs : List (List ℕ)) (x : List ℕ) (ys : List (List ℕ)) → fetchable (d .replica) (d .log) h ≡ xs ++ (x ∷ ys)
     → fetchable (d .replica) (d .log) (height x) ≡ ys)
 
--- What d has for c, all of it or a beginning (of one fetch, say), end to end, is answered so. Never with 2, 6, 7, 8, 9, 11 or 12
-abbrev pub CatchUp : Type 0
-CatchUp =
-    OfTwo (λ c d. (x : List ℕ) (ys zs : List (List ℕ)) → missing c d ≡ x ∷ (ys ++ zs) → Answers c (flatten (x ∷ ys)) (received c x ys))
-
--- so with one fetch at d and one branch at c: x and ys are what the fetch wrote to its out buffer (tray)
-abbrev pub OneFetch : Type 0
-OneFetch =
-    OfTwo (λ c d. (tray : List ℕ) (o : FetchOutcome) → o ≡ fetchCall (d .replica) (d .log) (c .replica .«committed_height» .0) tray
-    → (x : List ℕ) (ys : List (List ℕ)) → frames (o .answer .count) (o .out) ≡ x ∷ ys
-    → Answers c (take (512 * o .answer .count) (o .out)) (received c x ys))
+-- What d has above a block that both hold, all of it or a beginning (of one fetch, say), end to end, is answered so. Never with 2, 6, 7,
+-- 8, 9, 11 or 12
+abbrev pub Continues : Type 0
+Continues =
+    OfAny (λ c d. (k : ℕ) → Shared c d k → (x : List ℕ) (ys zs : List (List ℕ)) → beyond c d k ≡ x ∷ (ys ++ zs)
+    → Answers c (flatten (x ∷ ys)) (received c k x ys))
 
 -- A blame for a round above R is early (14). After a 13 that is no dead end: the round that it names is at most R, or else the frames below
 -- that round, handed in by themselves, are taken, and then it is
 abbrev pub Split : Type 0
 Split =
-    OfTwo (λ c d. (x : List ℕ) (ys zs : List (List ℕ)) → missing c d ≡ x ∷ (ys ++ zs) → (q : ℕ) → received c x ys ≡ verdict notCertified q
-    → (entry out : List ℕ) → length entry ≤ 400 → 1024 ≤ length out
+    OfAny (λ c d. (k : ℕ) → Shared c d k → (x : List ℕ) (ys zs : List (List ℕ)) → beyond c d k ≡ x ∷ (ys ++ zs)
+    → (q : ℕ) → received c k x ys ≡ verdict notCertified q → (entry out : List ℕ) → length entry ≤ 400 → 1024 ≤ length out
     → (q ≤ c .replica .round .0)
     ⊎ ((number (branchCall c (flatten (beneath q (x ∷ ys))) entry out) ≡ 0)
     × (q ≤ newRound (branchCall c (flatten (beneath q (x ∷ ys))) entry out))))
+
+-- With the premises, c's committed block is such a one as soon as what d has above it reaches c's R
+abbrev pub Common : Type 0
+Common =
+    OfTwo (λ c d. (x : List ℕ) (ys zs : List (List ℕ)) → missing c d ≡ x ∷ (ys ++ zs) → c .replica .round .0 ≤ round (lastOf x ys)
+    → Shared c d (c .replica .«committed_round» .0))
+
+-- so what d has above c's committed height, all of it or a beginning, is answered so, wherever it ends
+abbrev pub CatchUp : Type 0
+CatchUp =
+    OfTwo (λ c d. (x : List ℕ) (ys zs : List (List ℕ)) → missing c d ≡ x ∷ (ys ++ zs) → Answers c (flatten (x ∷ ys))
+    (received c (c .replica .«committed_round» .0) x ys))
+
+-- and with one fetch at d and one branch at c: x and ys are what the fetch wrote to its out buffer (tray)
+abbrev pub OneFetch : Type 0
+OneFetch =
+    OfTwo (λ c d. (tray : List ℕ) (o : FetchOutcome) → o ≡ fetchCall (d .replica) (d .log) (c .replica .«committed_height» .0) tray
+    → (x : List ℕ) (ys : List (List ℕ)) → frames (o .answer .count) (o .out) ≡ x ∷ ys
+    → Answers c (take (512 * o .answer .count) (o .out)) (received c (c .replica .«committed_round» .0) x ys))
 
 -- The premises can hold, and each of these verdicts comes, on whole runs that one replica has for another
 pub record Comes (v : Verdict) : Type 0 where
@@ -112,7 +143,7 @@ pub record Comes (v : Verdict) : Type 0 where
   pub x : List ℕ
   pub ys : List (List ℕ)
   pub has : missing c d ≡ x ∷ ys
-  pub verdict-is : received c x ys ≡ v
+  pub verdict-is : received c (c .replica .«committed_round» .0) x ys ≡ v
 
 pub record Reached : Type 0 where
   pub over : Comes (verdict roundsOver 0)
@@ -121,6 +152,10 @@ pub record Reached : Type 0 where
   -- the round named is R: its blames go in at once
   pub waits : Comes (verdict notCertified 2)
   pub waits-for : waits .c .replica .round .0 ≡ 2
+  -- both hold the block of round 1 there, and c has committed nothing: from that block on d has one frame for it
+  pub shared : Shared (waits .c) (waits .d) 1
+  pub uncommitted : waits .c .replica .«committed_round» .0 ≡ 0
+  pub one-more : length (beyond (waits .c) (waits .d) 1) ≡ 1
   -- The split is needed: the round named is above R, its two blames, f + 1 of them, are early, and the frames below it are taken
   pub far : Comes (verdict notCertified 2)
   pub far-from : far .c .replica .round .0 ≡ 1
