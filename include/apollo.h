@@ -56,8 +56,9 @@
  *   - Asked by a card in an earlier round, send it, for each round above that card's committed one and below the own R, lowest first,
  *     the block in the slot or, where the slot is empty, f + 1 blames. An answer may end after 2f + 1 rounds, never sooner: R is at
  *     most 2f + 1 above the committed round while the premises hold, and an answer that ends below the asker's R brings nothing alone.
- *     In the same round send all blames of it that are there, to a later round nothing: ask that card. The host keeps those frames: a
- *     mask only says who blamed. Limit how often each card is answered.
+ *     One that asks from more than 2f + 1 rounds below was away: tell it the own R, and it fetches (Coming back). In the same round send
+ *     all blames of it that are there, to a later round nothing: ask that card. The host keeps those frames: a mask only says who
+ *     blamed. Limit how often each card is answered.
  *   - Questions also compare lists: whoever has committed that round must have the same digest there. Another block or none means that
  *     the lists have parted or that the asker lies: f + 1 cards must say so.
  *
@@ -79,13 +80,30 @@
  *     sender, so that a liar pushes out only what it sent: for each sender one block a round, the last that came, of the 2f + 1 rounds
  *     or more above the committed one. Drop a higher one, and ask who sent it.
  *
+ * Coming back: a card was away if f + 1 cards have passed the next round that it leads (they signed frames of later ones, or told so). It
+ * counts among the f, and nobody waits for it. It fetches what it lacks:
+ *   - It asks one card at a time for its chain above the own COMMITTED height, and is sent what apollo_fetch gives, each frame with its
+ *     signature. The next question goes on from the height of the last frame, until an answer has fewer frames than the tray takes (none
+ *     with 15). Not above the tip's height: the own tip may be on another branch, and the first frame is then loose (11).
+ *   - The frames, heard as above, are handed in as one branch, or a beginning of them is. While the premises hold and that card's host
+ *     keeps these rules, the answer is 3, 10 (they end below R: nothing to take from it), 13 or 0, and never 7, 8, 9, 11 or 12. This is
+ *     proved.
+ *   - A refused branch costs as much as a taken one. Where many rounds were passed over, hand in run by run: the rounds of the frames show
+ *     which; ask for all their blames together; then the frames up to the next such round, its blames, the frames after it, and so on.
+ *     From the last block that both hold on, the answers are the same: this is proved as well, and presumes nothing of the others.
+ *   - 13: get the blames of round `place` from that card, hand them in, then the branch again. If `place` is above R, they are early
+ *     (14): first hand in, as a branch by themselves, the frames of rounds below `place`. They are taken, and R is then at least
+ *     `place`. This is proved too.
+ *   - Any other answer (for 12 see there), none at all, or a bad frame: that card lies or is out, or its chain changed meanwhile. Drop
+ *     the frames and begin again with the next card: of f + 1 one is correct. If it lasts with f + 1 cards: compare lists.
+ *
  * Entries
  *   - Lend each of open, branch, blame, blames and tick an entry: the call that brings a card to a round that it leads proposes it at
  *     once, an empty one too. That round is 1 for open, R + 1 for a blame, a set or a tick, the last frame's + 1 for a branch. A host
  *     that wants to wait for an entry withholds the branch, at most until w ticks after the card came to R. Ticks go on: w is in the
  *     timeout (Clock).
  *   - Lend an empty entry for a round above T - f, which the term does not commit, and while the card is behind (f + 1 cards have
- *     signed frames of rounds above R + 1): it may come to lead a round that the others passed over long ago.
+ *     signed frames of rounds above R + 1, or told an R above R + 2): it may come to lead a round that the others passed over long ago.
  *   - The entry was used if the call emitted a block, and is on the list for good when that block's round is at most the committed
  *     round and its slot holds the block. Where the slot does not, the block was passed over: lend the entry again, never before. It
  *     then comes after later ones: where order matters, lend a card's next entry when the last is on the list.
@@ -123,8 +141,8 @@ extern "C" {
 #endif
 
 /* Header and archive belong together: a host starts only where apollo_version() == APOLLO_VERSION. The number grows with every change
- * of a declaration here, or of what a call does. */
-#define APOLLO_VERSION 4u
+ * of a declaration here, of what a call does, or of what is promised of it. */
+#define APOLLO_VERSION 5u
 uint32_t apollo_version(void);
 
 enum {
@@ -218,7 +236,7 @@ typedef struct {
 
 typedef struct {
   uint8_t number;
-  size_t count; /* frames copied to the start of the out buffer, at least 1 when taken */
+  size_t count; /* frames copied to the start of the out buffer: as many as there are or as it takes; 0 when refused */
 } apollo_fetched;
 
 /* Opens a card: zeroes log and masks and waits for round 1, or proposes at once if it leads round 1. Nothing is committed yet.
@@ -272,10 +290,13 @@ apollo_answer apollo_tick(apollo_replica replica, uint8_t *log, size_t log_len, 
  * Refuses 2, 15. */
 apollo_part apollo_read(apollo_replica replica, const uint8_t *log, size_t log_len, apollo_height height);
 
-/* Copies held blocks of a height above the given one to out, oldest first, committed or not, for a neighbour to hand in as a branch
- * (split before a skipped round whose blames it lacks). Go on from the height of the last frame copied until it answers 15. It walks
- * the whole log: 0.7 us for all of 64 slots, 128 us for all of 4,096.
- * Refuses 2, 4, 15. */
+/* Copies blocks of the chain, those of a height above the given one, committed or not, to the start of out, lowest rounds first, for a
+ * neighbour to hand in as a branch (Coming back). The count is exactly the smaller of the blocks that the chain has above that height
+ * and the whole frames that out takes, out_len / 512. Later bytes of out are left as they are. A count below out_len / 512 says that
+ * there are no more. Else go on from the height of the last frame copied, until it answers 15: if no call changed the card meanwhile,
+ * that gives all, each once. It walks the log from the lowest slot until out is full: 0.8 us for all of 64 slots, 150 us for all of
+ * 4,096, 3 us for 16 frames in the middle of 4,096.
+ * Refuses 2, 4, 15, in this order. */
 apollo_fetched apollo_fetch(apollo_replica replica, const uint8_t *log, size_t log_len, apollo_height height, uint8_t *out,
                             size_t out_len);
 

@@ -93,7 +93,7 @@ static void filled(void) {
 }
 
 int main(void) {
-  EXPECT(apollo_version() == APOLLO_VERSION && APOLLO_VERSION == 4u && APOLLO_BAD_ROTATION == 17);
+  EXPECT(apollo_version() == APOLLO_VERSION && APOLLO_VERSION == 5u && APOLLO_BAD_ROTATION == 17);
   sizes();
   echoed();
   filled();

@@ -8,17 +8,16 @@ use apollo::Replica;
 use apollo::Round;
 use apollo::Ticks;
 ghost use mathlib.Core.Path.{_≡_};
-ghost use mathlib.Core.Bool.{true};
 ghost use Rattle.sha256.specs.Fips as Fips;
 ghost use Rattle.apollo.specs.Calls.{state, outcome, fetched};
-ghost use Rattle.apollo.specs.Calls.{openCall, branchCall, blameCall, blamesCall, tickCall, readCall, fetchCall, mayCopy};
+ghost use Rattle.apollo.specs.Calls.{openCall, branchCall, blameCall, blamesCall, tickCall, readCall, fetchCall};
 
 // The version of the interface: APOLLO_VERSION of the header that belongs to this archive.
 #[no_mangle]
 pub extern "C" fn apollo_version() -> u32
-    ensures { λ v. ⌜ v ≡ 4 ⌝ }
+    ensures { λ v. ⌜ v ≡ 5 ⌝ }
 {
-    4
+    5
 }
 
 #[no_mangle]
@@ -116,8 +115,7 @@ pub extern "C" fn apollo_fetch(
     height: Height,
     out: &mut [u8],
 ) -> Fetched
-    ensures { λ a. ⌜ fetched a (now (out .exit)) ≡ fetchCall replica (now (log .entry)) (height .0) (now (out .entry)) (a .count) ⌝ }
-    ensures { λ a. ⌜ (a .number ≡ 0 → mayCopy replica (now (log .entry)) (height .0) (now (out .entry)) (a .count) ≡ true) ⌝ }
+    ensures { λ a. ⌜ fetched a (now (out .exit)) ≡ fetchCall replica (now (log .entry)) (height .0) (now (out .entry)) ⌝ }
 {
     call_fetch::fetch(replica, log, height, out)
 }
