@@ -18,21 +18,23 @@ enum {
   GRACE = 200,    /* ticks that a card waits at the start for the others */
   CUT_FROM = 250, /* when deaf and mute cards fall so and lost ones lose their state; and for how long the former are cut off */
   CUT_FOR = 900,
-  ENTRIES = 30, /* most entries that each card is given, one every */
-  EVERY = 40,   /* so many ticks */
+  DEAF_LATER = 300, /* so long a cut card still hears, though it is not heard */
+  ENTRIES = 30,     /* most entries that each card is given, one every */
+  EVERY = 40,       /* so many ticks */
   TEXT = 64,
   TERM = 2,         /* this term's number; frames of term 1 are among the junk */
   LEAST_ROUNDS = 30 /* so that entries can come on the list with 15 cards too */
 };
 
-/* How a card fails. A deaf one hears nothing for a while, a mute one is not heard. A lost one loses its state, is opened afresh and
- * only follows: it asks, and sends no frame any more. One that is set apart goes by another rotation. From TWO on a card lies. */
-typedef enum { NONE, DEAD, DEAF, MUTE, LOST, APART, TWO, BLAMES, JUNK, HIDE, ALL, MASK, MIXED, FAULTS } fault;
-static const char *const fault_names[FAULTS] = {"none",   "dead", "deaf", "mute", "lost", "apart", "two",
-                                                "blames", "junk", "hide", "all",  "mask", "mixed"};
+/* How a card fails. A deaf one hears nothing for a while, a mute one is not heard, a cut one is mute and later deaf too, with a last
+ * block that nobody else has. A lost one loses its state, is opened afresh and only follows: it asks, and sends no frame any more. One
+ * that is set apart goes by another rotation. From TWO on a card lies. MIXED and MISLED are several of these. */
+typedef enum { NONE, DEAD, DEAF, MUTE, CUT, LOST, APART, TWO, BLAMES, JUNK, HIDE, ALL, MASK, MIXED, MISLED, FAULTS } fault;
+static const char *const fault_names[FAULTS] = {"none",   "dead", "deaf", "mute", "cut",  "lost",  "apart", "two",
+                                                "blames", "junk", "hide", "all",  "mask", "mixed", "misled"};
 
 typedef struct {
-  packet p;
+  packet *p; /* as many bytes of it as travel */
   uint32_t due;
 } message;
 
@@ -44,20 +46,20 @@ typedef struct {
 static struct {
   int n, f, show_list;
   fault kind;
-  uint32_t rounds, seed, timeout, delay, loss, now;
+  uint32_t rounds, first_seed, seed, timeout, delay, loss, tray, now;
   const char *asked; /* for the rotation, in the arguments */
   uint8_t rotation[APOLLO_MAX_REPLICAS];
   uint8_t key[APOLLO_MAX_REPLICAS][APOLLO_DIGEST];
   card cards[APOLLO_MAX_REPLICAS];
   int is_open[APOLLO_MAX_REPLICAS], given[APOLLO_MAX_REPLICAS];
-  uint32_t behind[APOLLO_MAX_REPLICAS]; /* how many rounds a deaf card was behind when it came back, a lost one when it began again, */
+  uint32_t behind[APOLLO_MAX_REPLICAS]; /* how many rounds a card that was away was behind when it came back or began again, */
   int late[APOLLO_MAX_REPLICAS];        /* and whether the term was over then */
   uint32_t start[APOLLO_MAX_REPLICAS];  /* the tick at which a card is opened */
   fault faults[APOLLO_MAX_REPLICAS];
   cable in[APOLLO_MAX_REPLICAS];
   uint32_t *acts[APOLLO_MAX_REPLICAS], acted[APOLLO_MAX_REPLICAS]; /* the rounds whose entries a card acted on */
-  uint32_t alarms[ALARM_KINDS], lies;                        /* lies: packets made up, changed or withheld */
-  uint32_t missed;                                           /* turns that a card left empty though an entry waited */
+  uint32_t alarms[ALARM_KINDS], lies;                              /* lies: packets made up, changed or withheld */
+  uint32_t missed;                                                 /* turns that a card left empty though an entry waited */
 } cabinet;
 
 static _Noreturn void stop(const char *why) {
@@ -71,13 +73,15 @@ static uint32_t chance(uint32_t below) {
   return (cabinet.seed >> 8) % below;
 }
 
-static int is_cut(int i) { return cabinet.faults[i] == DEAF || cabinet.faults[i] == MUTE; }
+static int is_cut(int i) { return cabinet.faults[i] == DEAF || cabinet.faults[i] == MUTE || cabinet.faults[i] == CUT; }
 static int is_cut_now(int i, fault how) {
-  return cabinet.faults[i] == how && cabinet.now >= CUT_FROM && cabinet.now < CUT_FROM + CUT_FOR;
+  uint32_t from = CUT_FROM + (cabinet.faults[i] == CUT && how == DEAF ? DEAF_LATER : 0);
+  return (cabinet.faults[i] == how || cabinet.faults[i] == CUT) && cabinet.now >= from && cabinet.now < CUT_FROM + CUT_FOR;
 }
+static int was_away(int i) { return cabinet.faults[i] == DEAF || cabinet.faults[i] == CUT || cabinet.faults[i] == LOST; }
 static int lies(int i) { return cabinet.faults[i] >= TWO; }
 static int follows(int i) { return cabinet.faults[i] == LOST && cabinet.now >= CUT_FROM; }
-/* Deaf, mute and lost cards do, though they are counted among the f that fail: they catch up. */
+/* Deaf, mute, cut and lost cards do, though they are counted among the f that fail: they catch up. */
 static int catches_up(int i) { return cabinet.faults[i] == NONE || cabinet.faults[i] == LOST || is_cut(i); }
 /* One with another rotation keeps all rules but that one, and neither hears the others nor is heard. All these lists must agree. */
 static int keeps_rules(int i) { return catches_up(i) || cabinet.faults[i] == APART; }
@@ -137,26 +141,31 @@ static void put(cable *to, const packet *p) {
   if (to->count == to->room) {
     to->room = to->room ? 2 * to->room : 64;
     to->list = realloc(to->list, to->room * sizeof *to->list);
-    if (!to->list) stop("no memory");
   }
-  message *m = &to->list[to->count++];
-  m->p = *p;
-  m->due = cabinet.now + 1 + chance(cabinet.delay);
+  message m = {.p = malloc(packet_size(p)), .due = cabinet.now + 1 + chance(cabinet.delay)};
+  if (!to->list || !m.p) stop("no memory");
+  memcpy(m.p, p, packet_size(p));
+  to->list[to->count++] = m;
 }
 
 static int twist(int from, int to, packet *p);
+static int is_question(const packet *p) { return p->kind == PACKET_STATUS || p->kind == PACKET_FETCH; }
 
 /* One packet in `loss` is lost, one in `loss` comes twice, and all come late by a random time. */
 static void carry(int from, int to, const packet *p) {
-  if (is_cut_now(from, MUTE) || cabinet.faults[to] == DEAD || (follows(from) && p->kind != PACKET_STATUS)) return;
+  if (is_cut_now(from, MUTE) || cabinet.faults[to] == DEAD || (follows(from) && !is_question(p))) return;
   if (cabinet.loss && chance(cabinet.loss) == 0) return;
   put(&cabinet.in[to], p);
   if (cabinet.loss && chance(cabinet.loss) == 0) put(&cabinet.in[to], p);
 }
 
+static void send_twisted(int from, int to, packet p) {
+  if (twist(from, to, &p)) carry(from, to, &p);
+}
+
 void host_send(int from, int to, const packet *p) {
-  packet sent = *p;
-  if (!lies(from) || twist(from, to, &sent)) carry(from, to, &sent);
+  if (lies(from)) send_twisted(from, to, *p);
+  else carry(from, to, p);
 }
 
 /* All that has come is heard before the tick. */
@@ -169,7 +178,8 @@ static void deliver(int to) {
       continue;
     }
     in->list[i] = in->list[--in->count]; /* packets overtake each other here */
-    if (cabinet.is_open[to] && !is_cut_now(to, DEAF)) card_hear(&cabinet.cards[to], &m.p);
+    if (cabinet.is_open[to] && !is_cut_now(to, DEAF)) card_hear(&cabinet.cards[to], m.p);
+    free(m.p);
   }
 }
 
@@ -196,20 +206,66 @@ static void put32(uint8_t *p, uint32_t v) {
   for (int k = 0; k < 4; k++) p[k] = (uint8_t)(v >> (24 - 8 * k));
 }
 
-/* Changes a block's entry, and makes its check and the liar's signature again. */
+/* Makes a block's check and the liar's signature again, whoever's block it is. */
+static void seal(int liar, signed_block *b) {
+  apollo_digest(b->frame, 480, b->frame + 480);
+  host_sign(&cabinet.cards[liar].setup, b->frame, b->signature);
+}
+
 static void make_twin(int liar, signed_block *b) {
   static const char other[] = "a twin";
   memset(b->frame + 44, 0, APOLLO_ENTRY);
   memcpy(b->frame + 44, other, sizeof other - 1);
   b->frame[2] = 0;
   b->frame[3] = sizeof other - 1;
-  apollo_digest(b->frame, 480, b->frame + 480);
-  host_sign(&cabinet.cards[liar].setup, b->frame, b->signature);
+  seal(liar, b);
+}
+
+/* Another entry in the first block, and the others made its children again, whoever's they are; and as if the chain ended there. */
+static void forge_chain(int liar, card_tray *t) {
+  if (t->count == cabinet.tray) t->count--;
+  make_twin(liar, &t->blocks[0]);
+  for (uint32_t k = 1; k < t->count; k++) {
+    memcpy(t->blocks[k].frame + 12, t->blocks[k - 1].frame + 480, APOLLO_DIGEST);
+    seal(liar, &t->blocks[k]);
+  }
+}
+
+/* In place of the chain one of the liar's own blocks alone: nothing is wrong with them, but the rounds between were not passed over. */
+static void make_own_chain(int liar, card_tray *t) {
+  uint32_t count = 0;
+  for (uint32_t round = get32(t->blocks[0].frame + 4); round <= cabinet.rounds && count < cabinet.tray; round++) {
+    signed_block *b = &t->blocks[count];
+    if (leader_of(round) != liar) continue;
+    if (count > 0) memcpy(b->frame, b[-1].frame, APOLLO_FRAME);
+    if (count > 0) memcpy(b->frame + 12, b[-1].frame + 480, APOLLO_DIGEST);
+    b->frame[1] = (uint8_t)liar;
+    put32(b->frame + 4, round);
+    put32(b->frame + 8, t->height + ++count);
+    make_twin(liar, b);
+  }
+  t->count = count;
+}
+
+/* What a liar answers a card that comes back, to each in one way all along, with the next seed in another. 0: nothing. */
+static int twist_tray(int liar, int to, card_tray *t) {
+  uint32_t way = (cabinet.first_seed + (uint32_t)((cabinet.n + liar - to) % cabinet.n)) % 7;
+  if (t->count == 0) return 1;
+  signed_block *one = &t->blocks[chance(t->count)];
+  cabinet.lies++;
+  if (way == 1) t->count = (uint32_t)(one - t->blocks); /* as if the chain ended there */
+  if (way == 2) forge_chain(liar, t);
+  if (way == 3) make_own_chain(liar, t);
+  if (way == 4) one->frame[chance(APOLLO_FRAME)] ^= 1;
+  if (way == 5) one->signature[0] ^= 1;
+  if (way == 6) make_twin(liar, one);
+  return way > 0;
 }
 
 /* The liar's own blocks: one for the odd cards and another for the even ones, or hidden from all but one card. 0: not sent. */
 static int twist(int from, int to, packet *p) {
   fault kind = cabinet.faults[from];
+  if (p->kind == PACKET_TRAY) return twist_tray(from, to, &p->tray);
   if (p->kind != PACKET_BLOCK || p->block.frame[1] != from) return 1;
   uint32_t round = get32(p->block.frame + 4);
   if (kind == ALL) kind = round / (uint32_t)cabinet.n % 2 ? TWO : HIDE;
@@ -258,13 +314,19 @@ static void junk_block(int from, signed_block *b) {
 
 static void send_junk(int from, int to) {
   packet p;
-  for (size_t k = 0; k < sizeof p; k++) ((uint8_t *)&p)[k] = (uint8_t)chance(256);
-  p.kind = (uint8_t)chance(5);
+  memset(&p, 0, sizeof p);
+  for (size_t k = 0; k < sizeof p.block; k++) ((uint8_t *)&p.block)[k] = (uint8_t)chance(256);
+  p.kind = (uint8_t)chance(PACKET_KINDS + 1);
   p.from = (uint8_t)from;
   if (p.kind == PACKET_BLOCK && chance(4)) junk_block(from, &p.block);
   if (p.kind == PACKET_BLAMES) p.blames.round = cabinet.cards[from].record.round.value; /* in others' names */
   if (p.kind == PACKET_STATUS && chance(2)) p.status = (card_status){.round = 1};       /* asks for all, always */
-  host_send(from, to, &p);
+  if (p.kind == PACKET_FETCH && chance(2)) p.fetch = (card_fetch){.height = 0};         /* the same */
+  if (p.kind == PACKET_TRAY && chance(4)) {                                             /* as if it had been asked */
+    p.tray.height = cabinet.cards[to].record.committed_height.value;
+    p.tray.count = chance(TRAY);
+  }
+  carry(from, to, &p);
   cabinet.lies++;
 }
 
@@ -299,9 +361,10 @@ static void lie(int from) {
 
 /* f cards in a row fail, so that their rounds follow each other. */
 static void choose_faults(void) {
-  static const fault mixed[] = {DEAD, DEAF, ALL, MUTE, LOST, TWO, HIDE};
+  static const fault several[][APOLLO_MAX_F] = {{DEAD, DEAF, ALL, MUTE, LOST, TWO, HIDE}, {CUT, ALL, LOST, JUNK, DEAF, TWO, LOST}};
   uint32_t first = 1 + chance((uint32_t)cabinet.n);
-  for (int k = 0; k < cabinet.f; k++) cabinet.faults[leader_of(first + (uint32_t)k)] = cabinet.kind == MIXED ? mixed[k] : cabinet.kind;
+  for (int k = 0; k < cabinet.f; k++)
+    cabinet.faults[leader_of(first + (uint32_t)k)] = cabinet.kind < MIXED ? cabinet.kind : several[cabinet.kind - MIXED][k];
 }
 
 static size_t entry_text(int i, int k, char text[TEXT]) {
@@ -316,7 +379,8 @@ static void open_card(int i) {
                       .timeout = cabinet.timeout,
                       .retry = RETRY,
                       .idle = IDLE,
-                      .grace = GRACE};
+                      .grace = GRACE,
+                      .tray = cabinet.tray};
   for (int k = 0; k < cabinet.n; k++) setup.rotation[k] = cabinet.rotation[cabinet.faults[i] == APART ? cabinet.n - 1 - k : k];
   if (!card_open(&cabinet.cards[i], setup)) stop("a card cannot be opened");
   cabinet.is_open[i] = 1;
@@ -349,7 +413,7 @@ static void turn(int i) {
   if (cabinet.faults[i] == DEAD) return;
   if (cabinet.now == cabinet.start[i]) open_card(i);
   if (cabinet.faults[i] == LOST && cabinet.now == CUT_FROM) lose_state(i);
-  if (cabinet.faults[i] == DEAF && cabinet.now == CUT_FROM + CUT_FOR) note_lag(i);
+  if (is_cut(i) && cabinet.now == CUT_FROM + CUT_FOR) note_lag(i);
   deliver(i);
   if (!cabinet.is_open[i]) return;
   if (cabinet.now % EVERY == cabinet.start[i] % EVERY && cabinet.given[i] < ENTRIES && !follows(i)) give_entry(i);
@@ -402,6 +466,16 @@ static int acted_on_list(int i) {
   return count == cabinet.acted[i];
 }
 
+/* How a card that was away came back. */
+static void report_way_back(int i) {
+  const card *c = &cabinet.cards[i];
+  if (cabinet.faults[i] == LOST) printf("; was %u rounds behind when it began again, to follow", cabinet.behind[i]);
+  else printf("; was %u rounds behind when it came back%s", cabinet.behind[i], cabinet.late[i] ? ", the term being over" : "");
+  if (c->runs > 0)
+    printf("; %u exchanges in %u run%s: %u of frames, %u of blames, %u asked again", c->frames_got + c->blames_got, c->runs,
+           c->runs == 1 ? "" : "s", c->frames_got, c->blames_got, c->asked_again);
+}
+
 static int report_lists(int best) {
   int good = 1;
   for (int i = 0; i < cabinet.n; i++) {
@@ -413,9 +487,7 @@ static int report_lists(int best) {
     }
     printf("waits for round %u of %u, has committed %u blocks up to round %u, holds %u more", r->round.value, cabinet.rounds,
            r->committed_height.value, r->committed_round.value, r->tip_height.value - r->committed_height.value);
-    if (cabinet.faults[i] == DEAF)
-      printf("; was %u rounds behind when it came back%s", cabinet.behind[i], cabinet.late[i] ? ", the term being over" : "");
-    if (cabinet.faults[i] == LOST) printf("; was %u rounds behind when it began again, to follow", cabinet.behind[i]);
+    if (was_away(i)) report_way_back(i);
     putchar('\n');
     for (int j = 0; j < i; j++)
       if (keeps_rules(i) && keeps_rules(j) && parting(i, j)) {
@@ -474,7 +546,7 @@ static int report_entries(int best) {
   return listed > 0 && lost == 0 && twice == 0 && cabinet.missed == 0;
 }
 
-/* Premise: no correct card blamed a correct one's round. Deaf and mute cards are counted among the f. */
+/* Premise: no correct card blamed a correct one's round. Deaf, mute and cut cards are counted among the f. */
 static int report_blames(void) {
   int count = 0, by = 0;
   uint32_t first = 0;
@@ -535,10 +607,11 @@ static const char usage[] =
     "  --seed S       of the random numbers (1)\n"
     "  --rounds T     of the term, 30 to 4096 (120)\n"
     "  --rotation R   who leads: the number of every card, in turn, as in 2,0,1; or shuffled, by the seed (0,1,2 and so on)\n"
-    "  --fault KIND   how f = (N - 1) / 2 cards fail (dead): none, dead, deaf or mute (for 900 ticks, then back), lost (the state:\n"
-    "                 they follow), apart (set up with another rotation: they stand still), two (blocks for one round), blames (of\n"
-    "                 everybody), junk, hide (a block shown to one card only), all (these four lies), mask (blocks with another's\n"
-    "                 check), mixed (one of each, without apart and mask)\n"
+    "  --fault KIND   how f = (N - 1) / 2 cards fail (dead): none, dead, deaf or mute (for 900 ticks, then back), cut (mute, later\n"
+    "                 deaf too), lost (the state: they follow), apart (set up with another rotation: they stand still), two (blocks\n"
+    "                 for one round), blames (of everybody), junk, hide (a block shown to one card only), all (these four lies), mask\n"
+    "                 (blocks with another's check), mixed (several of these), misled (cut, deaf and lost cards among liars)\n"
+    "  --tray N       frames of an answer to a card that comes back, 2 to 16 (16)\n"
     "  --delay D      packets come after 1 to D ticks (6)\n"
     "  --loss K       one packet in K is lost, 0 for none (8)\n"
     "  --timeout W    ticks until a leader is blamed (by the rule of docs/HOSTS.md)\n"
@@ -637,6 +710,7 @@ static int option(const char *word, const char *value) {
   else if (strcmp(word, "--rounds") == 0) cabinet.rounds = number(value, LEAST_ROUNDS, APOLLO_MAX_ROUNDS);
   else if (strcmp(word, "--delay") == 0) cabinet.delay = number(value, 1, 1000);
   else if (strcmp(word, "--loss") == 0) cabinet.loss = number(value, 0, 1000);
+  else if (strcmp(word, "--tray") == 0) cabinet.tray = number(value, 2, TRAY);
   else if (strcmp(word, "--timeout") == 0) cabinet.timeout = number(value, 1, APOLLO_MAX_TIMEOUT);
   else if (strcmp(word, "--rotation") == 0 && value) cabinet.asked = value;
   else wrong_usage();
@@ -654,12 +728,14 @@ static void read_options(int argc, char **argv) {
   cabinet.kind = DEAD;
   cabinet.delay = 6;
   cabinet.loss = 8;
+  cabinet.tray = TRAY;
   for (int i = 1; i < argc;) {
     static const char *const names[] = {"--cards", "--seed", "--rounds"};
     if (argv[i][0] == '-' || plain == 3) i += option(argv[i], i + 1 < argc ? argv[i + 1] : NULL);
     else option(names[plain++], argv[i++]);
   }
   if (cabinet.n % 2 == 0) wrong_usage();
+  cabinet.first_seed = cabinet.seed;
   cabinet.f = (cabinet.n - 1) / 2;
   choose_rotation();
   if (!cabinet.rounds) cabinet.rounds = 120;
@@ -675,6 +751,7 @@ int main(int argc, char **argv) {
   int good = report();
   for (int i = 0; i < cabinet.n; i++) {
     card_close(&cabinet.cards[i]);
+    while (cabinet.in[i].count > 0) free(cabinet.in[i].list[--cabinet.in[i].count].p);
     free(cabinet.in[i].list);
     free(cabinet.acts[i]);
   }

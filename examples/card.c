@@ -4,10 +4,15 @@
 #include <stdlib.h>
 #include <string.h>
 
+/* A card that comes back sends a question again after PAUSE * retry ticks, since the answers are long, and TRIES times in all. */
+enum { TRIES = 3, PAUSE = 3 };
+_Static_assert(TRAY <= WINDOW, "card.frames takes a tray too");
+
 /* ---- frames, slots, rounds */
 
 static uint32_t get32(const uint8_t *p) { return (uint32_t)p[0] << 24 | (uint32_t)p[1] << 16 | (uint32_t)p[2] << 8 | p[3]; }
 static uint32_t round_of(const uint8_t *frame) { return get32(frame + 4); }
+static uint32_t height_of(const uint8_t *frame) { return get32(frame + 8); }
 static const uint8_t *parent_of(const uint8_t *frame) { return frame + 12; }
 static const uint8_t *digest_of(const uint8_t *frame) { return frame + 480; }
 static int same(const uint8_t *a, const uint8_t *b) { return memcmp(a, b, APOLLO_DIGEST) == 0; }
@@ -16,6 +21,7 @@ static int cards(const card *c) { return 2 * c->setup.f + 1; }
 static int leader_of(const card *c, uint32_t round) { return c->setup.rotation[(round - 1) % (uint32_t)cards(c)]; }
 static uint32_t waited(const card *c) { return c->record.round.value; }
 static uint32_t committed(const card *c) { return c->record.committed_round.value; }
+static uint32_t committed_height(const card *c) { return c->record.committed_height.value; }
 static size_t log_len(const card *c) { return (size_t)c->setup.rounds * APOLLO_FRAME; }
 static const uint8_t *slot(const card *c, uint32_t round) { return c->log + (size_t)(round - 1) * APOLLO_FRAME; }
 static int filled(const card *c, uint32_t round) { return slot(c, round)[0] == APOLLO_BLOCK; }
@@ -40,6 +46,17 @@ static void make_blame(uint32_t round, int signer, uint8_t frame[APOLLO_FRAME]) 
 
 /* ---- sending */
 
+size_t packet_size(const packet *p) {
+  size_t size = offsetof(packet, block);
+  if (p->kind == PACKET_BLOCK) size += sizeof p->block;
+  if (p->kind == PACKET_BLAMES) size += sizeof p->blames;
+  if (p->kind == PACKET_STATUS) size += sizeof p->status;
+  if (p->kind == PACKET_FETCH) size += sizeof p->fetch;
+  if (p->kind == PACKET_TRAY) size += offsetof(card_tray, blocks);
+  if (p->kind == PACKET_TRAY) size += sizeof *p->tray.blocks * (p->tray.count < TRAY ? p->tray.count : TRAY);
+  return size;
+}
+
 static void send_block(const card *c, int to, uint32_t round) {
   packet p = {.kind = PACKET_BLOCK, .from = c->setup.id};
   memcpy(p.block.frame, slot(c, round), APOLLO_FRAME);
@@ -59,11 +76,15 @@ static void send_own_blame(const card *c, uint32_t round) {
     if (to != c->setup.id) send_blames(c, to, round, bit(c->setup.id));
 }
 
-/* What leads from a round on up to R, lowest first: every round below R has its block, or else the blames that passed it over. */
-static void send_rounds(const card *c, int to, uint32_t first) {
-  for (uint32_t r = first; r < waited(c) && r < first + WINDOW; r++)
+/* What leads from a round on up to R, lowest first, or the blames of it alone: every round below R has its block, or else the blames
+ * that passed it over. */
+static void send_rounds(const card *c, int to, uint32_t first, int with_blocks) {
+  for (uint32_t r = first, left = WINDOW; r < waited(c) && left > 0; r++) {
+    if (filled(c, r) && !with_blocks) continue;
     if (filled(c, r)) send_block(c, to, r);
     else send_blames(c, to, r, UINT16_MAX);
+    left--;
+  }
 }
 
 /* The newest block with its parent, and the blames of the rounds that were passed over on the way to it and since: to one card or,
@@ -73,7 +94,7 @@ static void send_tip(const card *c, int leader) {
   int own = tip > 0 && slot(c, tip)[1] == c->setup.id;
   while (first > 1 && !filled(c, first)) first--;
   for (int to = 0; to < cards(c); to++)
-    if (to != c->setup.id && (own || to == leader)) send_rounds(c, to, first);
+    if (to != c->setup.id && (own || to == leader)) send_rounds(c, to, first, 1);
 }
 
 static void send_status(const card *c, int to) {
@@ -85,19 +106,27 @@ static void send_status(const card *c, int to) {
   host_send(c->setup.id, to, &p);
 }
 
-/* ---- entries */
-
-/* Is the card behind? f + 1 cards signed frames of later rounds, so a correct one is there. Then the card needs frames, not time. */
-static int is_behind(const card *c) {
-  int later = 0;
-  for (int i = 0; i < cards(c); i++) later += c->seen[i] > waited(c) + 1;
-  return later > c->setup.f;
+/* As many of the own chain's frames above a height as a tray takes, lowest first; none where there are none (15). */
+static void send_tray(card *c, int to, uint32_t height) {
+  packet p = {.kind = PACKET_TRAY, .from = c->setup.id};
+  size_t room = (size_t)c->setup.tray * APOLLO_FRAME;
+  p.tray.height = height;
+  p.tray.count = (uint32_t)apollo_fetch(c->record, c->log, log_len(c), (apollo_height){height}, c->frames, room).count;
+  for (uint32_t k = 0; k < p.tray.count; k++) {
+    const uint8_t *frame = c->frames + k * APOLLO_FRAME;
+    memcpy(p.tray.blocks[k].frame, frame, APOLLO_FRAME);
+    memcpy(p.tray.blocks[k].signature, c->signature[round_of(frame) - 1], SIGNATURE);
+  }
+  host_send(c->setup.id, to, &p);
 }
 
-static proposal *next_proposal(card *c) {
-  for (size_t i = 0; i < c->lined; i++)
-    if (c->line[i].round == 0) return &c->line[i];
-  return NULL;
+/* ---- how far the others are */
+
+/* Are f + 1 cards past a round? They signed frames of later ones or say so, and one of them is correct. */
+static int is_passed(const card *c, uint32_t round) {
+  int past = 0;
+  for (int i = 0; i < cards(c); i++) past += c->seen[i] > round;
+  return past > c->setup.f;
 }
 
 /* The next round that the card leads: the rotation has its number once. */
@@ -105,6 +134,20 @@ static uint32_t next_led(const card *c) {
   uint32_t r = waited(c);
   while (leader_of(c, r) != c->setup.id) r++;
   return r;
+}
+
+/* A card that is behind needs frames, not time. */
+static int is_behind(const card *c) { return is_passed(c, waited(c) + 1); }
+
+/* Was the card's own turn passed over? Then it counts among the f, nobody waits for it, and it may lack much: it fetches. */
+static int was_away(const card *c) { return is_passed(c, next_led(c)); }
+
+/* ---- entries */
+
+static proposal *next_proposal(card *c) {
+  for (size_t i = 0; i < c->lined; i++)
+    if (c->line[i].round == 0) return &c->line[i];
+  return NULL;
 }
 
 /* What the next call may propose. Nothing while the card is behind: it may then come to lead a round that the others passed over long
@@ -182,7 +225,7 @@ static void take(card *c, apollo_answer a, const uint8_t *out, proposal *lent) {
 /* ---- handing in */
 
 /* Hands in, as one set, the blames of a round that the library does not have yet. */
-static void hand_in_blames(card *c, uint32_t round) {
+static void hand_in_set(card *c, uint32_t round) {
   int fresh = c->blames[round - 1].signers & ~c->masks[round - 1], count = 0;
   uint8_t out[APOLLO_OUT];
   if (!fresh) return;
@@ -192,6 +235,23 @@ static void hand_in_blames(card *c, uint32_t round) {
   apollo_answer a = apollo_blames(c->record, c->log, log_len(c), c->masks, c->setup.rounds, c->frames, (size_t)count * APOLLO_FRAME,
                                   p ? p->entry : NULL, p ? p->len : 0, out, sizeof out);
   take(c, a, out, p);
+}
+
+/* Those of passed rounds too: a block that skips these rounds needs them. */
+static void hand_in_blames(card *c) {
+  for (uint32_t r = committed(c) + 1; r <= waited(c) && !card_is_over(c); r++) hand_in_set(c, r);
+}
+
+/* Hands in a branch. If it is taken, the signatures of its frames go with them into the log. */
+static apollo_answer hand_in_branch(card *c, const uint8_t *frames, uint8_t (*signature)[SIGNATURE], size_t count) {
+  uint8_t out[APOLLO_OUT];
+  proposal *p = lend(c);
+  apollo_answer a = apollo_branch(c->record, c->log, log_len(c), c->masks, c->setup.rounds, frames, count * APOLLO_FRAME,
+                                  p ? p->entry : NULL, p ? p->len : 0, out, sizeof out);
+  for (size_t k = 0; k < count && a.number == APOLLO_TAKEN; k++)
+    memcpy(c->signature[round_of(frames + k * APOLLO_FRAME) - 1], signature[k], SIGNATURE);
+  take(c, a, out, p);
+  return a;
 }
 
 static kept_block *find_kept(card *c, const uint8_t *digest) {
@@ -241,16 +301,14 @@ static void learn(card *c, int sender, kept_block *chain[WINDOW], int count, apo
 
 static void hand_in_block(card *c, int sender, kept_block *top) {
   kept_block *chain[WINDOW];
-  uint8_t out[APOLLO_OUT];
+  uint8_t signature[WINDOW][SIGNATURE];
   int count = trace_branch(c, top, chain);
-  proposal *p = lend(c);
-  for (int k = 0; k < count; k++) memcpy(c->frames + k * APOLLO_FRAME, chain[count - 1 - k]->block.frame, APOLLO_FRAME);
-  apollo_answer a = apollo_branch(c->record, c->log, log_len(c), c->masks, c->setup.rounds, c->frames, (size_t)count * APOLLO_FRAME,
-                                  p ? p->entry : NULL, p ? p->len : 0, out, sizeof out);
-  if (a.number == APOLLO_TAKEN)
-    for (int k = 0; k < count; k++) memcpy(c->signature[round_of(chain[k]->block.frame) - 1], chain[k]->block.signature, SIGNATURE);
-  learn(c, sender, chain, count, a);
-  take(c, a, out, p);
+  for (int k = 0; k < count; k++) {
+    const signed_block *b = &chain[count - 1 - k]->block;
+    memcpy(c->frames + k * APOLLO_FRAME, b->frame, APOLLO_FRAME);
+    memcpy(signature[k], b->signature, SIGNATURE);
+  }
+  learn(c, sender, chain, count, hand_in_branch(c, c->frames, signature, (size_t)count));
 }
 
 /* Is a kept block better not handed in now? It was, since the last progress; its parent goes first; what it was refused for is still
@@ -285,10 +343,131 @@ static void settle(card *c) {
   int sender = 0;
   kept_block *b;
   do {
-    for (uint32_t r = committed(c) + 1; r <= waited(c) && !card_is_over(c); r++) hand_in_blames(c, r);
+    hand_in_blames(c);
     b = card_is_over(c) ? NULL : lowest(c, &sender);
     if (b) hand_in_block(c, sender, b);
   } while (b);
+}
+
+/* ---- what a block must be: the cheap checks, and those that one that is known does not need */
+
+static int is_block(const card *c, const uint8_t *frame) {
+  uint32_t r = round_of(frame);
+  return frame[0] == APOLLO_BLOCK && r >= 1 && r <= c->setup.rounds && frame[1] == leader_of(c, r);
+}
+
+static int is_genuine(const card *c, const signed_block *b) {
+  uint8_t digest[APOLLO_DIGEST];
+  apollo_digest(b->frame, 480, digest);
+  return same(digest, digest_of(b->frame)) && host_verify(&c->setup, b->frame, b->signature);
+}
+
+/* ---- coming back by the recipe of docs/HOSTS.md: the chain of one card above the own committed height is fetched and handed in */
+
+static const uint8_t *collected(const card *c, uint32_t k) { return c->run.frames + (size_t)k * APOLLO_FRAME; }
+
+/* The height of the last frame that has come: the next question goes on from there. */
+static uint32_t reached(const card *c) { return c->run.base + c->run.count; }
+
+static void send_fetch(card *c) {
+  card_run *run = &c->run;
+  packet p = {.kind = PACKET_FETCH, .from = c->setup.id, .fetch = {.height = reached(c), .round = run->lacks}};
+  run->asked = c->now;
+  run->tries++;
+  host_send(c->setup.id, run->from, &p);
+}
+
+/* Asks for the blames of a round or, with 0, for frames. */
+static void ask_for(card *c, uint32_t lacks) {
+  c->run.lacks = lacks;
+  c->run.tries = 0;
+  send_fetch(c);
+}
+
+/* Begins with the next card that is past the own turn: of f + 1 such cards one is correct. From the committed height, not the tip's:
+ * the own tip may be on another branch. */
+static void begin_run(card *c) {
+  card_run *run = &c->run;
+  do run->from = (run->from + 1) % cards(c);
+  while (run->from == c->setup.id || c->seen[run->from] <= next_led(c));
+  run->active = 1;
+  run->base = committed_height(c);
+  run->count = 0;
+  c->runs++;
+  ask_for(c, 0);
+}
+
+/* Hands in what has come above the height that is committed by now and below a round, WINDOW frames at most: so many reach R, and to be
+ * refused costs as much as to be taken. */
+static apollo_answer hand_in_below(card *c, uint32_t round) {
+  uint32_t first = 0, count = 0;
+  while (first < c->run.count && height_of(collected(c, first)) <= committed_height(c)) first++;
+  while (count < WINDOW && first + count < c->run.count && round_of(collected(c, first + count)) < round) count++;
+  return hand_in_branch(c, collected(c, first), c->run.signature + first, count);
+}
+
+/* Hands in all that has come. After 13 first the blames of round `place`, which the card that is asked has; and where that round is
+ * above R, so that they are early, the frames below it before them. With any other refusal the run is over: that chain has no more
+ * (10), or it is a liar's, or has changed meanwhile. */
+static void hand_in_run(card *c) {
+  while (!card_is_over(c) && committed_height(c) < reached(c)) {
+    apollo_answer a = hand_in_below(c, c->setup.rounds + 1);
+    if (a.number == APOLLO_TAKEN) continue;
+    if (a.number != APOLLO_NOT_CERTIFIED) break;
+    if (a.place > waited(c) && hand_in_below(c, a.place).number != APOLLO_TAKEN) break;
+    hand_in_blames(c);
+    if (certified(c, a.place) || card_is_over(c)) continue;
+    ask_for(c, a.place);
+    return;
+  }
+  c->run.active = 0;
+}
+
+/* The next frame of the run, checked as every block that is heard. Heights go up by one and rounds rise: there are T at most. */
+static int collect(card *c, const signed_block *b) {
+  card_run *run = &c->run;
+  uint32_t last = run->count > 0 ? round_of(collected(c, run->count - 1)) : 0;
+  if (!is_block(c, b->frame) || round_of(b->frame) <= last || height_of(b->frame) != reached(c) + 1) return 0;
+  if (!is_genuine(c, b)) return 0;
+  memcpy(run->frames + (size_t)run->count * APOLLO_FRAME, b->frame, APOLLO_FRAME);
+  memcpy(run->signature[run->count++], b->signature, SIGNATURE);
+  return 1;
+}
+
+/* After a full tray there may be more; any other ends the chain of the card that is asked. What does not answer the open question is
+ * dropped; with a frame that is not as it must be, the run is. */
+static void hear_tray(card *c, int from, const card_tray *t) {
+  card_run *run = &c->run;
+  if (!run->active || from != run->from || run->lacks || t->height != reached(c) || t->count > c->setup.tray) return;
+  c->frames_got++;
+  for (uint32_t k = 0; k < t->count && run->active; k++) run->active = collect(c, &t->blocks[k]);
+  if (!run->active) return;
+  if (t->count == c->setup.tray) ask_for(c, 0);
+  else hand_in_run(c);
+}
+
+/* Begins if the card was away, goes on when the blames that were asked for are there, whoever sent them, and asks again what was not
+ * answered; a card that does not answer is left after some tries. */
+static void come_back(card *c) {
+  card_run *run = &c->run;
+  if (run->active && run->lacks && certified(c, run->lacks)) {
+    c->blames_got++;
+    hand_in_run(c);
+  }
+  if (run->active && c->now >= run->asked + PAUSE * c->setup.retry) {
+    run->active = run->tries < TRIES;
+    c->asked_again += (uint32_t)run->active;
+    if (run->active) send_fetch(c);
+  }
+  if (!run->active && was_away(c)) begin_run(c);
+}
+
+/* Answers a card that comes back, each once in a tick, so that nobody can make the card send without end. */
+static void hear_fetch(card *c, int from, const card_fetch *q) {
+  if (q->round > c->setup.rounds || c->now < c->served[from]) return;
+  c->served[from] = c->now + 1;
+  if (q->round == 0) send_tray(c, from, q->height);
+  else send_rounds(c, from, q->round, 0);
 }
 
 /* ---- hearing */
@@ -302,12 +481,10 @@ static void see(card *c, int signer, uint32_t round) {
  * their checks, so the check is looked at here already. */
 static void hear_block(card *c, int from, const signed_block *b) {
   uint32_t r = round_of(b->frame);
-  uint8_t digest[APOLLO_DIGEST];
-  if (b->frame[0] != APOLLO_BLOCK || r <= committed(c) || r > c->setup.rounds || b->frame[1] != leader_of(c, r)) return;
+  if (!is_block(c, b->frame) || r <= committed(c)) return;
   kept_block *k = &c->kept[from][r % WINDOW];
   if (memcmp(slot(c, r), b->frame, APOLLO_FRAME) == 0 || (k->used && memcmp(k->block.frame, b->frame, APOLLO_FRAME) == 0)) return;
-  apollo_digest(b->frame, 480, digest);
-  if (!same(digest, digest_of(b->frame)) || !host_verify(&c->setup, b->frame, b->signature)) return;
+  if (!is_genuine(c, b)) return;
   see(c, b->frame[1], r);
   if (r > committed(c) + WINDOW) c->ask |= bit(from); /* too far ahead: what comes before it is needed first */
   else *k = (kept_block){.block = *b, .used = 1};
@@ -328,17 +505,19 @@ static void hear_blames(card *c, const signed_blames *b) {
 }
 
 /* Asks a card that is ahead. Answers one that is behind with all above its committed round, and one in the same round with the blames
- * that it lacks; not more often than a card asks by itself, so that nobody can make it send without end. What no card's record can say
- * is dropped. */
+ * that it lacks; one that is more than a turn behind was away, and is told how far the own card is, for it to fetch. Not more often
+ * than a card asks by itself, so that nobody can make it send without end. What no card's record can say is dropped. */
 static void hear_status(card *c, int from, const card_status *s) {
   if (s->round < 1 || s->round > c->setup.rounds + 1 || s->committed >= s->round) return;
   if (s->committed > 0 && s->committed <= committed(c) &&
       !(filled(c, s->committed) && same(digest_of(slot(c, s->committed)), s->digest)))
     host_alarm(c->setup.id, ALARM_PARTED, from, s->committed);
+  if (c->seen[from] < s->round - 1) c->seen[from] = s->round - 1;
   if (s->round > waited(c)) c->ask |= bit(from);
   if (s->round > waited(c) || c->now < c->closed[from]) return;
   c->closed[from] = c->now + c->setup.retry;
-  if (s->round < waited(c)) send_rounds(c, from, s->committed + 1);
+  if (s->round + (uint32_t)cards(c) < waited(c)) send_status(c, from);
+  else if (s->round < waited(c)) send_rounds(c, from, s->committed + 1, 1);
   else if (!card_is_over(c)) send_blames(c, from, s->round, (uint16_t)~s->signers);
 }
 
@@ -349,6 +528,8 @@ void card_hear(card *c, const packet *p) {
   if (p->kind == PACKET_BLOCK) hear_block(c, p->from, &p->block);
   if (p->kind == PACKET_BLAMES) hear_blames(c, &p->blames);
   if (p->kind == PACKET_STATUS) hear_status(c, p->from, &p->status);
+  if (p->kind == PACKET_FETCH) hear_fetch(c, p->from, &p->fetch);
+  if (p->kind == PACKET_TRAY) hear_tray(c, p->from, &p->tray);
   if (c->progress != before) settle(c);
 }
 
@@ -388,6 +569,8 @@ void card_tick(card *c) {
   settle(c); /* what was put off */
   if (time_runs(c)) call_tick(c);
   settle(c);
+  come_back(c);
+  if (was_away(c)) c->ask = 0; /* it fetches, and asks by the clock alone */
   if ((c->now - c->moved) % c->setup.retry == 0) send_again(c);
   for (int to = 0; to < cards(c); to++)
     if (c->ask >> to & 1) send_status(c, to);
@@ -401,16 +584,21 @@ int card_open(card *c, card_setup setup) {
   uint8_t out[APOLLO_OUT];
   memset(c, 0, sizeof *c);
   c->setup = setup;
-  if (apollo_version() != APOLLO_VERSION || t < 1 || t > APOLLO_MAX_ROUNDS || setup.f > APOLLO_MAX_F || setup.retry < 1) return 0;
+  if (apollo_version() != APOLLO_VERSION || t < 1 || t > APOLLO_MAX_ROUNDS || setup.f > APOLLO_MAX_F || setup.retry < 1 ||
+      setup.tray < 2 || setup.tray > TRAY)
+    return 0;
   c->log = malloc(t * APOLLO_FRAME);
   c->masks = malloc(t * sizeof *c->masks);
   c->signature = calloc(t, sizeof *c->signature);
   c->blames = calloc(t, sizeof *c->blames);
-  if (!c->log || !c->masks || !c->signature || !c->blames) return 0;
+  c->run.frames = malloc(t * APOLLO_FRAME);
+  c->run.signature = calloc(t, sizeof *c->run.signature);
+  if (!c->log || !c->masks || !c->signature || !c->blames || !c->run.frames || !c->run.signature) return 0;
   for (uint32_t r = 1; r <= setup.rounds; r++) c->blames[r - 1].round = r;
   apollo_answer a = apollo_open(setup.id, setup.f, (apollo_ticks){setup.timeout}, (apollo_round){setup.rounds}, setup.rotation,
                                 (size_t)cards(c), c->log, log_len(c), c->masks, t, NULL, 0, out, sizeof out);
   take(c, a, out, NULL);
+  c->run.from = setup.id;
   return a.number == APOLLO_TAKEN;
 }
 
@@ -419,4 +607,6 @@ void card_close(card *c) {
   free(c->masks);
   free(c->signature);
   free(c->blames);
+  free(c->run.frames);
+  free(c->run.signature);
 }

@@ -10,12 +10,13 @@ enum {
   NUMBERS = APOLLO_BAD_ROTATION + 1, /* that the library answers: 0 and the refusals */
   SIGNATURE = 32,                    /* bytes of a signature: 64 for Ed25519 */
   WINDOW = 32, /* rounds above the committed one whose blocks are kept, and that an answer has: 2 f + 1 at least (docs/HOSTS.md) */
+  TRAY = 16,   /* most frames of an answer to a card that fetches, up to WINDOW */
   LINE = 64    /* entries that wait to be proposed */
 };
 
 /* ---- what travels between hosts */
 
-enum { PACKET_BLOCK = 1, PACKET_BLAMES, PACKET_STATUS };
+enum { PACKET_BLOCK = 1, PACKET_BLAMES, PACKET_STATUS, PACKET_FETCH, PACKET_TRAY, PACKET_KINDS };
 
 /* A block with its signer's signature (byte 1 of the frame says whose), whoever passes it on. */
 typedef struct {
@@ -38,6 +39,18 @@ typedef struct {
   uint8_t digest[APOLLO_DIGEST];
 } card_status;
 
+/* What a card that comes back asks one neighbour for: the frames above a height or, with a round, the blames of that round and of the
+ * rounds above it that the neighbour passed over. */
+typedef struct {
+  uint32_t height, round; /* round 0: frames */
+} card_fetch;
+
+/* The frames that apollo_fetch gave above that height, with their signatures: as many as a tray takes, or else all. */
+typedef struct {
+  uint32_t height, count;
+  signed_block blocks[TRAY];
+} card_tray;
+
 /* A packet of one term, from a card that is known to have sent it: real cables carry bytes, and size, term and the sender's own
  * signature are looked at before card_hear. Blocks are kept and questions answered by sender. */
 typedef struct {
@@ -46,8 +59,13 @@ typedef struct {
     signed_block block;
     signed_blames blames;
     card_status status;
+    card_fetch fetch;
+    card_tray tray;
   };
 } packet;
+
+/* How many bytes of a packet travel, by its kind: what comes with another size is dropped. */
+size_t packet_size(const packet *p);
 
 /* ---- one card */
 
@@ -55,13 +73,14 @@ typedef struct {
   /* What all cards of a term share, and every signature covers. */
   uint8_t f;
   uint8_t rotation[APOLLO_MAX_REPLICAS]; /* the numbers of all cards, 2 f + 1 of them, in the order in which they lead */
-  uint32_t rounds;                    /* T */
+  uint32_t rounds;                       /* T */
   /* The card's own. */
   uint8_t id;
   uint32_t timeout; /* ticks until a round's leader is blamed: the rule is in docs/HOSTS.md */
   uint32_t retry;   /* ticks without a new round until all is sent and asked for again */
   uint32_t idle;    /* ticks that the card puts its round off while no entry waits */
   uint32_t grace;   /* ticks after the opening in which no time runs for the card, unless it has heard all others before */
+  uint32_t tray;    /* frames of an answer to a card that fetches, 2 to TRAY: the same at all cards */
 } card_setup;
 
 typedef struct {
@@ -80,26 +99,40 @@ typedef struct {
   uint8_t digest[APOLLO_DIGEST];
 } proposal;
 
+/* What a card that comes back fetches from one neighbour: its chain above the own committed height, to be handed in as a branch. */
+typedef struct {
+  int from, active;                /* the card that is asked, and whether it is now */
+  uint32_t base, count;            /* the committed height when it began, and the frames that have come */
+  uint8_t *frames;                 /* end to end, T at most, */
+  uint8_t (*signature)[SIGNATURE]; /* and their signatures */
+  uint32_t lacks;                  /* the round whose blames are asked for, 0 while it is frames */
+  uint32_t asked, tries;           /* when and how often the question was sent */
+} card_run;
+
 typedef struct {
   card_setup setup;
   apollo_replica record; /* record, log and masks are the card's state: no one but the calls changes them */
   uint8_t *log;
   uint16_t *masks;
-  uint8_t (*signature)[SIGNATURE];           /* of the block in each slot */
-  signed_blames *blames;                     /* of each round; the masks say which of them the library has */
+  uint8_t (*signature)[SIGNATURE];              /* of the block in each slot */
+  signed_blames *blames;                        /* of each round; the masks say which of them the library has */
   kept_block kept[APOLLO_MAX_REPLICAS][WINDOW]; /* by sender and round: no sender pushes out what another sent */
-  uint8_t frames[WINDOW * APOLLO_FRAME];     /* of the call under way: a branch, or the blames of a round */
-  proposal line[LINE];                       /* entries until they are on the list, oldest first */
+  uint8_t frames[WINDOW * APOLLO_FRAME];        /* of the call under way: a branch, the blames of a round, or a tray */
+  proposal line[LINE];                          /* entries until they are on the list, oldest first */
   size_t lined;
-  uint32_t now, moved;               /* ticks since the opening, and at the last new round */
+  uint32_t now, moved;                  /* ticks since the opening, and at the last new round */
   uint32_t closed[APOLLO_MAX_REPLICAS]; /* until when a card's questions are not answered again */
-  uint32_t seen[APOLLO_MAX_REPLICAS];   /* the highest round in a frame that this card signed */
-  uint32_t acted;                    /* rounds whose entries were handed to host_act */
-  uint16_t heard, ask;               /* cards that were heard; cards to ask at the end of the tick */
+  uint32_t served[APOLLO_MAX_REPLICAS]; /* the same for one that fetches */
+  uint32_t seen[APOLLO_MAX_REPLICAS];   /* the highest round in a frame that this card signed, or that it says it has passed */
+  uint32_t acted;                       /* rounds whose entries were handed to host_act */
+  uint16_t heard, ask;                  /* cards that were heard; cards to ask at the end of the tick */
   int next_peer;
+  card_run run;
   uint32_t progress;         /* grows with every new frame and every new round: only then is anything tried again */
   uint32_t again;            /* entries put back in line because their blocks were passed over */
   uint32_t answers[NUMBERS]; /* of the library, by number */
+  /* Of a card that came back: runs begun, questions for frames and for blames that were answered, questions sent again. */
+  uint32_t runs, frames_got, blames_got, asked_again;
 } card;
 
 /* 0 if the set-up is refused, the archive is of another version or memory is short. Close it in any case. */

@@ -1,5 +1,6 @@
 /* What the header tells a host's engineer beyond each call is so: slots, masks and leaders; which frames may be needed again; what an
- * old term's frames do; what a blame is, and a set of them; which calls commit, and what; what a rotation is, and what it decides.
+ * old term's frames do; what a blame is, and a set of them; which calls commit, and what; how many frames a fetch gives, and how a card
+ * that was away comes back with them; what a rotation is, and what it decides.
  * Three cards, f = 1, where nothing else is said. Exits with 0 if all is so. */
 #include "apollo.h"
 #include "expect.h"
@@ -291,14 +292,19 @@ static void turn_without_two(uint8_t first, uint8_t a[APOLLO_FRAME]) {
   memcpy(a, out, APOLLO_FRAME);
 }
 
-/* At R = T + 1 cards 0 and 1 have passed over round 9 and card 2 holds a block of it: all have committed what is up to T - f = 8. */
-static void end_of_term(void) {
+/* A whole term so: cards 0 and 1 hold blocks 1, 2, 4, 5, 7 and 8, with heights 1 to 6, and have passed over rounds 3, 6 and 9. */
+static void term_without_two(void) {
   uint8_t block[APOLLO_FRAME];
   open_card(&one, 1, "");
   open_card(&two, 2, "");
   open_card(&zero, 0, "A");
   memcpy(block, out, APOLLO_FRAME);
   for (uint8_t first = 1; first <= T; first += 3) turn_without_two(first, block);
+}
+
+/* At R = T + 1 cards 0 and 1 have passed over round 9 and card 2 holds a block of it: all have committed what is up to T - f = 8. */
+static void end_of_term(void) {
+  term_without_two();
   EXPECT(stands(&zero, T + 1, 8, 8) && stands(&one, T + 1, 8, 8) && stands(&two, T + 1, 9, 8));
   EXPECT(memcmp(zero.log, one.log, LOG) == 0 && memcmp(zero.log, two.log, 8 * APOLLO_FRAME) == 0);
   EXPECT(zero.record.committed_height.value == 6 && tick(&zero).number == APOLLO_ROUNDS_OVER);
@@ -350,6 +356,83 @@ static void terms_and_lag(void) {
   EXPECT(a.number == APOLLO_TAKEN && a.frames == 1 && out[1] == 1 && out[7] == 2);
   memcpy(late, out, APOLLO_FRAME);
   EXPECT(branch(&two, late, 1).number == APOLLO_STALE);
+}
+
+/* With every tray up to two frames more than the chain has, above every height: a fetch gives exactly the smaller of the chain's frames
+ * above the height and the whole frames that the tray takes, lowest rounds first, and leaves the bytes after them. 4 comes before 15. */
+static void fetch_counts(void) {
+  enum { CHAIN = 6, MOST = (CHAIN + 2) * APOLLO_FRAME };
+  static const size_t rounds[CHAIN] = {1, 2, 4, 5, 7, 8};
+  static uint8_t tray[MOST], before[MOST];
+  term_without_two();
+  memset(before, 5, sizeof before);
+  for (size_t len = 0; len <= MOST; len++)
+    for (uint32_t height = 0; height <= CHAIN + 1; height++) {
+      size_t above = height < CHAIN ? CHAIN - height : 0, room = len / APOLLO_FRAME, copied;
+      int number = len < APOLLO_OUT ? APOLLO_OUT_TOO_SHORT : above == 0 ? APOLLO_ABSENT : APOLLO_TAKEN;
+      memcpy(tray, before, sizeof tray);
+      apollo_fetched got = apollo_fetch(zero.record, zero.log, LOG, (apollo_height){height}, tray, len);
+      EXPECT(got.number == number && got.count == (number != APOLLO_TAKEN ? 0 : above < room ? above : room));
+      for (copied = 0; copied < got.count; copied++)
+        EXPECT(memcmp(tray + copied * APOLLO_FRAME, zero.log + (rounds[height + copied] - 1) * APOLLO_FRAME, APOLLO_FRAME) == 0);
+      EXPECT(memcmp(tray + copied * APOLLO_FRAME, before, sizeof tray - copied * APOLLO_FRAME) == 0);
+    }
+  zero.record.round.value = 0;
+  EXPECT(apollo_fetch(zero.record, zero.log, LOG, (apollo_height){CHAIN}, tray, 0).number == APOLLO_BAD_REPLICA);
+}
+
+static uint8_t run[LOG];
+static uint8_t *run_from(size_t k) { return run + k * APOLLO_FRAME; }
+
+/* All of card 0's chain above a height, by trays of two frames, each fetch going on from the height of the last frame. How many. */
+static size_t fetch_all(apollo_height height) {
+  size_t count = 0;
+  apollo_fetched got;
+  while ((got = apollo_fetch(zero.record, zero.log, LOG, height, run_from(count), APOLLO_OUT)).number == APOLLO_TAKEN) {
+    count += got.count;
+    height.value = run_from(count - 1)[11];
+  }
+  EXPECT(got.number == APOLLO_ABSENT && got.count == 0);
+  return count;
+}
+
+/* Is the branch answered 13 with this round? */
+static int lacks(card *c, const uint8_t *from, size_t count, uint32_t place) {
+  apollo_answer a = branch(c, from, count);
+  return a.number == APOLLO_NOT_CERTIFIED && a.place == place;
+}
+
+/* Card 2 was away for the whole term, and takes what card 0 has above its committed height. Round 3, which that skips, is above its R,
+ * and the blames of it are early: what is below goes in first. Card 2 then proposes in round 3, and what is above the height of this
+ * tip is loose. So with round 6. At the end it has the same list. */
+static void comes_back(void) {
+  term_without_two();
+  open_card(&two, 2, "");
+  EXPECT(fetch_all(two.record.committed_height) == 6 && lacks(&two, run, 6, 3) && stands(&two, 1, 0, 0));
+  EXPECT(hand_in_set(&two, 3, 3).number == APOLLO_EARLY);
+  EXPECT(branch(&two, run, 2).frames == 1 && stands(&two, 4, 3, 2));
+  EXPECT(fetch_all(two.record.tip_height) == 3 && branch(&two, run, 3).number == APOLLO_UNATTACHED);
+  EXPECT(fetch_all(two.record.committed_height) == 4 && lacks(&two, run, 4, 3) && lacks(&two, run, 1, 3));
+  EXPECT(hand_in_set(&two, 3, 3).number == APOLLO_TAKEN && lacks(&two, run, 4, 6) && two.record.round.value == 4);
+  EXPECT(hand_in_set(&two, 6, 3).number == APOLLO_EARLY);
+  EXPECT(branch(&two, run, 2).frames == 1 && stands(&two, 7, 6, 5) && hand_in_set(&two, 6, 3).number == APOLLO_TAKEN);
+  EXPECT(two.record.committed_height.value == 4 && branch(&two, run_from(2), 2).frames == 1 && stands(&two, T + 1, 9, 8));
+  EXPECT(memcmp(two.log, zero.log, 8 * APOLLO_FRAME) == 0 && branch(&two, run_from(3), 1).number == APOLLO_ROUNDS_OVER);
+}
+
+/* Where the round is R, its blames go in at once, and then the whole run. A card that is not ahead has nothing to give: 10. */
+static void comes_back_at_once(void) {
+  uint8_t block[APOLLO_FRAME];
+  open_card(&zero, 0, "A");
+  memcpy(block, out, APOLLO_FRAME);
+  open_card(&one, 1, "");
+  EXPECT(branch(&one, block, 1).frames == 1);
+  memcpy(block, out, APOLLO_FRAME);
+  EXPECT(branch(&zero, block, 1).number == APOLLO_TAKEN && stands(&zero, 3, 2, 1) && stands(&one, 3, 2, 1));
+  EXPECT(fetch_all(one.record.committed_height) == 1 && branch(&one, run, 1).number == APOLLO_STALE);
+  EXPECT(hand_in_set(&zero, 3, 5).frames == 1 && stands(&zero, 5, 4, 2));
+  EXPECT(fetch_all(one.record.committed_height) == 2 && lacks(&one, run, 2, 3) && one.record.round.value == 3);
+  EXPECT(hand_in_set(&one, 3, 5).number == APOLLO_TAKEN && branch(&one, run, 2).frames == 1 && stands(&one, 6, 5, 4));
 }
 
 /* What open is lent, its rotation apart. */
@@ -548,6 +631,9 @@ int main(void) {
   false_height();
   skipped_round();
   terms_and_lag();
+  fetch_counts();
+  comes_back();
+  comes_back_at_once();
   rotations();
   most_cards();
   order_of_refusals();
