@@ -124,7 +124,7 @@ module _ (s : Setup) (correct : ℕ → Bool) (calls : List (ℕ × Call)) (p : 
   abbrev w : World
   w = run start calls
 
-  pub invariant : Inv s w
+  invariant : Inv s w
   invariant = run-inv s calls start (p .lawful) (start-inv s)
 
   honest : Honest s correct (w .past)
