@@ -12,7 +12,7 @@
 #include <string.h>
 
 enum {
-  RETRY = 4,      /* ticks until a card sends again */
+  RETRY = 4,      /* ticks until a card sends again, on quick cables */
   IDLE = 2,       /* ticks that a leader with nothing to propose waits */
   SKEW = 100,     /* the cards start at random within so many ticks */
   GRACE = 200,    /* ticks that a card waits at the start for the others */
@@ -72,6 +72,9 @@ static uint32_t chance(uint32_t below) {
   cabinet.seed = cabinet.seed * 1664525u + 1013904223u;
   return (cabinet.seed >> 8) % below;
 }
+
+/* Longer on slow cables: a card that comes back waits nine times that for an answer. */
+static uint32_t retry(void) { return cabinet.delay / 4 < RETRY ? RETRY : cabinet.delay / 4; }
 
 static int is_cut(int i) { return cabinet.faults[i] == DEAF || cabinet.faults[i] == MUTE || cabinet.faults[i] == CUT; }
 static int is_cut_now(int i, fault how) {
@@ -223,7 +226,7 @@ static void make_twin(int liar, signed_block *b) {
 
 /* Another entry in the first block, and the others made its children again, whoever's they are; and as if the chain ended there. */
 static void forge_chain(int liar, card_tray *t) {
-  if (t->count == cabinet.tray) t->count--;
+  if (t->count == t->room) t->count--;
   make_twin(liar, &t->blocks[0]);
   for (uint32_t k = 1; k < t->count; k++) {
     memcpy(t->blocks[k].frame + 12, t->blocks[k - 1].frame + 480, APOLLO_DIGEST);
@@ -231,10 +234,10 @@ static void forge_chain(int liar, card_tray *t) {
   }
 }
 
-/* In place of the chain one of the liar's own blocks alone: nothing is wrong with them, but the rounds between were not passed over. */
+/* In place of the chain one made of the liar's own blocks alone: nothing is wrong with them, but the rounds between were not passed over. */
 static void make_own_chain(int liar, card_tray *t) {
   uint32_t count = 0;
-  for (uint32_t round = get32(t->blocks[0].frame + 4); round <= cabinet.rounds && count < cabinet.tray; round++) {
+  for (uint32_t round = get32(t->blocks[0].frame + 4); round <= cabinet.rounds && count < t->room; round++) {
     signed_block *b = &t->blocks[count];
     if (leader_of(round) != liar) continue;
     if (count > 0) memcpy(b->frame, b[-1].frame, APOLLO_FRAME);
@@ -321,10 +324,11 @@ static void send_junk(int from, int to) {
   if (p.kind == PACKET_BLOCK && chance(4)) junk_block(from, &p.block);
   if (p.kind == PACKET_BLAMES) p.blames.round = cabinet.cards[from].record.round.value; /* in others' names */
   if (p.kind == PACKET_STATUS && chance(2)) p.status = (card_status){.round = 1};       /* asks for all, always */
-  if (p.kind == PACKET_FETCH && chance(2)) p.fetch = (card_fetch){.height = 0};         /* the same */
+  if (p.kind == PACKET_FETCH && chance(2)) p.fetch = (card_fetch){.room = TRAY};        /* the same */
   if (p.kind == PACKET_TRAY && chance(4)) {                                             /* as if it had been asked */
     p.tray.height = cabinet.cards[to].record.committed_height.value;
-    p.tray.count = chance(TRAY);
+    p.tray.room = cabinet.tray;
+    p.tray.count = chance(cabinet.tray);
   }
   carry(from, to, &p);
   cabinet.lies++;
@@ -377,7 +381,7 @@ static void open_card(int i) {
                       .rounds = cabinet.rounds,
                       .id = (uint8_t)i,
                       .timeout = cabinet.timeout,
-                      .retry = RETRY,
+                      .retry = retry(),
                       .idle = IDLE,
                       .grace = GRACE,
                       .tray = cabinet.tray};
@@ -611,7 +615,7 @@ static const char usage[] =
     "                 deaf too), lost (the state: they follow), apart (set up with another rotation: they stand still), two (blocks\n"
     "                 for one round), blames (of everybody), junk, hide (a block shown to one card only), all (these four lies), mask\n"
     "                 (blocks with another's check), mixed (several of these), misled (cut, deaf and lost cards among liars)\n"
-    "  --tray N       frames of an answer to a card that comes back, 2 to 16 (16)\n"
+    "  --tray N       frames that a card asks for at once when it comes back, 2 to 16 (16)\n"
     "  --delay D      packets come after 1 to D ticks (6)\n"
     "  --loss K       one packet in K is lost, 0 for none (8)\n"
     "  --timeout W    ticks until a leader is blamed (by the rule of docs/HOSTS.md)\n"
@@ -719,7 +723,7 @@ static int option(const char *word, const char *value) {
 
 /* Four times the delay with three retries (to relay, to ask, to answer, to send the block), two ticks, and what a leader waits by
  * itself. */
-static uint32_t safe_timeout(void) { return 4 * (cabinet.delay + 3 * RETRY) + 2 + IDLE; }
+static uint32_t safe_timeout(void) { return 4 * (cabinet.delay + 3 * retry()) + 2 + IDLE; }
 
 static void read_options(int argc, char **argv) {
   int plain = 0;

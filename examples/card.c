@@ -4,8 +4,9 @@
 #include <stdlib.h>
 #include <string.h>
 
-/* A card that comes back sends a question again after PAUSE * retry ticks, since the answers are long, and TRIES times in all. */
-enum { TRIES = 3, PAUSE = 3 };
+/* A card that comes back sends a question again after PAUSE * retry ticks, since the answers are long, and TRIES times in all. One
+ * that stands still asks every STILL * retry ticks. */
+enum { TRIES = 3, PAUSE = 3, STILL = 9 };
 _Static_assert(TRAY <= WINDOW, "card.frames takes a tray too");
 
 /* ---- frames, slots, rounds */
@@ -106,12 +107,13 @@ static void send_status(const card *c, int to) {
   host_send(c->setup.id, to, &p);
 }
 
-/* As many of the own chain's frames above a height as a tray takes, lowest first; none where there are none (15). */
-static void send_tray(card *c, int to, uint32_t height) {
-  packet p = {.kind = PACKET_TRAY, .from = c->setup.id};
-  size_t room = (size_t)c->setup.tray * APOLLO_FRAME;
-  p.tray.height = height;
-  p.tray.count = (uint32_t)apollo_fetch(c->record, c->log, log_len(c), (apollo_height){height}, c->frames, room).count;
+/* As many of the own chain's frames above a height as there is room for, lowest first; none where there are none (15). */
+static void send_tray(card *c, int to, uint32_t height, uint32_t room) {
+  packet p = {.kind = PACKET_TRAY, .from = c->setup.id, .tray = {.height = height, .room = room < TRAY ? room : TRAY}};
+  apollo_fetched got =
+      apollo_fetch(c->record, c->log, log_len(c), (apollo_height){height}, c->frames, (size_t)p.tray.room * APOLLO_FRAME);
+  if (got.number == APOLLO_BAD_REPLICA) host_alarm(c->setup.id, ALARM_STATE, c->setup.id, 0);
+  p.tray.count = (uint32_t)got.count;
   for (uint32_t k = 0; k < p.tray.count; k++) {
     const uint8_t *frame = c->frames + k * APOLLO_FRAME;
     memcpy(p.tray.blocks[k].frame, frame, APOLLO_FRAME);
@@ -122,11 +124,11 @@ static void send_tray(card *c, int to, uint32_t height) {
 
 /* ---- how far the others are */
 
-/* Are f + 1 cards past a round? They signed frames of later ones or say so, and one of them is correct. */
-static int is_passed(const card *c, uint32_t round) {
+/* How many other cards are past a round: they signed frames of later ones, or say so. Of f + 1 one is correct. */
+static int passed_by(const card *c, uint32_t round) {
   int past = 0;
-  for (int i = 0; i < cards(c); i++) past += c->seen[i] > round;
-  return past > c->setup.f;
+  for (int i = 0; i < cards(c); i++) past += i != c->setup.id && c->seen[i] > round;
+  return past;
 }
 
 /* The next round that the card leads: the rotation has its number once. */
@@ -137,10 +139,10 @@ static uint32_t next_led(const card *c) {
 }
 
 /* A card that is behind needs frames, not time. */
-static int is_behind(const card *c) { return is_passed(c, waited(c) + 1); }
+static int is_behind(const card *c) { return passed_by(c, waited(c) + 1) > c->setup.f; }
 
 /* Was the card's own turn passed over? Then it counts among the f, nobody waits for it, and it may lack much: it fetches. */
-static int was_away(const card *c) { return is_passed(c, next_led(c)); }
+static int was_away(const card *c) { return passed_by(c, next_led(c)) > c->setup.f; }
 
 /* ---- entries */
 
@@ -371,7 +373,9 @@ static uint32_t reached(const card *c) { return c->run.base + c->run.count; }
 
 static void send_fetch(card *c) {
   card_run *run = &c->run;
-  packet p = {.kind = PACKET_FETCH, .from = c->setup.id, .fetch = {.height = reached(c), .round = run->lacks}};
+  packet p = {.kind = PACKET_FETCH,
+              .from = c->setup.id,
+              .fetch = {.height = reached(c), .round = run->lacks, .room = c->setup.tray}};
   run->asked = c->now;
   run->tries++;
   host_send(c->setup.id, run->from, &p);
@@ -385,7 +389,7 @@ static void ask_for(card *c, uint32_t lacks) {
 }
 
 /* Begins with the next card that is past the own turn: of f + 1 such cards one is correct. From the committed height, not the tip's:
- * the own tip may be on another branch. */
+ * the own tip may be on another branch. There is such a card. */
 static void begin_run(card *c) {
   card_run *run = &c->run;
   do run->from = (run->from + 1) % cards(c);
@@ -438,20 +442,23 @@ static int collect(card *c, const signed_block *b) {
  * dropped; with a frame that is not as it must be, the run is. */
 static void hear_tray(card *c, int from, const card_tray *t) {
   card_run *run = &c->run;
-  if (!run->active || from != run->from || run->lacks || t->height != reached(c) || t->count > c->setup.tray) return;
+  if (!run->active || from != run->from || run->lacks || t->height != reached(c)) return;
+  if (t->room > c->setup.tray || t->count > t->room) return;
   c->frames_got++;
   for (uint32_t k = 0; k < t->count && run->active; k++) run->active = collect(c, &t->blocks[k]);
   if (!run->active) return;
-  if (t->count == c->setup.tray) ask_for(c, 0);
+  if (t->count == t->room) ask_for(c, 0);
   else hand_in_run(c);
 }
 
-/* Begins if the card was away, goes on when the blames that were asked for are there, whoever sent them, and asks again what was not
- * answered; a card that does not answer is left after some tries. */
+/* Begins if the card was away, or now and then while it stands still and one card says that it is past the own turn: what comes is
+ * checked. Goes on when the blames that were asked for are there, whoever sent them, and asks again what was not answered; a card that
+ * does not answer is left after some tries. */
 static void come_back(card *c) {
   card_run *run = &c->run;
-  if (run->active && run->lacks && certified(c, run->lacks)) {
-    c->blames_got++;
+  int stands = (c->now - c->moved) % (STILL * c->setup.retry) == 0 && passed_by(c, next_led(c)) > 0;
+  if (run->active && run->lacks && (certified(c, run->lacks) || run->lacks <= committed(c))) {
+    c->blames_got += (uint32_t)certified(c, run->lacks);
     hand_in_run(c);
   }
   if (run->active && c->now >= run->asked + PAUSE * c->setup.retry) {
@@ -459,14 +466,14 @@ static void come_back(card *c) {
     c->asked_again += (uint32_t)run->active;
     if (run->active) send_fetch(c);
   }
-  if (!run->active && was_away(c)) begin_run(c);
+  if (!run->active && (was_away(c) || stands)) begin_run(c);
 }
 
 /* Answers a card that comes back, each once in a tick, so that nobody can make the card send without end. */
 static void hear_fetch(card *c, int from, const card_fetch *q) {
-  if (q->round > c->setup.rounds || c->now < c->served[from]) return;
+  if (q->round > c->setup.rounds || q->room < 2 || c->now < c->served[from]) return;
   c->served[from] = c->now + 1;
-  if (q->round == 0) send_tray(c, from, q->height);
+  if (q->round == 0) send_tray(c, from, q->height, q->room);
   else send_rounds(c, from, q->round, 0);
 }
 

@@ -42,12 +42,13 @@ typedef struct {
 /* What a card that comes back asks one neighbour for: the frames above a height or, with a round, the blames of that round and of the
  * rounds above it that the neighbour passed over. */
 typedef struct {
-  uint32_t height, round; /* round 0: frames */
+  uint32_t height, round; /* round 0: frames, */
+  uint32_t room;          /* so many at most, 2 to TRAY */
 } card_fetch;
 
-/* The frames that apollo_fetch gave above that height, with their signatures: as many as a tray takes, or else all. */
+/* The frames that apollo_fetch gave above that height, with their signatures: as many as there was room for, or else all. */
 typedef struct {
-  uint32_t height, count;
+  uint32_t height, room, count;
   signed_block blocks[TRAY];
 } card_tray;
 
@@ -77,10 +78,11 @@ typedef struct {
   /* The card's own. */
   uint8_t id;
   uint32_t timeout; /* ticks until a round's leader is blamed: the rule is in docs/HOSTS.md */
-  uint32_t retry;   /* ticks without a new round until all is sent and asked for again */
+  uint32_t retry;   /* ticks without a new round until all is sent and asked for again; a question and its answer take less than 9 times
+                     * that, or a card that was away never comes back */
   uint32_t idle;    /* ticks that the card puts its round off while no entry waits */
   uint32_t grace;   /* ticks after the opening in which no time runs for the card, unless it has heard all others before */
-  uint32_t tray;    /* frames of an answer to a card that fetches, 2 to TRAY: the same at all cards */
+  uint32_t tray;    /* most frames that it asks for at once when it comes back, 2 to TRAY */
 } card_setup;
 
 typedef struct {

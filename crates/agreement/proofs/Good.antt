@@ -41,7 +41,7 @@ abbrev pub Ahead : State → Type 0
 Ahead c = (q : ℕ) → c .replica .round .0 ≤ q → Open c q
 
 -- What holds after every call, and not always within one, where R has grown and is not entered yet: the replica leads no round that it
--- waits for, and committed is renewed.
+-- waits for, committed is renewed, and no round from R on is certified.
 pub record Rested (c : State) : Type 0 where
   pub idle : leads (c .replica) ≡ false
   pub renewed : Renewed (c .replica) (c .log)

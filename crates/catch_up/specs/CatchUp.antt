@@ -1,8 +1,8 @@
--- A replica that was away comes back (document 02, F-5): what it fetches from a neighbour is a branch that it takes, once it has the
--- blames of the rounds that the neighbour skipped.
+-- A replica that was away comes back (document 02, F-5): what it fetches from a neighbour, where that reaches its R, is a branch that it
+-- takes once it has the blames of the rounds that the neighbour skipped.
 use Prim.Native.Nat.{ℕ, _+_, _*_, _≤_}
 use mathlib.Core.Path.{_≡_}
-use mathlib.Core.Logic.{_⊎_}
+use mathlib.Core.Logic.{_⊎_, _≢_}
 use mathlib.Core.Option.{some}
 use mathlib.Core.List.{List, [], _∷_, _++_, flatten}
 use mathlib.Core.Bool.{Bool, true, cond}
@@ -64,14 +64,14 @@ OfOne P =
     (s : Setup) (calls : List (ℕ × Call)) → Each (Lawful s) start calls → (j : ℕ) (d : State) → run start calls .states j ≡ some d → P s d
 
 -- and of any two replicas' states c and d
-abbrev pub OfAny : ((c d : State) → Type 0) → Type 0
-OfAny P =
+abbrev pub OfLawful : ((c d : State) → Type 0) → Type 0
+OfLawful P =
     (s : Setup) (calls : List (ℕ × Call)) → Each (Lawful s) start calls → (i j : ℕ) (c d : State)
     → run start calls .states i ≡ some c → run start calls .states j ≡ some d → P c d
 
--- what holds of any two where the list meets demand 3's premises
-abbrev pub OfTwo : ((c d : State) → Type 0) → Type 0
-OfTwo P =
+-- what holds of any two replicas' states c and d where the list meets demand 3's premises
+abbrev pub OfPremises : ((c d : State) → Type 0) → Type 0
+OfPremises P =
     (s : Setup) (correct : ℕ → Bool) (calls : List (ℕ × Call)) → Premises s correct calls → (i j : ℕ) (c d : State)
     → run start calls .states i ≡ some c → run start calls .states j ≡ some d → P c d
 
@@ -86,7 +86,7 @@ GoodRun =
     OfOne (λ s d. (h : ℕ) (x : List ℕ) (ys zs : List (List ℕ)) → fetchable (d .replica) (d .log) h ≡ x ∷ (ys ++ zs)
     → blocks s x ys ≡ true)
 
--- and a fetch that goes on from the height of one of them gives those after it: fetches one after another give all
+-- and a fetch that goes on from the height of one of them copies from those after it: fetches one after another give all, while d stays
 abbrev pub GoesOn : Type 0
 GoesOn =
     OfOne (λ s d. (h : ℕ) (xs : List (List ℕ)) (x : List ℕ) (ys : List (List ℕ)) → fetchable (d .replica) (d .log) h ≡ xs ++ (x ∷ ys)
@@ -96,14 +96,14 @@ GoesOn =
 -- 8, 9, 11 or 12
 abbrev pub Continues : Type 0
 Continues =
-    OfAny (λ c d. (k : ℕ) → Shared c d k → (x : List ℕ) (ys zs : List (List ℕ)) → beyond c d k ≡ x ∷ (ys ++ zs)
+    OfLawful (λ c d. (k : ℕ) → Shared c d k → (x : List ℕ) (ys zs : List (List ℕ)) → beyond c d k ≡ x ∷ (ys ++ zs)
     → Answers c (flatten (x ∷ ys)) (received c k x ys))
 
 -- A blame for a round above R is early (14). After a 13 that is no dead end: the round that it names is at most R, or else the frames below
 -- that round, handed in by themselves, are taken, and then it is
 abbrev pub Split : Type 0
 Split =
-    OfAny (λ c d. (k : ℕ) → Shared c d k → (x : List ℕ) (ys zs : List (List ℕ)) → beyond c d k ≡ x ∷ (ys ++ zs)
+    OfLawful (λ c d. (k : ℕ) → Shared c d k → (x : List ℕ) (ys zs : List (List ℕ)) → beyond c d k ≡ x ∷ (ys ++ zs)
     → (q : ℕ) → received c k x ys ≡ verdict notCertified q → (entry out : List ℕ) → length entry ≤ 400 → 1024 ≤ length out
     → (q ≤ c .replica .round .0)
     ⊎ ((number (branchCall c (flatten (beneath q (x ∷ ys))) entry out) ≡ 0)
@@ -112,19 +112,19 @@ Split =
 -- With the premises, c's committed block is such a one as soon as what d has above it reaches c's R
 abbrev pub Common : Type 0
 Common =
-    OfTwo (λ c d. (x : List ℕ) (ys zs : List (List ℕ)) → missing c d ≡ x ∷ (ys ++ zs) → c .replica .round .0 ≤ round (lastOf x ys)
+    OfPremises (λ c d. (x : List ℕ) (ys zs : List (List ℕ)) → missing c d ≡ x ∷ (ys ++ zs) → c .replica .round .0 ≤ round (lastOf x ys)
     → Shared c d (c .replica .«committed_round» .0))
 
 -- so what d has above c's committed height, all of it or a beginning, is answered so, wherever it ends
 abbrev pub CatchUp : Type 0
 CatchUp =
-    OfTwo (λ c d. (x : List ℕ) (ys zs : List (List ℕ)) → missing c d ≡ x ∷ (ys ++ zs) → Answers c (flatten (x ∷ ys))
+    OfPremises (λ c d. (x : List ℕ) (ys zs : List (List ℕ)) → missing c d ≡ x ∷ (ys ++ zs) → Answers c (flatten (x ∷ ys))
     (received c (c .replica .«committed_round» .0) x ys))
 
 -- and with one fetch at d and one branch at c: x and ys are what the fetch wrote to its out buffer (tray)
 abbrev pub OneFetch : Type 0
 OneFetch =
-    OfTwo (λ c d. (tray : List ℕ) (o : FetchOutcome) → o ≡ fetchCall (d .replica) (d .log) (c .replica .«committed_height» .0) tray
+    OfPremises (λ c d. (tray : List ℕ) (o : FetchOutcome) → o ≡ fetchCall (d .replica) (d .log) (c .replica .«committed_height» .0) tray
     → (x : List ℕ) (ys : List (List ℕ)) → frames (o .answer .count) (o .out) ≡ x ∷ ys
     → Answers c (take (512 * o .answer .count) (o .out)) (received c (c .replica .«committed_round» .0) x ys))
 
@@ -142,6 +142,7 @@ pub record Comes (v : Verdict) : Type 0 where
   pub d-is : run start calls .states j ≡ some d
   pub x : List ℕ
   pub ys : List (List ℕ)
+  pub apart : i ≢ j
   pub has : missing c d ≡ x ∷ ys
   pub verdict-is : received c (c .replica .«committed_round» .0) x ys ≡ v
 
@@ -159,7 +160,10 @@ pub record Reached : Type 0 where
   -- The split is needed: the round named is above R, its two blames, f + 1 of them, are early, and the frames below it are taken
   pub far : Comes (verdict notCertified 2)
   pub far-from : far .c .replica .round .0 ≡ 1
+  pub f-one : far .s .f ≡ 1
   pub blames : List ℕ
+  pub of-round : round blames ≡ 2
+  pub two : length blames ≡ 1024
   pub out : List ℕ
   pub too-early : number (blamesCall (far .c) blames [] out) ≡ early
   pub below-taken : number (branchCall (far .c) (flatten (beneath 2 (far .x ∷ far .ys))) [] out) ≡ 0

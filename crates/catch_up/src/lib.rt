@@ -1,1 +1,1 @@
-// A replica that comes back is taken: what it fetches is a branch (document 02, F-5). No code.
+// What a replica that comes back fetches is a branch that it takes (document 02, F-5). No code.

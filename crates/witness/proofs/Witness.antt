@@ -1,6 +1,6 @@
 -- A list of calls that meets demand 3's premises, with SHA-256 itself and another rotation than the old turn, where a leader does
 -- nothing after its open, its round is blamed and skipped, one replica commits by blames alone, and two commit a block above that round.
--- Its first seven and its first eight calls meet them too. Assumes nothing.
+-- Its first six, seven and eight calls meet them too. Assumes nothing.
 use Prim.Native.Nat.{ℕ}
 use mathlib.Core.Path.{_≡_, refl, sym, ap, _∙_, subst}
 use mathlib.Core.Logic.{_⊎_, inl, inr}
@@ -47,9 +47,11 @@ hearingSet ms = blames ms [] out
 ticking : Act
 ticking = tick [] out
 
+pub first-six : List (ℕ × Call)
+first-six = (1, openAt 1) ∷ (2, openAt 2) ∷ (0, openAt 0) ∷ (0, act (taking b1)) ∷ (2, act ticking) ∷ (0, act (hearing m2)) ∷ []
+
 pub first-seven : List (ℕ × Call)
-first-seven =
-    (1, openAt 1) ∷ (2, openAt 2) ∷ (0, openAt 0) ∷ (0, act (taking b1)) ∷ (2, act ticking) ∷ (0, act (hearing m2)) ∷ (0, act ticking) ∷ []
+first-seven = first-six ++ ((0, act ticking) ∷ [])
 
 pub first-eight : List (ℕ × Call)
 first-eight = first-seven ++ ((2, act (hearingSet (m2 ++ m0))) ∷ [])
@@ -92,7 +94,7 @@ w9 : World
 w9 = next w8 0 (b4 ∷ []) last-0 []
 
 worlds : Unit {0}
-unfolding openAt taking hearing hearingSet ticking first-seven first-eight last-two calls start given next emit w0 w1 w2 w3 w4 w5 w6 w7 w8 w9
+unfolding openAt taking hearing hearingSet ticking first-six first-seven first-eight last-two calls start given next emit w0 w1 w2 w3 w4 w5 w6 w7 w8 w9
 worlds = tt
 
 -- replicas 0 and 2 are correct
@@ -106,16 +108,24 @@ correct i = not (eqb i 1)
 by : (x : List ℕ) (i : ℕ) → signer x ≡ i → emitted (signer x) x ≡ emitted i x
 by x i e = ap (λ k. emitted k x) e
 
-seven : Goes setup correct start first-seven w6
+six : Goes setup correct start first-six w5
 unfolding worlds setup framesIn uncut answer all opened-1 opened-2 opened-0 first-0 blaming-2 heard-0
-seven =
+six =
     opens setup correct start 1 1 rotation log0 (zeros 4) [] opened-1 [] refl refl open-1 tt
     (opens setup correct w0 2 1 rotation log0 (zeros 4) [] opened-2 (b1 ∷ []) refl refl open-2 (refl, tt)
     (opens setup correct w1 0 1 rotation log0 (zeros 4) [] opened-0 [] refl refl open-0 tt
     (acts setup correct w2 0 (taking b1) opened-0 first-0 (b1 ∷ []) [] refl refl (checked1, tt) (inr (inr (inl (by b1 2 refl))), tt) take-1 tt
     (acts setup correct w3 2 ticking opened-2 blaming-2 [] (m2 ∷ []) refl refl tt tt tick-2 (refl, tt)
     (acts setup correct w4 0 (hearing m2) first-0 heard-0 (m2 ∷ []) [] refl refl (checked-m2, tt) (inr (inl (by m2 2 refl)), tt) hear-2 tt
-    (acts setup correct w5 0 ticking heard-0 skipped-0 [] (m0 ∷ b3 ∷ []) refl refl tt tt tick-0 (refl, (refl, tt)) stay))))))
+    stay)))))
+
+seventh : Goes setup correct w5 ((0, act ticking) ∷ []) w6
+unfolding worlds setup framesIn uncut answer all heard-0 skipped-0
+seventh = acts setup correct w5 0 ticking heard-0 skipped-0 [] (m0 ∷ b3 ∷ []) refl refl tt tt tick-0 (refl, (refl, tt)) stay
+
+seven : Goes setup correct start first-seven w6
+unfolding first-seven
+seven = then setup correct six seventh
 
 eighth : Goes setup correct w6 ((2, act (hearingSet (m2 ++ m0))) ∷ []) w7
 unfolding worlds setup framesIn uncut answer all blaming-2 skipped-0 skipped-2
@@ -282,7 +292,7 @@ pub commits : (committed last-0 ≡ b1 ∷ b3 ∷ []) × (committed last-2 ≡ b
 unfolding all last-0 last-2 committed chain
 commits = (refl, refl)
 
--- The first eight and the first seven calls meet the premises too.
+-- The first eight, seven and six calls meet the premises too.
 pub eight-premises : Premises setup correct first-eight
 unfolding calls
 eight-premises = beginnings setup correct first-eight last-two premises
@@ -290,6 +300,17 @@ eight-premises = beginnings setup correct first-eight last-two premises
 pub seven-premises : Premises setup correct first-seven
 unfolding first-eight
 seven-premises = beginnings setup correct first-seven _ eight-premises
+
+pub six-premises : Premises setup correct first-six
+unfolding first-seven
+six-premises = beginnings setup correct first-six _ seven-premises
+
+-- Six leave replica 2 with its blame of round 2, and replica 0 with that one alone.
+pub six-leave : Leaves first-six 0 heard-0 × Leaves first-six 2 blaming-2
+unfolding worlds
+six-leave =
+    let e : (i : ℕ) → run start first-six .states i ≡ w5 .states i = λ i. ap (λ (w : World). w .states i) (goes setup correct six) in
+    (e 0, e 2)
 
 -- Seven leave replica 1 where it opened, replica 2 with its blame of round 2, and replica 0 waiting for round 4, with round 2 skipped.
 pub seven-leave : Leaves first-seven 0 skipped-0 × Leaves first-seven 1 opened-1 × Leaves first-seven 2 blaming-2
