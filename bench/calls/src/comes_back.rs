@@ -44,9 +44,11 @@ const CASES: [Case; 3] = [
 ];
 
 /// How the card comes back, with the frames of a tray. The tray matters to the fetches alone, but for the last two.
-const RECIPES: [(Way, usize); 8] = [
+const RECIPES: [(Way, usize); 10] = [
     (Way::OneFrame, 1),
     (Way::WhenTold, 1000),
+    (Way::ByPieces, 16),
+    (Way::ByPieces, 1000),
     (Way::ByRuns, 2),
     (Way::ByRuns, 16),
     (Way::ByRuns, 64),
@@ -126,6 +128,7 @@ fn name(way: Way) -> &'static str {
     match way {
         Way::OneFrame => "one frame an exchange",
         Way::WhenTold => "one branch, again after each 13",
+        Way::ByPieces => "pieces of 32, again after each 13",
         Way::ByRuns => "run by run",
         Way::ByTrays => "run by run, tray by tray",
     }
@@ -155,7 +158,8 @@ fn row(case: &Case, from: &Neighbour, way: Way, tray: usize) -> Vec<String> {
         format!("{}: {}", case.name, name(way)),
         tray.to_string(),
         counts.fetches.to_string(),
-        counts.asked.to_string(),
+        counts.questions.to_string(),
+        counts.sets.to_string(),
         counts.branches.to_string(),
         counts.digests.to_string(),
         time(our_fetching),
@@ -167,7 +171,7 @@ fn row(case: &Case, from: &Neighbour, way: Way, tray: usize) -> Vec<String> {
 
 pub fn table() -> Vec<Vec<String>> {
     let mut rows = vec![head(
-        "case: way, tray, fetches, sets, branches, digests, fetching, beside Rust, all, beside Rust",
+        "case: way, tray, fetches, questions, sets, branches, digests, fetching, beside Rust, all, beside Rust",
     )];
     for case in &CASES {
         let from = case.neighbour();

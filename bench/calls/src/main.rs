@@ -224,8 +224,9 @@ fn searches() {
 
 fn comes_back() {
     let (rounds, term) = (comes_back::ROUNDS, comes_back::TERM);
-    println!("A card that comes back after {rounds} rounds, T = {term}. Exchanges are the fetches answered with frames and the sets of blames, one a");
-    println!("round. Digests: one for each frame handed in or emitted. Fetching: all fetches, where they come first. All: fetches and other calls.");
+    println!("A card that comes back after {rounds} rounds, T = {term}. Exchanges are the fetches answered with frames and the questions for blames.");
+    println!("Sets: of blames handed in, a call each. Digests: one for each frame handed in or emitted. Fetching: all fetches, where they come");
+    println!("first. All: fetches and other calls.");
     print(&comes_back::table());
 }
 

@@ -7,12 +7,17 @@ use beside::library::Library;
 use beside::model::{Answer, Fetched, Lent, Record, LEAST_OUT};
 use std::time::Instant;
 
+/// The frames of a piece, and the skipped rounds whose blames an answer brings, where frames go in piece by piece.
+const PIECE: usize = 32;
+
 #[derive(Clone, Copy)]
 pub enum Way {
-    /// One frame an exchange, as before F-5, handed in when it comes.
+    /// One frame an exchange, the least that was promised before F-5, handed in when it comes.
     OneFrame,
     /// All frames are collected and handed in as one branch. Where 13 names a round: its blames, and the rest again.
     WhenTold,
+    /// All frames are collected and handed in piece by piece. Where 13 names a round: the blames that have come, and a piece again.
+    ByPieces,
     /// All frames are collected and handed in run by run, each after the blames of the rounds skipped before it.
     ByRuns,
     /// The same with each tray when it comes: a run may be cut where the tray ends.
@@ -49,8 +54,10 @@ impl Desk {
 pub struct Counts {
     /// Fetches answered with frames.
     pub fetches: usize,
-    /// Rounds whose blames were asked for.
-    pub asked: usize,
+    /// Questions for blames, of one round or of several.
+    pub questions: usize,
+    /// Sets of blames handed in, each by a call.
+    pub sets: usize,
     pub branches: usize,
     /// One for each frame handed in or emitted.
     pub digests: usize,
@@ -66,12 +73,24 @@ pub struct Trip {
     pub all: f64,
 }
 
+/// What became of frames handed in.
+enum Offer {
+    Taken,
+    /// They end below R.
+    Ended,
+    /// The blames of a round are missing. So many frames below it were taken.
+    Lacks {
+        round: u32,
+        below: usize,
+    },
+}
+
 struct Host<'a, L> {
     library: &'a L,
     neighbour: &'a Neighbour,
     card: &'a mut Card,
-    /// The round after the last that was handed in, run by run; at first the one after the committed round.
-    next: u32,
+    /// The blames of all skipped rounds below this one have come. Not kept where 13 names each.
+    got: u32,
     trip: Trip,
 }
 
@@ -103,10 +122,10 @@ impl<L: Library> Host<'_, L> {
         })
     }
 
-    /// Asks for the blames of a skipped round and hands them in.
+    /// Hands in the blames of a skipped round.
     fn skip(&mut self, round: u32) {
         let (library, set) = (self.library, &self.neighbour.blames[round as usize - 1]);
-        self.trip.counts.asked += 1;
+        self.trip.counts.sets += 1;
         let answer = self.call(set.len() / SIZE, |record, lent| {
             library.blames(record, set, lent)
         });
@@ -139,40 +158,85 @@ impl<L: Library> Host<'_, L> {
         assert!(frames.is_empty(), "the last frame is taken");
     }
 
-    /// Hands frames in whole. A round that 13 names: if it is above R, first what is below it; then its blames, and the rest
-    /// again. Whether they were taken: not where they end below R.
+    /// Hands frames in whole. Where 13 names a round above R, then those below it by themselves.
+    fn offer(&mut self, frames: &[Frame]) -> Offer {
+        let answer = self.branch(frames);
+        match answer.number {
+            0 => return Offer::Taken,
+            10 => return Offer::Ended,
+            number => assert_eq!(number, 13, "the neighbour's frames"),
+        }
+        let (round, mut below) = (answer.place, 0);
+        if round > answer.record.round {
+            below = frames.partition_point(|frame| frame::round(frame) < round);
+            assert_eq!(self.branch(&frames[..below]).number, 0, "what is below");
+        }
+        Offer::Lacks { round, below }
+    }
+
+    /// Hands frames in whole; of a round that 13 names, it asks for the blames, and hands in the rest again. Whether they were
+    /// taken: not where they end below R.
     fn when_told(&mut self, mut frames: &[Frame]) -> bool {
         loop {
-            let answer = self.branch(frames);
-            match answer.number {
-                0 => return true,
-                10 => return false,
-                number => assert_eq!(number, 13, "the neighbour's frames"),
+            match self.offer(frames) {
+                Offer::Taken => return true,
+                Offer::Ended => return false,
+                Offer::Lacks { round, below } => {
+                    frames = &frames[below..];
+                    self.trip.counts.questions += 1;
+                    self.skip(round);
+                }
             }
-            let skipped = answer.place;
-            if skipped > answer.record.round {
-                let below = frames.partition_point(|frame| frame::round(frame) < skipped);
-                assert_eq!(self.branch(&frames[..below]).number, 0, "what is below");
-                frames = &frames[below..];
-            }
-            self.skip(skipped);
         }
     }
 
+    /// Hands in a piece from the first frame above the committed height on, again and again, until that ends below R.
+    fn by_pieces(&mut self, frames: &[Frame]) {
+        loop {
+            let height = self.card.record.committed_height;
+            let first = frames.partition_point(|frame| frame::height(frame) <= height);
+            match self.offer(&frames[first..frames.len().min(first + PIECE)]) {
+                Offer::Taken => {}
+                Offer::Ended => return,
+                Offer::Lacks { round, .. } => self.skip_all(round),
+            }
+        }
+    }
+
+    /// Asks for the blames of a skipped round and those after it, if they have not come. Hands in all up to R that the card lacks.
+    fn skip_all(&mut self, lacks: u32) {
+        let blames = &self.neighbour.blames;
+        let is_skipped = |&round: &u32| !blames[round as usize - 1].is_empty();
+        if lacks >= self.got {
+            let answer = (lacks..=blames.len() as u32).filter(is_skipped);
+            self.got = answer.take(PIECE).last().expect("a skipped round") + 1;
+            self.trip.counts.questions += 1;
+        }
+        let above = self.card.record.committed_round + 1;
+        for round in (above..self.got).filter(is_skipped) {
+            if round <= self.card.record.round && self.card.masks[round as usize - 1] == 0 {
+                self.skip(round);
+            }
+        }
+        let mask = self.card.masks[lacks as usize - 1];
+        assert_ne!(mask, 0, "the blames of round {lacks} are in");
+    }
+
     /// Hands frames in run by run, each after the blames of the rounds skipped before it. A run that ends below R, where the card
-    /// proposed, goes in with the next. How many frames were taken.
+    /// proposed, goes in with the next. All blames come by one question. How many frames were taken.
     fn by_runs(&mut self, frames: &[Frame]) -> usize {
-        let (mut taken, mut seen) = (0, 0);
+        let (mut taken, mut seen, before) = (0, 0, self.trip.counts.sets);
         for run in frames.chunk_by(|a, b| frame::round(a) + 1 == frame::round(b)) {
             let first = frame::round(&run[0]);
-            (self.next..first).for_each(|round| self.skip(round));
-            self.next = first + run.len() as u32;
+            (self.got..first).for_each(|round| self.skip(round));
+            self.got = first + run.len() as u32;
             seen += run.len();
             match self.branch(&frames[taken..seen]).number {
                 0 => taken = seen,
                 number => assert_eq!(number, 10, "the run from round {first}"),
             }
         }
+        self.trip.counts.questions += usize::from(self.trip.counts.sets > before);
         taken
     }
 }
@@ -189,18 +253,19 @@ pub fn come_back<L: Library>(
     let mut host = Host {
         library,
         neighbour,
-        next: card.record.committed_round + 1,
+        got: card.record.committed_round + 1,
         card,
         trip: Trip::default(),
     };
     let began = Instant::now();
-    if matches!(way, Way::WhenTold | Way::ByRuns) {
+    if matches!(way, Way::WhenTold | Way::ByPieces | Way::ByRuns) {
         host.each_tray(tray, |_, come| frames.extend_from_slice(come));
         host.trip.fetching = Some(began.elapsed().as_secs_f64());
     }
     match way {
         Way::OneFrame => host.one_by_one(tray, frames),
         Way::WhenTold => assert!(host.when_told(frames.as_chunks().0), "all is taken"),
+        Way::ByPieces => host.by_pieces(frames.as_chunks().0),
         Way::ByRuns => assert_eq!(host.by_runs(frames.as_chunks().0) * SIZE, frames.len()),
         Way::ByTrays => host.each_tray(tray, |host, come| {
             frames.extend_from_slice(come);
