@@ -80,20 +80,22 @@
  *     sender, so that a liar pushes out only what it sent: for each sender one block a round, the last that came, of the 2f + 1 rounds
  *     or more above the committed one. Drop a higher one, and ask who sent it.
  *
- * Coming back: a card was away if f + 1 cards have passed the next round that it leads (they signed frames of later ones, or told so). It
- * counts among the f, and nobody waits for it. It fetches what it lacks:
+ * Coming back: a card was away if f + 1 others have passed the next round that it leads (they signed frames of later ones, or told so). It
+ * counts among the f, and nobody waits for it. It fetches what it lacks (while it stands still one card's word is enough to ask that
+ * card):
  *   - It asks one card at a time for its chain above the own COMMITTED height, and is sent what apollo_fetch gives, each frame with its
  *     signature. The next question goes on from the height of the last frame, until an answer has fewer frames than the tray takes (none
  *     with 15). Not above the tip's height: the own tip may be on another branch, and the first frame is then loose (11).
- *   - The frames, heard as above, are handed in as one branch, or a beginning of them is. While the premises hold and that card's host
- *     keeps these rules, the answer is 3, 10 (they end below R: nothing to take from it), 13 or 0, and never 7, 8, 9, 11 or 12. This is
- *     proved.
- *   - A refused branch costs as much as a taken one. Where many rounds were passed over, hand in run by run: the rounds of the frames show
- *     which; ask for all their blames together; then the frames up to the next such round, its blames, the frames after it, and so on.
- *     From the last block that both hold on, the answers are the same: this is proved as well, and presumes nothing of the others.
+ *   - The frames, heard as above, are handed in as one branch, or a beginning of them is. While the premises hold, that card's host keeps
+ *     these rules and its chain has only grown since, the answer is 3, 10 (they end below R: nothing to take from it; what it passed
+ *     over since comes by questions), 13 or 0, and never 7, 8, 9, 11 or 12. This is proved.
  *   - 13: get the blames of round `place` from that card, hand them in, then the branch again. If `place` is above R, they are early
  *     (14): first hand in, as a branch by themselves, the frames of rounds below `place`. They are taken, and R is then at least
  *     `place`. This is proved too.
+ *   - A refused branch costs as much as a taken one. Where many rounds were passed over, hand in run by run: the rounds of the frames show
+ *     which; ask for all their blames together; then the frames up to the next such round, its blames, the frames after it, and so on.
+ *     From any block that both cards hold, not below the own committed one, the answers are the same, whatever others sent: this is
+ *     proved as well.
  *   - Any other answer (for 12 see there), none at all, or a bad frame: that card lies or is out, or its chain changed meanwhile. Drop
  *     the frames and begin again with the next card: of f + 1 one is correct. If it lasts with f + 1 cards: compare lists.
  *
