@@ -113,7 +113,7 @@ pub struct Cabinet {
     strict: bool,
     /// Cards whose frames are made here, not by calls.
     makers: u16,
-    /// A maker that is opened, too, with a rotation of its own.
+    /// A maker that is opened, too, and its rotation.
     neighbour: Option<(u8, Rotation)>,
     habits: Habits,
     pool: Pool,
@@ -145,6 +145,16 @@ impl Cabinet {
             steps,
             head,
         }
+    }
+
+    /// In some lists a maker that is not sound is opened and called as a sound card is: with the blocks
+    /// made for it beside its own, or passed over while it is away, it counts among the f.
+    pub fn with_lawful_maker(mut self) -> Cabinet {
+        let unsound = self.makers & !self.head.sound;
+        if unsound != 0 && self.rng.chance(40) {
+            self.neighbour = Some((self.rng.bit(unsound), self.head.rotation));
+        }
+        self
     }
 
     pub fn head(&self) -> &Head {
@@ -336,7 +346,12 @@ impl Cabinet {
         }
         match self.rng.below(16) {
             0 | 1 => set.push(set[0]),
-            2 => set.extend(self.pool.blames[round + 1].first()),
+            2 => set.extend(
+                self.pool
+                    .blames
+                    .get(round + 1)
+                    .and_then(|next| next.first()),
+            ),
             3 => set.extend(self.pool.blames[round - 1].last()),
             _ => {}
         }

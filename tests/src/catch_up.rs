@@ -1,17 +1,23 @@
 //! The claims about a card that comes back: it takes over the line of another, the giver, from its
-//! own committed height on.
+//! own committed height on, or from any block above that both hold.
 //!
 //! Whoever lies, while the giver's host keeps the rules: its line frames above any height are good
 //! blocks, each the child of the one before, and fetching on from the height of the last one given
-//! brings them all, each tray filled, until 15. For two sound cards, while their premises hold: a
-//! branch of these frames, or of the first of them, is 3 at the end of the term, 10 if it ends below
-//! R, 13 with the first skipped round that is not shown, else taken; it is never loose and undoes
-//! nothing. Where that round is above R, the frames below it are taken by themselves, and R is then
-//! no longer below it.
+//! brings them all, each tray filled, until 15.
+//!
+//! Whoever lies, while both cards take part lawfully: a branch of the giver's frames above a block
+//! that both hold, from the taker's committed one on, or of the first of them, is 3 at the end of the
+//! term, 10 if it ends below R, 13 with the first skipped round that is not shown, else taken; it is
+//! never loose and undoes nothing. Where that round is above R, the frames below it are taken by
+//! themselves, and R is then no longer below it. The genesis is such a block while the taker has
+//! committed nothing.
+//!
+//! While the premises hold, with nothing forged handed to the two either: the same of the giver's
+//! frames above the taker's committed height, so the giver holds that block or is behind.
 
 use crate::frame::{self, Frame, SIZE};
 use crate::library::Library;
-use crate::model::{block_in_form, is_child, line_above, slots, unshown};
+use crate::model::{block_in_form, filled, is_child, line_above, slots, unshown};
 use crate::model::{Answer, Fetched, Lent, LEAST_OUT};
 use crate::rng::Rng;
 use crate::runner::Side;
@@ -62,14 +68,40 @@ impl Reply {
     }
 }
 
+/// Which claims are due for two cards.
+#[derive(Clone, Copy, Debug, Default, PartialEq, Eq)]
+pub struct Due {
+    /// About the giver's frames.
+    pub giver: bool,
+    /// About those above the taker's committed height.
+    pub committed: bool,
+    /// About those above a block that both hold.
+    pub shared: bool,
+}
+
+/// The replies to all frames above a block and to fewer.
+#[derive(Clone, Copy, Debug)]
+pub struct Replies {
+    /// The block's round.
+    pub start: u32,
+    pub all: Reply,
+    pub fewer: Option<Reply>,
+}
+
 /// What was checked of two cards.
 #[derive(Clone, Copy, Debug, Default)]
 pub struct Checked {
     /// Fetches until all frames were there.
     pub pieces: Option<usize>,
-    /// The replies to all frames and to fewer.
-    pub all: Option<Reply>,
-    pub fewer: Option<Reply>,
+    pub committed: Option<Replies>,
+    pub shared: Option<Replies>,
+}
+
+/// The block that a run starts above: its round and height, zeros for the genesis.
+#[derive(Clone, Copy, Debug, PartialEq, Eq)]
+struct Start {
+    round: u32,
+    height: u32,
 }
 
 /// A card that comes back, and what the giver has for it.
@@ -77,24 +109,67 @@ pub struct CatchUp<'a> {
     library: &'a dyn Library,
     taker: Card<'a>,
     giver: Card<'a>,
-    /// The taker's committed height.
-    height: u32,
-    /// The giver's line above it.
+    /// The taker's committed block, or one above that both hold.
+    start: Start,
+    /// The giver's line above its height.
     frames: Vec<Frame>,
 }
 
 impl<'a> CatchUp<'a> {
-    /// None if the giver has nothing for the taker.
+    /// None if the giver has nothing for the taker above its committed height.
     pub fn new(library: &'a dyn Library, taker: Card<'a>, giver: Card<'a>) -> Option<Self> {
-        let height = taker.side.record.committed_height;
-        let frames = giver.above(height);
+        let record = &taker.side.record;
+        let start = Start {
+            round: record.committed_round,
+            height: record.committed_height,
+        };
+        CatchUp::above(library, taker, giver, start)
+    }
+
+    fn above(
+        library: &'a dyn Library,
+        taker: Card<'a>,
+        giver: Card<'a>,
+        start: Start,
+    ) -> Option<Self> {
+        let frames = giver.above(start.height);
         (!frames.is_empty()).then_some(CatchUp {
             library,
             taker,
             giver,
-            height,
+            start,
             frames,
         })
+    }
+
+    /// The blocks from the taker's committed one on that both hold, in rising round.
+    fn shared(&self) -> Vec<Start> {
+        let committed = self.taker.side.record.committed_round;
+        let genesis = Start {
+            round: 0,
+            height: 0,
+        };
+        let given = slots(self.giver.log());
+        let both = filled(self.taker.log()).filter(|&(round, slot)| {
+            round >= committed && given.get(round as usize - 1) == Some(slot)
+        });
+        let starts = both.map(|(round, slot)| Start {
+            round,
+            height: frame::height(slot),
+        });
+        let genesis = (committed == 0).then_some(genesis);
+        genesis.into_iter().chain(starts).collect()
+    }
+
+    /// The giver's frames above the highest block that both hold, at times above another; none if
+    /// there are none.
+    fn on_shared(&self, rng: &mut Rng) -> Option<Self> {
+        let shared = self.shared();
+        let start = match (shared.last()?, rng.below(3)) {
+            (_, 0) => rng.pick(&shared),
+            (&highest, _) => highest,
+        };
+        CatchUp::above(self.library, self.taker, self.giver, start)
     }
 
     pub fn taker(&self) -> &'a Side {
@@ -109,36 +184,47 @@ impl<'a> CatchUp<'a> {
         &self.frames
     }
 
-    /// The taker's own line above its committed height.
+    /// The taker's own line above the start.
     pub fn held(&self) -> Vec<Frame> {
-        self.taker.above(self.height)
+        self.taker.above(self.start.height)
     }
 
-    /// Whether the first frame is a child of the taker's committed block.
+    /// Whether the first frame is a child of the start.
     pub fn attaches(&self) -> bool {
-        let parent = match self.taker.side.record.committed_round {
+        let parent = match self.start.round {
             0 => &frame::GENESIS,
             round => frame::name(self.taker.side.slot(round)),
         };
         frame::parent(&self.frames[0]) == parent
     }
 
-    /// Checks the claims about the giver if its host keeps the rules, and those about sound cards if
-    /// they are due.
-    pub fn check(&self, kept: bool, due: bool, rng: &mut Rng) -> Result<Checked, String> {
+    /// Checks the claims that are due; above the committed block once, where two are.
+    pub fn check(&self, due: Due, rng: &mut Rng) -> Result<Checked, String> {
         let mut checked = Checked::default();
-        if kept {
+        if due.giver {
             self.check_run()?;
             checked.pieces = Some(self.fetch_on(rng)?);
         }
-        if due {
-            let all = self.frames.len();
-            checked.all = Some(self.hand_in(all)?);
-            if all > 1 {
-                checked.fewer = Some(self.hand_in(1 + rng.below(all - 1))?);
-            }
+        if due.committed {
+            checked.committed = Some(self.hand_in_some(rng)?);
+        }
+        let shared = due.shared.then(|| self.on_shared(rng)).flatten();
+        let another = |shared: &CatchUp| !due.committed || shared.start != self.start;
+        if let Some(shared) = shared.filter(another) {
+            checked.shared = Some(shared.hand_in_some(rng)?);
         }
         Ok(checked)
+    }
+
+    /// Hands in all frames, and fewer if there are several.
+    fn hand_in_some(&self, rng: &mut Rng) -> Result<Replies, String> {
+        let all = self.frames.len();
+        let fewer = (all > 1).then(|| 1 + rng.below(all - 1));
+        Ok(Replies {
+            start: self.start.round,
+            all: self.hand_in(all)?,
+            fewer: fewer.map(|count| self.hand_in(count)).transpose()?,
+        })
     }
 
     /// The frames are good blocks, each the child of the one before.
@@ -148,7 +234,7 @@ impl<'a> CatchUp<'a> {
             let in_form = block_in_form(&self.giver.side.record, frame);
             let linked = before.is_none_or(|parent| is_child(frame, parent));
             if !in_form || !linked || !frame::check_is_right(frame) {
-                let (giver, height) = (self.giver.number, self.height);
+                let (giver, height) = (self.giver.number, self.start.height);
                 return Err(format!(
                     "claim: frame {index} of the line of card {giver} above height {height} is no \
                      good block, or not the child of the one before"
@@ -161,7 +247,7 @@ impl<'a> CatchUp<'a> {
 
     /// Fetching on brings the frames piece by piece, each tray filled; how many pieces.
     pub fn fetch_on(&self, rng: &mut Rng) -> Result<usize, String> {
-        let (mut height, mut rest, mut pieces) = (self.height, &self.frames[..], 0);
+        let (mut height, mut rest, mut pieces) = (self.start.height, &self.frames[..], 0);
         loop {
             let room = 2 + rng.below(self.frames.len());
             let mut out = vec![0; SIZE * room + rng.pick(&[0, 0, 1, SIZE - 1])];
@@ -199,7 +285,7 @@ impl<'a> CatchUp<'a> {
         if last < record.round {
             return Reply::Stale;
         }
-        match unshown(self.taker.masks(), record.f, record.committed_round, frames) {
+        match unshown(self.taker.masks(), record.f, self.start.round, frames) {
             None => Reply::Taken,
             Some(round) if round > record.round => Reply::Split(round),
             Some(round) => Reply::Unshown(round),
@@ -214,8 +300,9 @@ impl<'a> CatchUp<'a> {
         if told != reply.told() {
             let (taker, giver, all) = (self.taker.number, self.giver.number, self.frames.len());
             return Err(format!(
-                "claim: card {taker}, handed {count} of {all} frames of card {giver} above its \
-                 committed height, answered {told:?}, not {:?}",
+                "claim: card {taker}, handed {count} of {all} frames of card {giver} above {}, \
+                 answered {told:?}, not {:?}",
+                self.origin(),
                 reply.told()
             ));
         }
@@ -223,6 +310,14 @@ impl<'a> CatchUp<'a> {
             self.check_split(round)?;
         }
         Ok(reply)
+    }
+
+    /// What the frames are above.
+    fn origin(&self) -> String {
+        if self.start.round == self.taker.side.record.committed_round {
+            return "its committed height".into();
+        }
+        format!("the shared block of round {}", self.start.round)
     }
 
     /// The frames below a round that is not shown are taken, and R is then no longer below it.

@@ -25,6 +25,8 @@ pub struct Claims {
     /// Cards that have been sound so far, and those of them that are open.
     sound: u16,
     open: u16,
+    /// Cards that were handed a forged frame.
+    misled: u16,
     /// A premise failed: nothing is due any more.
     broken: Option<&'static str>,
     due: bool,
@@ -62,6 +64,7 @@ impl Claims {
             rules: Some(Rules::new(head)),
             sound: head.sound,
             open: 0,
+            misled: 0,
             broken: None,
             due: false,
             answered_12: false,
@@ -104,6 +107,22 @@ impl Claims {
             .is_some_and(|rules| rules.are_kept(card))
     }
 
+    /// Whether a card takes part lawfully: its host keeps the rules and opened it under its own number
+    /// with what sound cards share. It may count among the f, where sound cards blamed its rounds.
+    pub fn is_lawful(&self, card: usize, side: &Side) -> bool {
+        let record = &side.record;
+        let shared = (record.f, record.term, record.rotation);
+        self.rules_are_due_for(card)
+            && usize::from(record.own) == card
+            && shared == (self.f, self.term, self.rotation)
+    }
+
+    /// Whether the claims about one card that comes back to another are due for a card, as either.
+    pub fn catching_up_is_due_for(&self, card: usize, side: &Side) -> bool {
+        let takes_part = self.is_open(card) || self.is_lawful(card, side);
+        takes_part && self.misled >> card & 1 == 0 && self.premises_hold()
+    }
+
     /// The host wrote a card's state by itself.
     pub fn written(&mut self, card: usize) {
         if let Some(rules) = &mut self.rules {
@@ -123,7 +142,13 @@ impl Claims {
 
     /// What the call shows before it is made.
     pub fn before(&mut self, call: &Call) {
-        if self.broken.is_some() || !self.is_sound(call.card) {
+        if self.broken.is_some() {
+            return;
+        }
+        let mut frames = call.frames(self.term).iter();
+        let forged = frames.any(|frame| self.is_forged(frame));
+        self.misled |= u16::from(forged) << call.card;
+        if !self.is_sound(call.card) {
             return;
         }
         if call.record.is_some() {
@@ -134,10 +159,8 @@ impl Claims {
             self.sound &= !(1 << call.card);
             return;
         }
-        for frame in call.frames(self.term) {
-            if self.is_forged(frame) {
-                self.broken = Some("a frame was forged");
-            }
+        if forged {
+            self.broken = Some("a frame was forged");
         }
     }
 

@@ -8,7 +8,7 @@ use crate::catch_up::{CatchUp, Checked, Reply};
 use crate::changes;
 use crate::claims::Due;
 use crate::frame::{self, Frame, MOST_ENTRY, SIZE};
-use crate::model::{attaching, block_in_form, cards, committed, in_turn, is_rotation};
+use crate::model::{attaching, block_in_form, cards, committed, filled, in_turn, is_rotation};
 use crate::model::{leader, record_holds, seats, shown, slots};
 use crate::model::{Answer, Fetched, Part, Record, Rotation, Search, Setup};
 use crate::model::{LEAST_OUT, MOST_BLAMES, MOST_CARDS, MOST_F, NOBODY};
@@ -317,7 +317,7 @@ const LEADERS_TOLD: Row = ("claims", "leaders of n rounds in a row");
 
 pub const CATCHING_UP: &str = "catching up";
 
-/// What a card that comes back is answered to all frames that another has for it, and to fewer.
+/// What a card that comes back is answered.
 const REPLIES: [&str; 5] = [
     "term over",
     "stale",
@@ -325,18 +325,24 @@ const REPLIES: [&str; 5] = [
     "unshown, above R, so split",
     "taken",
 ];
+/// To all frames that another has above its committed height, and to fewer.
 const ALL: &str = "catching up, all frames";
 const FEWER: &str = "catching up, fewer frames";
+/// To these, where it is lawful and not sound.
+const NOT_SOUND: &str = "catching up, not sound";
+/// To frames above a block that both hold, above its committed one.
+const SHARED: &str = "catching up, shared block";
 
-/// How the giver's frames were fetched; the last where the claims about sound cards are not due.
-const FETCHED_ON: [&str; 4] = [
+/// How the giver's frames were fetched; the last two where the premises of the claims fail.
+const FETCHED_ON: [&str; 5] = [
     "fetched in one piece",
     "fetched in two pieces",
     "fetched in three or more",
     "fetched, whoever lies",
+    "on a shared block, whoever lies",
 ];
 
-/// How the two sound cards stand to each other.
+/// How the two cards stand to each other.
 const TWO_CARDS: [&str; 8] = [
     "giver behind",
     "giver at the same R",
@@ -408,7 +414,9 @@ impl Before {
             },
             another_due: committed(log, record.round, record.f) != stands,
             line: match call.what {
-                What::Fetch(_) => line(log),
+                What::Fetch(_) => filled(log)
+                    .map(|(round, slot)| (round, frame::height(slot)))
+                    .collect(),
                 _ => Vec::new(),
             },
         }
@@ -442,15 +450,6 @@ fn faults(frames: &[Frame]) -> (bool, bool) {
     let rounds = |pair: &[Frame]| frame::round(&pair[0]) != frame::round(&pair[1]);
     let different = signers(frames).count_ones() as usize;
     (frames.windows(2).any(rounds), different < frames.len())
-}
-
-fn line(log: &[u8]) -> Vec<(u32, u32)> {
-    let filled = (1..)
-        .zip(slots(log))
-        .filter(|(_, slot)| frame::filled(slot));
-    filled
-        .map(|(round, slot)| (round, frame::height(slot)))
-        .collect()
 }
 
 fn attach(frames: &[u8], log: &[u8]) -> Option<(u32, bool)> {
@@ -515,7 +514,7 @@ impl Coverage {
         rows.extend([TWO_BLOCKS, TWO_TIPS, TWO_ENDS, SET_OF_ONE, LEADERS_TOLD]);
         rows.extend(FETCHED_ON.map(|row| (CATCHING_UP, row)));
         rows.extend(TWO_CARDS.map(|row| (CATCHING_UP, row)));
-        for group in [ALL, FEWER] {
+        for group in [ALL, FEWER, NOT_SOUND, SHARED] {
             rows.extend(REPLIES.map(|row| (group, row)));
         }
         rows.extend(SIZES.iter().map(|size| ("list", size.0)));
@@ -1122,21 +1121,30 @@ impl Coverage {
         );
     }
 
-    /// Counts what was checked of a card that comes back and of the giver.
-    pub fn catch_up(&mut self, between: &CatchUp, checked: &Checked) {
+    /// Counts what was checked of a card that comes back, sound or not, and of the giver.
+    pub fn catch_up(&mut self, between: &CatchUp, checked: &Checked, sound: bool) {
+        let broken = checked.committed.is_none();
         let reached = [
             checked.pieces == Some(1),
             checked.pieces == Some(2),
             checked.pieces.is_some_and(|pieces| pieces > 2),
-            checked.all.is_none(),
+            broken,
+            broken && checked.shared.is_some(),
         ];
         self.add_all(CATCHING_UP, &zip(reached, FETCHED_ON));
-        if let Some(reply) = checked.all {
-            self.two_cards(between, reply);
-            self.reply(ALL, reply);
+        if let Some(replies) = &checked.committed {
+            self.two_cards(between, replies.all);
+            self.replies(ALL, &[replies.all]);
+            self.replies(FEWER, replies.fewer.as_slice());
+            if !sound {
+                self.replies(NOT_SOUND, &[replies.all]);
+                self.replies(NOT_SOUND, replies.fewer.as_slice());
+            }
         }
-        if let Some(reply) = checked.fewer {
-            self.reply(FEWER, reply);
+        let committed = between.taker().record.committed_round;
+        if let Some(replies) = checked.shared.filter(|replies| replies.start > committed) {
+            self.replies(SHARED, &[replies.all]);
+            self.replies(SHARED, replies.fewer.as_slice());
         }
     }
 
@@ -1159,16 +1167,18 @@ impl Coverage {
         self.add_all(CATCHING_UP, &zip(reached, TWO_CARDS));
     }
 
-    fn reply(&mut self, group: &'static str, reply: Reply) {
+    fn replies(&mut self, group: &'static str, replies: &[Reply]) {
         let [term_over, stale, unshown, split, taken] = REPLIES;
-        let row = match reply {
-            Reply::TermOver => term_over,
-            Reply::Stale => stale,
-            Reply::Unshown(_) => unshown,
-            Reply::Split(_) => split,
-            Reply::Taken => taken,
-        };
-        self.add(group, row);
+        for reply in replies {
+            let row = match reply {
+                Reply::TermOver => term_over,
+                Reply::Stale => stale,
+                Reply::Unshown(_) => unshown,
+                Reply::Split(_) => split,
+                Reply::Taken => taken,
+            };
+            self.add(group, row);
+        }
     }
 
     /// Counts the searches after a call at a card; the claims are about the first.

@@ -56,7 +56,10 @@ impl Maker {
             _ => 1_200,
         };
         let steps = most.min(5 * n * term as usize + 60);
-        let cabinet = Cabinet::new(rng, head, strict, makers, steps);
+        let mut cabinet = Cabinet::new(rng, head, strict, makers, steps);
+        if sizes == Sizes::All {
+            cabinet = cabinet.with_lawful_maker();
+        }
         Maker::Cabinet(Box::new(cabinet), strict)
     }
 

@@ -159,9 +159,15 @@ fn slot(log: &[u8], round: u32) -> &Frame {
     &slots(log)[round as usize - 1]
 }
 
+/// The filled slots in rising round, each with its round.
+pub fn filled(log: &[u8]) -> impl Iterator<Item = (u32, &Frame)> {
+    let rounds = (1..).zip(slots(log));
+    rounds.filter(|(_, slot)| frame::filled(slot))
+}
+
 /// The line: the filled slots in rising round.
 pub fn line(log: &[u8]) -> impl Iterator<Item = &Frame> {
-    slots(log).iter().filter(|slot| frame::filled(slot))
+    filled(log).map(|(_, slot)| slot)
 }
 
 /// The line's frames above a height.

@@ -2,7 +2,7 @@
 //! After some calls, and at the end, a card catches up with another on copies.
 
 use crate::call::{Call, Head, State, Step, What};
-use crate::catch_up::{Card, CatchUp};
+use crate::catch_up::{Card, CatchUp, Due};
 use crate::claims::Claims;
 use crate::coverage::{Before, Coverage};
 use crate::frame::{Frame, SIZE};
@@ -375,7 +375,7 @@ impl<'l> Runner<'l> {
     }
 
     /// After some calls the called card catches up with another or, more often, another with it;
-    /// mostly that is the sound card with the lowest R.
+    /// mostly that is the lawful card with the lowest R, of all or of those that are not sound.
     fn catch_up_after(&self, call: &Call, coverage: &mut Coverage) -> Result<(), String> {
         let (mut rng, cards) = (Rng::new(!call.mark()), self.tried.len());
         if cards == 1 || rng.below(CATCH_UPS) > 0 {
@@ -383,16 +383,24 @@ impl<'l> Runner<'l> {
         }
         let called = call.card;
         let other = (called + 1 + rng.below(cards - 1)) % cards;
-        let sound = (0..cards).filter(|&card| card != called && self.claims.are_due_for(card));
-        let lowest = sound.min_by_key(|&card| self.tried[card].record.round);
-        let lowest = lowest.unwrap_or(other);
-        let (taker, giver) = match rng.below(5) {
+        let lowest = self.lowest(called, |_| true).unwrap_or(other);
+        let unsound = self.lowest(called, |card| !self.claims.are_due_for(card));
+        let (taker, giver) = match rng.below(6) {
             0 => (called, other),
             1 => (called, lowest),
             2 => (other, called),
+            3 => (unsound.unwrap_or(lowest), called),
             _ => (lowest, called),
         };
         self.catch_up(taker, giver, &mut rng, coverage)
+    }
+
+    /// The card with the lowest R of the lawful ones that fit, the called one left out.
+    fn lowest(&self, called: usize, fits: impl Fn(usize) -> bool) -> Option<usize> {
+        let lawful = |card: &usize| self.claims.is_lawful(*card, &self.tried[*card]);
+        let others = (0..self.tried.len()).filter(|&card| card != called && fits(card));
+        let round = |card: &usize| self.tried[*card].record.round;
+        others.filter(lawful).min_by_key(round)
     }
 
     /// At the end of a list each card catches up with the next.
@@ -412,9 +420,17 @@ impl<'l> Runner<'l> {
         rng: &mut Rng,
         coverage: &mut Coverage,
     ) -> Result<(), String> {
-        let kept = self.claims.rules_are_due_for(giver);
-        let due = self.claims.are_due_for(giver) && self.claims.are_due_for(taker);
-        if !kept && !due {
+        let (claims, pair) = (&self.claims, [taker, giver]);
+        let both = |fits: fn(&Claims, usize, &Side) -> bool| {
+            pair.iter()
+                .all(|&card| fits(claims, card, &self.tried[card]))
+        };
+        let due = Due {
+            giver: claims.rules_are_due_for(giver),
+            committed: both(Claims::catching_up_is_due_for),
+            shared: both(Claims::is_lawful),
+        };
+        if due == Due::default() {
             return Ok(());
         }
         let card = |number| Card {
@@ -422,8 +438,8 @@ impl<'l> Runner<'l> {
             side: &self.tried[number],
         };
         if let Some(catch_up) = CatchUp::new(self.library, card(taker), card(giver)) {
-            let checked = catch_up.check(kept, due, rng)?;
-            coverage.catch_up(&catch_up, &checked);
+            let checked = catch_up.check(due, rng)?;
+            coverage.catch_up(&catch_up, &checked, claims.are_due_for(taker));
         }
         Ok(())
     }

@@ -712,17 +712,13 @@ fn undoes(ask: &Ask, mut lent: Lent) -> Answer {
     model::branch(forgetful, bytes, lent)
 }
 
-/// Gives another number where the model takes a branch on the committed block, or says 13 to it.
-fn instead_on_the_committed_block(
-    ask: &Ask,
-    lent: Lent,
-    number: u8,
-    fits: fn(&Record) -> bool,
-) -> Answer {
+/// Gives another number where the model takes a branch, or says 13 to it, and the round that it
+/// attaches to fits.
+fn instead_on(ask: &Ask, lent: Lent, number: u8, fits: fn(&Record, u32) -> bool) -> Answer {
     let answer = trial(ask, &lent, lent.masks);
     if let (Ask::Branch(record, bytes), 0 | 13) = (ask, answer.number) {
         let attach = attaching(lent.log, &slots(bytes)[0]);
-        if attach == Some(record.committed_round) && fits(record) {
+        if attach.is_some_and(|round| fits(record, round)) {
             return refusal(number, *record);
         }
     }
@@ -730,13 +726,22 @@ fn instead_on_the_committed_block(
 }
 
 fn loose_on_the_committed_block(ask: &Ask, lent: Lent) -> Answer {
-    instead_on_the_committed_block(ask, lent, 11, |record| record.committed_round > 0)
+    instead_on(ask, lent, 11, |record, round| {
+        round > 0 && round == record.committed_round
+    })
 }
 
 /// Where frames above it are held.
 fn undone_on_the_committed_block(ask: &Ask, lent: Lent) -> Answer {
-    instead_on_the_committed_block(ask, lent, 12, |record| {
-        record.tip_round > record.committed_round
+    instead_on(ask, lent, 12, |record, round| {
+        round < record.tip_round && round == record.committed_round
+    })
+}
+
+/// On a block between the committed one and the tip.
+fn loose_above_the_committed_block(ask: &Ask, lent: Lent) -> Answer {
+    instead_on(ask, lent, 11, |record, round| {
+        (record.committed_round + 1..record.tip_round).contains(&round)
     })
 }
 
@@ -1624,16 +1629,21 @@ fn every_slip_is_found_and_shrunk() {
     }
 }
 
-/// Finds a slip that is on both sides, where only the claims can, with a part of what they say.
-fn claims_find(name: &str, library: &Replaced, rules: bool, part: &str) {
-    let found = (1..=600).find_map(|seed| {
+/// The lists that fail with a slip on both sides, where only the claims can find it.
+fn failures(library: &Replaced, rules: bool) -> impl Iterator<Item = Box<Failure>> + '_ {
+    (1..=600).filter_map(move |seed| {
         let maker = Maker::new(seed, Sizes::All);
         let mut runner = Runner::beside(library, library, &maker.head().clone());
         if !rules {
             runner.claims.rules = None;
         }
         run_on(runner, maker, &mut Coverage::new()).err()
-    });
+    })
+}
+
+/// The claims find a slip, with a part of what they say in the first list that fails.
+fn claims_find(name: &str, library: &Replaced, rules: bool, part: &str) {
+    let found = failures(library, rules).next();
     let failure = found.unwrap_or_else(|| panic!("not found: {name}"));
     println!("{name}: {}", failure.message);
     assert!(failure.message.starts_with("claim:"), "{}", failure.message);
@@ -1746,12 +1756,29 @@ fn catching_up_finds_slips_on_both_sides() {
     for (name, fetch) in fetches {
         claims_find(name, &Replaced::fetch(fetch), true, "fetching on");
     }
-    let machines: [(&str, Machine, &str); 3] = [
+    let machines: [(&str, Machine, &str); 2] = [
         ("11", loose_on_the_committed_block, "answered (11, 0), not "),
-        ("12", undone_on_the_committed_block, "answered"),
         ("wrong place", place_of_the_wrong_round, "answered (13, "),
     ];
     for (name, machine, part) in machines {
         claims_find(name, &Replaced::machine(machine), false, part);
     }
+}
+
+/// Another claim finds the 12 that sound cards answer in the lists; here a card that comes back is the
+/// first to answer it.
+#[test]
+fn catching_up_finds_12_by_itself() {
+    let library = Replaced::machine(undone_on_the_committed_block);
+    let own = |failure: &Failure| failure.message.contains("answered (12, 0), not ");
+    let found = failures(&library, false).take(20).find(|f| own(f));
+    assert!(found.is_some());
+}
+
+/// A run on the committed block does not show this, nor does any claim about sound cards.
+#[test]
+fn runs_on_shared_blocks_find_slips_by_themselves() {
+    let library = Replaced::machine(loose_above_the_committed_block);
+    claims_find("11", &library, true, "above the shared block of round");
+    assert!(failures(&library, false).next().is_none());
 }

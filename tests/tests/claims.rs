@@ -7,7 +7,7 @@ use beside::coverage::Coverage;
 use beside::frame::{blame, block, name, round, signer, Frame, GENESIS, SIZE};
 use beside::library::{Library, Model};
 use beside::model::{
-    self, in_turn, line_above, seats, slots, Answer, Lent, Rotation, Search, Setup,
+    self, in_turn, line_above, seats, slots, Answer, Lent, Record, Rotation, Search, Setup,
 };
 use beside::replaced::{again, honest, Ask, Find, Machine, Replaced};
 use beside::runner::{Runner, Side};
@@ -560,6 +560,50 @@ fn frames_of_another_branch_are_stale() {
     assert!(!cards.between(2, 3).attaches());
     assert_eq!(cards.hand_in(2, 3, 1), Ok(Reply::Stale));
     assert_eq!(cards.end(), HOLDS);
+}
+
+/// Card 2 counts among the f, and takes part lawfully. Once it was handed a forged block nothing is
+/// due for it: it may have committed what sound cards lack.
+#[test]
+fn a_lawful_card_is_due_until_it_is_misled() {
+    let mut cards = Cards::open(1, &[0, 1, 2], 0b011, &Model);
+    let due = |cards: &Cards| {
+        let (claims, sides) = (&cards.runner.claims, cards.runner.sides());
+        [0, 1, 2].map(|card| claims.catching_up_is_due_for(card, &sides[card]))
+    };
+    assert_eq!((due(&cards), cards.end()), ([true; 3], HOLDS));
+    let forged = block(0, 1, 1, &GENESIS, b"forged");
+    let second = block(1, 2, 2, name(&forged), b"forged");
+    assert_eq!(cards.branch(2, &[forged, second]), 0);
+    assert_eq!(due(&cards), [true, true, false]);
+    let first = cards.line(0, 0);
+    assert_eq!(cards.branch(1, &first), 0);
+    let second = cards.line(1, 1);
+    let third = block(2, 3, 3, name(&second[0]), b"");
+    assert_eq!(cards.branch(0, &[second[0], third]), 0);
+    assert_eq!((cards.round(0), cards.round(2)), (5, 4));
+    let told = cards.hand_in(2, 0, 2).expect_err("loose");
+    assert!(told.ends_with("answered (11, 0), not (0, 0)"), "{told}");
+    assert_eq!(cards.end(), HOLDS);
+}
+
+/// A card that bears another number, or has another f, T or rotation, does not.
+#[test]
+fn a_lawful_card_shares_what_sound_cards_share() {
+    let cards = Cards::open(1, &[0, 1, 2], 0b011, &Model);
+    let (claims, side) = (&cards.runner.claims, &cards.runner.sides()[2]);
+    assert!(claims.is_lawful(2, side));
+    let others: [fn(&mut Record); 4] = [
+        |record| record.own = 1,
+        |record| record.f = 2,
+        |record| record.term = 7,
+        |record| record.rotation.swap(0, 1),
+    ];
+    for change in others {
+        let mut other = side.clone();
+        change(&mut other.record);
+        assert!(!claims.is_lawful(2, &other));
+    }
 }
 
 /// Sound cards' blocks were forged, and committed lists have parted: nothing is due.
