@@ -252,7 +252,7 @@ static void make_own_chain(int liar, card_tray *t) {
 
 /* What a liar answers a card that comes back, to each in one way all along, with the next seed in another. 0: nothing. */
 static int twist_tray(int liar, int to, card_tray *t) {
-  uint32_t way = (cabinet.first_seed + (uint32_t)((cabinet.n + liar - to) % cabinet.n)) % 7;
+  uint32_t way = (cabinet.first_seed + (uint32_t)((cabinet.n + liar - to) % cabinet.n)) % 8;
   if (t->count == 0) return 1;
   signed_block *one = &t->blocks[chance(t->count)];
   cabinet.lies++;
@@ -262,6 +262,7 @@ static int twist_tray(int liar, int to, card_tray *t) {
   if (way == 4) one->frame[chance(APOLLO_FRAME)] ^= 1;
   if (way == 5) one->signature[0] ^= 1;
   if (way == 6) make_twin(liar, one);
+  if (way == 7) t->room = t->count = 0; /* full, with nothing in it */
   return way > 0;
 }
 

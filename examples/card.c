@@ -443,7 +443,7 @@ static int collect(card *c, const signed_block *b) {
 static void hear_tray(card *c, int from, const card_tray *t) {
   card_run *run = &c->run;
   if (!run->active || from != run->from || run->lacks || t->height != reached(c)) return;
-  if (t->room > c->setup.tray || t->count > t->room) return;
+  if (t->room < 2 || t->room > c->setup.tray || t->count > t->room) return; /* with room 0 a liar would be asked for ever */
   c->frames_got++;
   for (uint32_t k = 0; k < t->count && run->active; k++) run->active = collect(c, &t->blocks[k]);
   if (!run->active) return;

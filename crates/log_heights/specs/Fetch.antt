@@ -10,7 +10,7 @@ use Rattle.apollo.specs.Log.{slot, filled}
 unfoldable pub isTall : (x : List ℕ) (h : ℕ) → Bool
 isTall x h = filled x && ltb h (height x)
 
--- the last of the m rounds above lo before the first slot that is so: lo where that is the next, all m where none is
+-- the round before the first of the m slots above lo that is so, lo + m if none is
 unfoldable pub lastLow : (log : List ℕ) (h lo m : ℕ) → ℕ
 lastLow log h lo zero = lo
 lastLow log h lo (suc m) = cond (isTall (slot log (lo + 1)) h) lo (lastLow log h (lo + 1) m)
