@@ -18,7 +18,7 @@ use Rattle.apollo.specs.Setup.{replicas, leader, setup, setupOf}
 use Rattle.apollo.specs.Frame.{kind, signer, round, height, parent, digest, linked, sealed, blameHead, makeBlock, makeBlame}
 use Rattle.apollo.specs.Log.{genesis, slot, filled, store, clearAbove, attach, highest}
 use Rattle.apollo.specs.Masks.{bit, mask, addBlame}
-use Rattle.apollo.specs.Replica.{fresh, leads, validSetup, withCommitted}
+use Rattle.apollo.specs.Replica.{fresh, leads, validNumbers, validSetup, withCommitted}
 use Rattle.apollo.specs.Enter.{State, Effect, commitLimit, commit, tipped, hearing, holding, entered, ownBlock, proposing, enterRound, settle}
 use Rattle.apollo.specs.Outcome.{taken}
 use Rattle.apollo.specs.Branch.{lastOf, firstUncertified, storeAll, grown, adopting, placed}
@@ -153,6 +153,7 @@ up-to id n k =
       «committed_round» = record { 0 = k };
       «committed_height» = record { 0 = k };
       rotation = padded (turn 1);
+      equivocators = 0;
     }
 
 abbrev pub record-of : (id n : ℕ) → Replica
@@ -222,6 +223,7 @@ module _ (log : List ℕ) (n : ℕ) (holds : Holds log n) (most : n ≤ 6) where
               committed-most = omega arith;
               committed-height-most = omega arith;
               committed-height = omega arith;
+              marks = omega arith;
               waits = led;
             });
         lent = eq-eqb (length masks) 6 m;
@@ -292,14 +294,14 @@ pub opening-0 : Made (opening 0) 0 1 (zeros 6)
 opening-0 =
     let m : Made (enterRound sha256 [] (state 0 0 (zeros 3072) (zeros 6)) .state) 0 1 (zeros 6) =
     entered-leads 0 0 0 (zeros 3072) (zeros 6) (omega arith) no-blocks refl (unfold leads leader padded inTurn zeros in refl) in
-    record { log = m .log; is = opened 0 (unfold validSetup fresh zeros in refl) ∙ m .is; holds = m .holds }
+    record { log = m .log; is = opened 0 (unfold validSetup validNumbers fresh zeros in refl) ∙ m .is; holds = m .holds }
 
 pub opening-1 : Made (opening 1) 1 0 (zeros 6)
 opening-1 =
     record {
       log = zeros 3072;
       is =
-          opened 1 (unfold validSetup fresh zeros in refl)
+          opened 1 (unfold validSetup validNumbers fresh zeros in refl)
           ∙ entered-waits 1 0 0 (zeros 3072) (zeros 6) (omega arith) no-blocks (unfold leads leader padded inTurn zeros in refl);
       holds = no-blocks;
     }

@@ -7,6 +7,7 @@ use native.Mathlib.Nat.{zero-mod}
 use native.Mathlib.Omega.{arith}
 use lib.ListN.{length, getD, take, drop}
 use lib.Seq.{take-at}
+use lib.Pow.{pow-pos}
 use lib.Dec.{eqb, ltb}
 use borrow.Author.Tests.{lt-ltb, le-ltb, eq-eqb}
 use Rattle.sha256.specs.Fips.{sha256}
@@ -161,6 +162,7 @@ module _ (f timeout : ℕ) (log masks entry out : List ℕ) (valid : validSetup 
         committed-most = omega arith;
         committed-height-most = omega arith;
         committed-height = omega arith;
+        marks = pow-pos (2 * f + 1);
         waits = refl;
       })
 

@@ -105,6 +105,7 @@ lower {s} c out′ room n l =
             committed-most = f .committed-most;
             committed-height-most = f .committed-height-most;
             committed-height = f .committed-height;
+            marks = f .marks;
             waits = f .waits;
           });
       lent = c .lent;

@@ -10,6 +10,7 @@ use lib.Dec.{eqb}
 use borrow.Author.Tests.{eqb-true, eq-eqb}
 use Rattle.apollo.specs.Bytes.{within}
 use Rattle.apollo.specs.Frame.{frames, framesOf, wholeFrames}
+use Rattle.apollo.specs.Equivocation.{first, second}
 use Rattle.apollo.proofs.Tests.{and-true, both, within-true, within-of}
 
 -- every frame has 512 bytes
@@ -63,3 +64,10 @@ unfolding frames
 frames-one x l =
     let one : length x / 512 ≡ 1 = omega arith in
     ap (λ n. frames n x) one ∙ ap (λ y. y ∷ []) (take-all 512 x (omega arith))
+
+-- two frames
+pub pair-frames : (bytes : List ℕ) → length bytes ≡ 1024 → framesOf bytes ≡ first bytes ∷ second bytes ∷ []
+unfolding frames
+pair-frames bytes l =
+    let two : length bytes / 512 ≡ 2 = omega arith in
+    ap (λ n. frames n bytes) two

@@ -88,6 +88,18 @@ bit-set-other (suc j) (suc i) m ne =
     let e : (setBit i (m / 2) * 2 + m % 2) / 2 ≡ setBit i (m / 2) = omega arith in
     ap (bit j) e ∙ bit-set-other j i (m / 2) (λ e. ne (ap suc e))
 
+-- a mask below 2 ^ n stays so
+pub set-below : (n i m : ℕ) → i < n → m < 2 ^ n → setBit i m < 2 ^ n
+unfolding setBit
+set-below zero i m l h = absurd (omega arith)
+set-below (suc n) zero m l h =
+    let p : 2 ^ suc n ≡ 2 ^ n * 2 = pow-suc 2 n in
+    omega arith
+set-below (suc n) (suc i) m l h =
+    let p : 2 ^ suc n ≡ 2 ^ n * 2 = pow-suc 2 n in
+    let b : setBit i (m / 2) < 2 ^ n = set-below n i (m / 2) (omega arith) (omega arith) in
+    omega arith
+
 pub bit-kept : (i k m : ℕ) → bit k m ≡ true → bit k (setBit i m) ≡ true
 bit-kept i k m e = go (eqb k i) refl
   where

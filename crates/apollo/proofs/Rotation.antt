@@ -1,10 +1,11 @@
 -- Rotations: n seats in which each of n cards sits once, so the cards in any two seats differ and are below n; n seats that lack no card
 -- are one, as code tests it; and the old turn is one. Assumes nothing.
-use Prim.Native.Nat.{ℕ, zero, suc, _+_, _-_, _≤_, _<_}
+use Prim.Native.Nat.{ℕ, zero, suc, _+_, _-_, _%_, _≤_, _<_}
 use mathlib.Core.Path.{_≡_, refl, sym, ap, _∙_}
 use mathlib.Core.Logic.{_≢_}
 use mathlib.Core.List.{List, [], _∷_, _++_}
 use mathlib.Core.Bool.{Bool, true, false, _&&_, cond}
+use native.Mathlib.Nat.{mod-lt}
 use native.Mathlib.Omega.{arith}
 use lib.Dec.{eqb, ltb}
 use lib.ListN.{length, getD, take, drop, length-append, List·getD-append}
@@ -13,7 +14,7 @@ use borrow.Author.Tests.{eqb-true, eqb-false, eq-eqb, ltb-true, ltb-false, lt-lt
 use Rattle.apollo.specs.declared.Setup.{Setup}
 use Rattle.apollo.specs.Bytes.{zeros, blank}
 use Rattle.apollo.specs.Rotation.{seats, eachOnce, isRotation, inTurn, padded}
-use Rattle.apollo.specs.Setup.{replicas, validRotation}
+use Rattle.apollo.specs.Setup.{replicas, leader, validRotation}
 use Rattle.apollo.proofs.Tests.{and-first, and-second, and-end, both, same-of}
 use Rattle.apollo.proofs.Slots.{part-zeros}
 
@@ -234,3 +235,19 @@ padded-valid s xs e l q =
     rw q
     (both (isRotation (replicas s) (take (replicas s) (padded xs))) _
     (ap (isRotation (replicas s)) (padded-front (replicas s) xs n l) ∙ e) (padded-blank (replicas s) xs n l))
+
+-- the seats of a valid rotation, as those of n cards
+module _ (s : Setup) (v : validRotation s ≡ true) where
+  pub seated : isRotation (replicas s) (take (replicas s) (s .rotation)) ≡ true
+  unfolding validRotation
+  seated = and-first (isRotation (replicas s) (take (replicas s) (s .rotation))) (blank (s .rotation) (replicas s) 15) v
+
+  pub seat : (k : ℕ) → k < replicas s → getD (take (replicas s) (s .rotation)) k 0 ≡ getD (s .rotation) k 0
+  seat k l = getD-take (replicas s) (s .rotation) k 0 l
+
+  -- a leader is a card's number
+  pub leader-low : (r : ℕ) → leader s r < replicas s
+  unfolding leader
+  leader-low r =
+      let l : (r - 1) % replicas s < replicas s = mod-lt (r - 1) (omega arith) in
+      omega (arith, seat ((r - 1) % replicas s) l, seat-low (replicas s) _ seated ((r - 1) % replicas s) l)

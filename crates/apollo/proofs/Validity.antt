@@ -1,15 +1,15 @@
 -- The tests of refusals 1 and 2 read as facts about the numbers, and back. Assumes nothing.
-use Prim.Native.Nat.{ℕ, _+_, _*_, _≤_, _<_}
+use Prim.Native.Nat.{ℕ, _+_, _*_, _^_, _≤_, _<_}
 use mathlib.Core.Path.{_≡_, ap}
 use mathlib.Core.List.{List}
 use mathlib.Core.Bool.{true, false, _&&_, not}
-use lib.ListN.{length}
+use lib.ListN.{length, length-replicate}
 use lib.Dec.{eqb, leb, ltb}
 use borrow.Author.Tests.{ltb-true, leb-true, eqb-true, lt-ltb, le-leb, eq-eqb, not-true}
 use Rattle.apollo.specs.declared.Replica.{Replica}
-use Rattle.apollo.specs.Bytes.{within}
+use Rattle.apollo.specs.Bytes.{zeros, within}
 use Rattle.apollo.specs.Setup.{setupOf, replicas, validRotation}
-use Rattle.apollo.specs.Replica.{leads, validSetup, validRounds, validReplica}
+use Rattle.apollo.specs.Replica.{leads, validNumbers, validRounds, validMarks, validRecord, validLog, validSetup, validReplica}
 use Rattle.apollo.proofs.Tests.{and-true, both, within-true, within-of}
 
 -- own number, f, wait, T and the length of the log are in range
@@ -35,10 +35,11 @@ pub record Valid (r : Replica) (log : List ℕ) : Type 0 where
   pub committed-most : r .«committed_round» .0 ≤ r .«tip_round» .0
   pub committed-height-most : r .«committed_height» .0 ≤ r .«tip_height» .0
   pub committed-height : r .«committed_height» .0 ≤ r .«committed_round» .0
+  pub marks : r .equivocators < 2 ^ replicas (setupOf r)
   pub waits : leads r ≡ false
 
 pub valid-setup : (r : Replica) (log : List ℕ) → validSetup r log ≡ true → ValidSetup r log
-unfolding validSetup
+unfolding validSetup validNumbers
 valid-setup r log e =
     let a = and-true _ (eqb (length log) (512 * r .«last_round» .0)) e in
     let b = and-true _ (within 1 (r .«last_round» .0) 4096) (a .0) in
@@ -58,26 +59,49 @@ valid-setup r log e =
       size = eqb-true (length log) (512 * r .«last_round» .0) (a .1);
     }
 
-setup-of : (r : Replica) (log : List ℕ) → ValidSetup r log → validSetup r log ≡ true
-unfolding validSetup
+setup-of : (r : Replica) (log : List ℕ) → ValidSetup r log → validNumbers r ≡ true
+unfolding validNumbers
 setup-of r log s =
-    both _ (eqb (length log) (512 * r .«last_round» .0))
-    (both _ (within 1 (r .«last_round» .0) 4096)
+    both _ (within 1 (r .«last_round» .0) 4096)
     (both _ (within 1 (r .timeout .0) 60000)
     (both (ltb (r .id) (replicas (setupOf r))) (within 1 (r .f) 7)
     (lt-ltb (r .id) (replicas (setupOf r)) (s .id-below))
     (within-of 1 (r .f) 7 (s .f-least) (s .f-most)))
     (within-of 1 (r .timeout .0) 60000 (s .timeout-least) (s .timeout-most)))
-    (within-of 1 (r .«last_round» .0) 4096 (s .last-least) (s .last-most)))
-    (eq-eqb (length log) (512 * r .«last_round» .0) (s .size))
+    (within-of 1 (r .«last_round» .0) 4096 (s .last-least) (s .last-most))
+
+-- the parts of a record's test
+record Parts (r : Replica) : Type 0 where
+  numbers : validNumbers r ≡ true
+  rotation : validRotation (setupOf r) ≡ true
+  rounds : validRounds r ≡ true
+  marks : validMarks r ≡ true
+  waits : leads r ≡ false
+
+parts : (r : Replica) → validRecord r ≡ true → Parts r
+unfolding validRecord
+parts r e =
+    let a = and-true _ (not (leads r)) e in
+    let m = and-true _ (validMarks r) (a .0) in
+    let v = and-true _ (validRounds r) (m .0) in
+    let n = and-true (validNumbers r) (validRotation (setupOf r)) (v .0) in
+    record { numbers = n .0; rotation = n .1; rounds = v .1; marks = m .1; waits = not-true (leads r) (a .1) }
+
+-- a record by itself: few cards, whose rotation is valid
+pub record-turns : (r : Replica) → validRecord r ≡ true → (r .f ≤ 7) × (validRotation (setupOf r) ≡ true)
+unfolding validSetup zeros
+record-turns r e =
+    let p : Parts r = parts r e in
+    let log : List ℕ = zeros (512 * r .«last_round» .0) in
+    let l : validLog r log ≡ true = eq-eqb _ _ (length-replicate {A = ℕ} (512 * r .«last_round» .0) 0) in
+    (valid-setup r log (both (validNumbers r) (validLog r log) (p .numbers) l) .f-most, p .rotation)
 
 pub valid : (r : Replica) (log : List ℕ) → validReplica r log ≡ true → Valid r log
-unfolding validReplica validRounds
+unfolding validReplica validSetup validRounds
 valid r log e =
-    let a = and-true _ (not (leads r)) e in
-    let v = and-true (validSetup r log && validRotation (setupOf r)) (validRounds r) (a .0) in
-    let m = and-true (validSetup r log) (validRotation (setupOf r)) (v .0) in
-    let b = and-true _ (leb (r .«committed_height» .0) (r .«committed_round» .0)) (v .1) in
+    let z = and-true (validRecord r) (validLog r log) e in
+    let p : Parts r = parts r (z .0) in
+    let b = and-true _ (leb (r .«committed_height» .0) (r .«committed_round» .0)) (p .rounds) in
     let c = and-true _ (leb (r .«committed_height» .0) (r .«tip_height» .0)) (b .0) in
     let d = and-true _ (leb (r .«committed_round» .0) (r .«tip_round» .0)) (c .0) in
     let g = and-true _ (leb (r .«tip_height» .0) (r .«tip_round» .0)) (d .0) in
@@ -86,8 +110,8 @@ valid r log e =
     let w : (1 ≤ r .round .0) × (r .round .0 ≤ r .«last_round» .0 + 1) =
     within-true 1 (r .round .0) (r .«last_round» .0 + 1) (k .0) in
     record {
-      setup = valid-setup r log (m .0);
-      rotation = m .1;
+      setup = valid-setup r log (both (validNumbers r) (validLog r log) (p .numbers) (z .1));
+      rotation = p .rotation;
       round-least = w .0;
       round-most = w .1;
       timer-most = leb-true (r .timer .0) (r .timeout .0) (k .1);
@@ -96,7 +120,8 @@ valid r log e =
       committed-most = leb-true (r .«committed_round» .0) (r .«tip_round» .0) (d .1);
       committed-height-most = leb-true (r .«committed_height» .0) (r .«tip_height» .0) (c .1);
       committed-height = leb-true (r .«committed_height» .0) (r .«committed_round» .0) (b .1);
-      waits = not-true (leads r) (a .1);
+      marks = ltb-true (r .equivocators) (2 ^ replicas (setupOf r)) (p .marks);
+      waits = p .waits;
     }
 
 rounds-of : (r : Replica) (log : List ℕ) → Valid r log → validRounds r ≡ true
@@ -117,9 +142,13 @@ rounds-of r log s =
     (le-leb (r .«committed_height» .0) (r .«committed_round» .0) (s .committed-height))
 
 pub valid-of : (r : Replica) (log : List ℕ) → Valid r log → validReplica r log ≡ true
-unfolding validReplica
+unfolding validReplica validRecord
 valid-of r log s =
-    both _ (not (leads r))
-    (both (validSetup r log && validRotation (setupOf r)) (validRounds r)
-    (both (validSetup r log) (validRotation (setupOf r)) (setup-of r log (s .setup)) (s .rotation)) (rounds-of r log s))
-    (ap not (s .waits))
+    both (validRecord r) (validLog r log)
+    (both _ (not (leads r))
+    (both _ (ltb (r .equivocators) (2 ^ replicas (setupOf r)))
+    (both (validNumbers r && validRotation (setupOf r)) (validRounds r)
+    (both (validNumbers r) (validRotation (setupOf r)) (setup-of r log (s .setup)) (s .rotation)) (rounds-of r log s))
+    (lt-ltb (r .equivocators) (2 ^ replicas (setupOf r)) (s .marks)))
+    (ap not (s .waits)))
+    (eq-eqb (length log) (512 * r .«last_round» .0) (s .setup .size))

@@ -2,12 +2,15 @@
 use Prim.Native.Nat.{ℕ}
 use mathlib.Core.List.{List}
 use Rattle.sha256.specs.Fips.{sha256}
+use Rattle.apollo.specs.declared.Replica.{Replica}
+use Rattle.apollo.specs.declared.Marked.{Marked}
 use Rattle.apollo.specs.Enter.{State}
 use Rattle.apollo.specs.Outcome.{Outcome}
 use Rattle.apollo.specs.Open.{openWith}
 use Rattle.apollo.specs.Branch.{branchWith}
 use Rattle.apollo.specs.Blame.{blameWith, blamesWith}
 use Rattle.apollo.specs.Tick.{tickWith}
+use Rattle.apollo.specs.Equivocation.{equivocationWith}
 pub use Rattle.apollo.specs.Enter.{state}
 pub use Rattle.apollo.specs.Outcome.{outcome}
 pub use Rattle.apollo.specs.Read.{readCall}
@@ -28,3 +31,7 @@ blamesCall = blamesWith sha256
 
 abbrev pub tickCall : State → (entry out : List ℕ) → Outcome
 tickCall = tickWith sha256
+
+-- document 02, F-6
+abbrev pub equivocationCall : Replica → (bytes : List ℕ) → Marked
+equivocationCall = equivocationWith sha256

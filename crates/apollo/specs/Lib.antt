@@ -15,6 +15,7 @@ pub mod Blame
 pub mod Tick
 pub mod Read
 pub mod Fetch
+pub mod Equivocation
 pub mod Calls
 pub mod Single
 pub mod BenchSheet

@@ -51,3 +51,6 @@ notASet = 16  -- blames of two rounds, or of one signer twice
 
 abbrev pub badRotation : ℕ
 badRotation = 17  -- open: not n seats, a card lacking, or a card twice
+
+abbrev pub notEquivocation : ℕ
+notEquivocation = 18  -- equivocation: equal digests, or two rounds

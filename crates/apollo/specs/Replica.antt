@@ -1,5 +1,5 @@
--- Document 01, "A card": the record, its updates, and its ranges; the rotation in it by document 02, F-4.
-use Prim.Native.Nat.{ℕ, _+_, _*_}
+-- Document 01, "A card": the record, its updates, and its ranges; in it the rotation by document 02, F-4, and the marks by F-6.
+use Prim.Native.Nat.{ℕ, _+_, _*_, _^_}
 use mathlib.Core.List.{List}
 use mathlib.Core.Bool.{Bool, _&&_, not}
 use lib.ListN.{length}
@@ -8,6 +8,7 @@ use Rattle.apollo.specs.declared.Replica.{Replica}
 use Rattle.apollo.specs.Bytes.{zeros, within}
 use Rattle.apollo.specs.Rotation.{padded}
 use Rattle.apollo.specs.Setup.{setupOf, replicas, leader, validRotation}
+use Rattle.apollo.specs.Masks.{setBit}
 
 -- the record with these in place of R, ticks left, tip and committed
 abbrev pub updated : Replica → (round timer tipRound tipHeight committedRound committedHeight : ℕ) → Replica
@@ -24,6 +25,7 @@ updated r round timer tipRound tipHeight committedRound committedHeight =
       «committed_round» = record { 0 = committedRound };
       «committed_height» = record { 0 = committedHeight };
       rotation = r .rotation;
+      equivocators = r .equivocators;
     }
 
 -- with another R
@@ -46,6 +48,28 @@ abbrev pub withCommitted : Replica → (round height : ℕ) → Replica
 withCommitted r round height =
     updated r (r .round .0) (r .timer .0) (r .«tip_round» .0) (r .«tip_height» .0) round height
 
+-- with other marks
+abbrev pub withEquivocators : Replica → (marks : ℕ) → Replica
+withEquivocators r marks =
+    record {
+      id = r .id;
+      f = r .f;
+      timeout = r .timeout;
+      «last_round» = r .«last_round»;
+      round = r .round;
+      timer = r .timer;
+      «tip_round» = r .«tip_round»;
+      «tip_height» = r .«tip_height»;
+      «committed_round» = r .«committed_round»;
+      «committed_height» = r .«committed_height»;
+      rotation = r .rotation;
+      equivocators = marks;
+    }
+
+-- with card i "marked"
+abbrev pub withMark : Replica → (i : ℕ) → Replica
+withMark r i = withEquivocators r (setBit i (r .equivocators))
+
 -- the record of an open, before entering
 unfoldable pub fresh : (id f timeout lastRound : ℕ) (rotation : List ℕ) → Replica
 fresh id f timeout lastRound rotation =
@@ -61,6 +85,7 @@ fresh id f timeout lastRound rotation =
       «committed_round» = record { 0 = 0 };
       «committed_height» = record { 0 = 0 };
       rotation = padded rotation;
+      equivocators = 0;
     }
 
 -- the record of zeros
@@ -78,17 +103,18 @@ zeroReplica =
       «committed_round» = record { 0 = 0 };
       «committed_height» = record { 0 = 0 };
       rotation = zeros 15;
+      equivocators = 0;
     }
 
 -- R ≤ T, and this replica leads R
 unfoldable pub leads : Replica → Bool
 leads r = leb (r .round .0) (r .«last_round» .0) && eqb (leader (setupOf r) (r .round .0)) (r .id)
 
--- own number, f, wait, T, and the length of the log
-unfoldable pub validSetup : Replica → (log : List ℕ) → Bool
-validSetup r log =
+-- own number, f, wait and T
+unfoldable pub validNumbers : Replica → Bool
+validNumbers r =
     ltb (r .id) (replicas (setupOf r)) && within 1 (r .f) 7 && within 1 (r .timeout .0) 60000
-    && within 1 (r .«last_round» .0) 4096 && eqb (length log) (512 * r .«last_round» .0)
+    && within 1 (r .«last_round» .0) 4096
 
 -- R, ticks left, tip and committed
 unfoldable pub validRounds : Replica → Bool
@@ -98,10 +124,26 @@ validRounds r =
     && leb (r .«committed_round» .0) (r .«tip_round» .0) && leb (r .«committed_height» .0) (r .«tip_height» .0)
     && leb (r .«committed_height» .0) (r .«committed_round» .0)
 
--- all fields in their ranges, and R not led by this replica
-unfoldable pub validReplica : Replica → (log : List ℕ) → Bool
-validReplica r log = validSetup r log && validRotation (setupOf r) && validRounds r && not (leads r)
+-- no mark is "a one at bit n or above"
+abbrev pub validMarks : Replica → Bool
+validMarks r = ltb (r .equivocators) (2 ^ replicas (setupOf r))
+
+-- the record by itself: all fields in their ranges, and R not led by this replica
+unfoldable pub validRecord : Replica → Bool
+validRecord r = validNumbers r && validRotation (setupOf r) && validRounds r && validMarks r && not (leads r)
+
+-- one slot a round
+abbrev pub validLog : Replica → (log : List ℕ) → Bool
+validLog r log = eqb (length log) (512 * r .«last_round» .0)
 
 -- one mask a round
 abbrev pub validMasks : Replica → (masks : List ℕ) → Bool
 validMasks r masks = eqb (length masks) (r .«last_round» .0)
+
+-- what open tests by 1, but for the masks
+unfoldable pub validSetup : Replica → (log : List ℕ) → Bool
+validSetup r log = validNumbers r && validLog r log
+
+-- the record with its log
+unfoldable pub validReplica : Replica → (log : List ℕ) → Bool
+validReplica r log = validRecord r && validLog r log

@@ -41,6 +41,7 @@ pub struct Replica {
     pub committed_round: Round,
     pub committed_height: Height,
     pub rotation: [u8; 15], // seating, zero past n
+    pub equivocators: u16, // marks, bit i for card i
 }
 
 // The answer of open, branch, blame, blames and tick (results).
@@ -49,6 +50,14 @@ pub struct Answer {
     pub number: u8, // 0 taken, else the refusal
     pub frames: u8, // frames put out
     pub leader: u8, // leader of the new R
+    pub place: u32,
+    pub replica: Replica, // record
+}
+
+// The answer of equivocation.
+#[repr(C)]
+pub struct Marked {
+    pub number: u8,
     pub place: u32,
     pub replica: Replica, // record
 }

@@ -32,3 +32,5 @@ pub const ABSENT: u8 = 15; // absent
 pub const NOT_A_SET: u8 = 16; // blames of two rounds, or of one signer twice
 
 pub const BAD_ROTATION: u8 = 17; // open: not n seats, a card lacking, or a card twice
+
+pub const NOT_EQUIVOCATION: u8 = 18; // two blocks with equal digests, or of two rounds

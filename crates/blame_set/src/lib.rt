@@ -23,19 +23,6 @@ fn refusal(number: u8) -> Verdict
     Verdict { number, place: 0 }
 }
 
-// 7 and 8 of one frame, 0 if it is refused by neither.
-fn fault(s: Setup, x: &[u8]) -> u8
-    ensures { λ k. ⌜ k ≡ Judging.fault sha256 (blameForm s) (now (x .entry)) ⌝ }
-{
-    if !frame_forms::checked(x) {
-        return apollo::refusal::BAD_DIGEST;
-    }
-    if !frame_forms::blame_form(s, x) {
-        return apollo::refusal::BAD_FORM;
-    }
-    0
-}
-
 // 7 and 8 of the frames, lowest first.
 fn judge_each(s: Setup, frames: &[u8]) -> Verdict
     requires { ⌜ length (now frames) ≤ 512 * 15 ⌝ }
@@ -46,7 +33,7 @@ fn judge_each(s: Setup, frames: &[u8]) -> Verdict
     while i < n {
         let a = 512 * i;
         let e = a + 512;
-        let number = fault(s, &frames[a..e]);
+        let number = frame_forms::blame_fault(s, &frames[a..e]);
         if number != 0 {
             return Verdict {
                 number,

@@ -57,19 +57,6 @@ pub fn attach(log: &[u8], x: &[u8]) -> Attachment
     }
 }
 
-// 7 and 8 of one frame, 0 if it is refused by neither.
-fn faulty(s: Setup, x: &[u8]) -> u8
-    ensures { λ k. ⌜ k ≡ Branch.faulty sha256 s (now (x .entry)) ⌝ }
-{
-    if !frame_forms::checked(x) {
-        return apollo::refusal::BAD_DIGEST;
-    }
-    if !frame_forms::block_form(s, x) {
-        return apollo::refusal::BAD_FORM;
-    }
-    0
-}
-
 // Frame x is the child of frame p.
 fn is_child(p: &[u8], x: &[u8]) -> bool
     ensures { λ b. ⌜ b ≡ Branch.childOf (now (p .entry)) (now (x .entry)) ⌝ }
@@ -84,7 +71,7 @@ fn is_child(p: &[u8], x: &[u8]) -> bool
 fn judge_next(s: Setup, p: &[u8], x: &[u8]) -> u8
     ensures { λ k. ⌜ k ≡ judgedNext s (now (p .entry)) (now (x .entry)) ⌝ }
 {
-    let number = faulty(s, x);
+    let number = frame_forms::block_fault(s, x);
     if number != 0 {
         return number;
     }
@@ -107,7 +94,7 @@ pub fn judge_frames(s: Setup, frames: &[u8]) -> Verdict
             place: 0,
         };
     }
-    let first = faulty(s, &frames[..512]);
+    let first = frame_forms::block_fault(s, &frames[..512]);
     if first != 0 {
         return Verdict {
             number: first,

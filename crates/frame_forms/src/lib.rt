@@ -1,8 +1,9 @@
-// One frame judged in place: its check, and its form as a block or as a blame. Every function takes slices of any length.
+// One frame judged in place: its check, its form as a block or as a blame, and 7 and 8 by these. Every function takes slices of any length.
 use apollo::Setup;
 ghost use mathlib.Core.Path.{_≡_};
 ghost use Rattle.apollo.specs.Bytes as Bytes;
 ghost use Rattle.apollo.specs.Frame as Frame;
+ghost use Rattle.apollo.specs.Judging.{fault};
 ghost use Rattle.sha256.specs.Fips.{sha256};
 
 fn within(lo: u32, n: u32, hi: u32) -> bool
@@ -63,4 +64,30 @@ pub fn blame_form(s: Setup, x: &[u8]) -> bool
         return false;
     }
     slices::is_blank(x, 8, 480)
+}
+
+// 7 and 8 of a block, 0 if it is refused by neither.
+pub fn block_fault(s: Setup, x: &[u8]) -> u8
+    ensures { λ k. ⌜ k ≡ fault sha256 (Frame.blockForm s) (now (x .entry)) ⌝ }
+{
+    if !checked(x) {
+        return apollo::refusal::BAD_DIGEST;
+    }
+    if !block_form(s, x) {
+        return apollo::refusal::BAD_FORM;
+    }
+    0
+}
+
+// 7 and 8 of a blame, 0 if it is refused by neither.
+pub fn blame_fault(s: Setup, x: &[u8]) -> u8
+    ensures { λ k. ⌜ k ≡ fault sha256 (Frame.blameForm s) (now (x .entry)) ⌝ }
+{
+    if !checked(x) {
+        return apollo::refusal::BAD_DIGEST;
+    }
+    if !blame_form(s, x) {
+        return apollo::refusal::BAD_FORM;
+    }
+    0
 }

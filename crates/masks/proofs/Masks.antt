@@ -1,15 +1,16 @@
 -- Masks of 16 bits: a power of two in a word, a mask reduced to n bits, its ones, and its bits. Assumes nothing.
 use mathlib.Core.Path.{_≡_, sym, ap}
-use mathlib.Core.Bool.{false}
+use mathlib.Core.Bool.{true, false}
 use mathlib.Core.List.{List}
 use Prim.Native.Nat.{ℕ, _+_, _-_, _*_, _/_, _%_, _^_, _≤_, _<_}
 use native.Mathlib.Nat.{one-mul, mod-eq-of-lt, div-eq-of-lt, lt-of-lt-of-le}
 use lib.Pow.{pow-lt, pow-mono, pow-pos}
 use lib.Bits.{bitOr}
 use lib.Count.{ones}
-use lib.Dec.{eqb, leb}
+use lib.Dec.{eqb, leb, ltb}
 use lib.ListN.{length, getD, set}
 use lib.Seq.{set-out}
+use borrow.Author.Tests.{lt-ltb}
 use Rattle.apollo.specs.Masks.{bit, setBit, mask, addBlame, certified}
 use Rattle.apollo.proofs.Masks.{ones-count, or-set, bit-shift}
 use Rattle.apollo.specs.declared.Setup.{Setup}
@@ -27,6 +28,10 @@ below-pow m n h g = lt-of-lt-of-le h (pow-mono g)
 -- nothing is dropped from a mask reduced to 16 bits or more
 pub reduced-whole : (m n : ℕ) → m < 2 ^ 16 → 16 ≤ n → m ≡ m % 2 ^ n
 reduced-whole m n h g = sym (mod-eq-of-lt (below-pow m n h g))
+
+-- nor does a mask of 16 bits reach 2 ^ n then
+pub fits-whole : (m n : ℕ) → m < 2 ^ 16 → 16 ≤ n → true ≡ ltb m (2 ^ n)
+fits-whole m n h g = sym (lt-ltb m (2 ^ n) (below-pow m n h g))
 
 -- the ones of the reduced mask, compared with f + 1
 pub enough : (s : Setup) (masks : List ℕ) (r m x : ℕ) → m ≡ mask masks r → x ≡ m % 2 ^ (2 * s .f + 1)

@@ -2,6 +2,7 @@
 use apollo::Setup;
 ghost use mathlib.Core.Path.{_≡_};
 ghost use Prim.Native.Nat.{_%_, _^_, _<_};
+ghost use lib.Dec.{ltb};
 ghost use Rattle.apollo.specs.Masks as Masks;
 
 // The mask of round r, 0 past the end.
@@ -42,6 +43,14 @@ pub fn with_bit(m: u16, i: u8) -> u16
     ensures { λ x. ⌜ x ≡ Masks.setBit i m ⌝ }
 {
     m | (1u16 << i)
+}
+
+// A mask has no bit at n or above.
+pub fn fits(m: u16, n: u32) -> bool
+    ensures { λ b. ⌜ b ≡ ltb m (2 ^ n) ⌝ }
+{
+    let w = m as u32;
+    if n < 16 { w < (1u32 << n) } else { true }
 }
 
 // Replica i's blame for round r is there.

@@ -5,8 +5,9 @@ use apollo::Round;
 use apollo::Setup;
 use apollo::Ticks;
 ghost use mathlib.Core.Path.{_≡_};
+ghost use Prim.Native.Nat.{_<_};
 ghost use Rattle.apollo.specs.Setup.{setupOf};
-ghost use Rattle.apollo.specs.Replica.{withRound, withTimer, withTip, withCommitted, fresh, zeroReplica};
+ghost use Rattle.apollo.specs.Replica.{withRound, withTimer, withTip, withCommitted, withMark, fresh, zeroReplica};
 
 // The set-up in a record.
 pub fn setup(r: Replica) -> Setup
@@ -38,6 +39,7 @@ pub fn fresh(id: u8, f: u8, timeout: Ticks, last_round: Round, rotation: &[u8]) 
         committed_round: Round(0),
         committed_height: Height(0),
         rotation: seats,
+        equivocators: 0,
     }
 }
 
@@ -58,6 +60,7 @@ pub fn zero_replica() -> Replica
         committed_round: Round(0),
         committed_height: Height(0),
         rotation,
+        equivocators: 0,
     }
 }
 
@@ -102,5 +105,16 @@ pub fn with_committed(r: Replica, round: u32, height: u32) -> Replica
     let h = Height(height);
     q.committed_round = committed;
     q.committed_height = h;
+    q
+}
+
+// The record with card i marked.
+pub fn with_mark(r: Replica, i: u8) -> Replica
+    requires { ⌜ i < 16 ⌝ }
+    ensures { λ q. ⌜ q ≡ withMark r i ⌝ }
+{
+    let mut q = r;
+    let marks = masks::with_bit(r.equivocators, i);
+    q.equivocators = marks;
     q
 }

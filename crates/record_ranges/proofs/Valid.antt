@@ -1,7 +1,6 @@
 -- The definitions that the code's tests make. Assumes nothing.
 use mathlib.Core.Path.{_≡_}
 use mathlib.Core.Bool.{Bool, _&&_, not}
-use mathlib.Core.List.{List}
 use Prim.Native.Nat.{ℕ}
 use lib.Dec.{eqb, leb}
 use lib.ListN.{take}
@@ -10,7 +9,7 @@ use Rattle.apollo.specs.declared.Setup.{Setup}
 use Rattle.apollo.specs.Bytes.{blank}
 use Rattle.apollo.specs.Rotation.{isRotation}
 use Rattle.apollo.specs.Setup.{setupOf, replicas, leader, validRotation}
-use Rattle.apollo.specs.Replica.{leads, validSetup, validRounds, validReplica}
+use Rattle.apollo.specs.Replica.{leads, validNumbers, validRounds, validMarks, validRecord}
 
 -- the test of a leader, from what the code found it to be
 pub leads-test : (r : Replica) (s : Setup) (l : ℕ) → s ≡ setupOf r → l ≡ leader s (r .round .0)
@@ -18,9 +17,9 @@ pub leads-test : (r : Replica) (s : Setup) (l : ℕ) → s ≡ setupOf r → l �
 unfolding leads
 leads-test r s l d e = rw (e, d)
 
--- the test of a record, from its four parts
-pub replica-test : (r : Replica) (log : List ℕ) {s t v l : Bool} → s ≡ validSetup r log
+-- the test of a record, from its five parts
+pub record-test : (r : Replica) {s t v m l : Bool} → s ≡ validNumbers r
     → t ≡ isRotation (replicas (setupOf r)) (take (replicas (setupOf r)) (r .rotation)) && blank (r .rotation) (replicas (setupOf r)) 15
-    → v ≡ validRounds r → l ≡ leads r → s && t && v && not l ≡ validReplica r log
-unfolding validReplica validRotation
-replica-test r log a b c d = rw (a, b, c, d)
+    → v ≡ validRounds r → m ≡ validMarks r → l ≡ leads r → s && t && v && m && not l ≡ validRecord r
+unfolding validRecord validRotation
+record-test r a b c d e = rw (a, b, c, d, e)

@@ -1,7 +1,7 @@
 // The tests of a record, for any numbers in it: who leads R, and the ranges of the fields and of what is lent beside them.
 use apollo::Replica;
 ghost use mathlib.Core.Path.{_≡_};
-ghost use Rattle.apollo.specs.Replica.{leads, validSetup, validRounds, validReplica, validMasks};
+ghost use Rattle.apollo.specs.Replica.{leads, validNumbers, validRounds, validMarks, validRecord, validLog, validMasks, validSetup, validReplica};
 
 // R ≤ T, and this replica leads R.
 pub fn leads(r: Replica) -> bool
@@ -12,19 +12,32 @@ pub fn leads(r: Replica) -> bool
     (round <= r.last_round.0) & (leader == r.id)
 }
 
-// Own number, f, timeout, T, and the length of the log are in range.
-pub fn valid_setup(r: Replica, log: &[u8]) -> bool
-    ensures { λ b. ⌜ b ≡ validSetup r (now (log .entry)) ⌝ }
+// Own number, f, timeout and T are in range.
+fn valid_numbers(r: Replica) -> bool
+    ensures { λ b. ⌜ b ≡ validNumbers r ⌝ }
 {
     let id = r.id as u32;
     let f = r.f as u32;
     let last = r.last_round.0;
-    let size = 512 * (last as usize);
     (id < 2 * f + 1)
         & ((1 <= f) & (f <= 7))
         & ((1 <= r.timeout.0) & (r.timeout.0 <= 60000))
         & ((1 <= last) & (last <= 4096))
-        & (log.len() == size)
+}
+
+// There is one slot a round.
+fn valid_log(r: Replica, log: &[u8]) -> bool
+    ensures { λ b. ⌜ b ≡ validLog r (now (log .entry)) ⌝ }
+{
+    let size = 512 * (r.last_round.0 as usize);
+    log.len() == size
+}
+
+// What open tests by 1, but for the masks.
+pub fn valid_setup(r: Replica, log: &[u8]) -> bool
+    ensures { λ b. ⌜ b ≡ validSetup r (now (log .entry)) ⌝ }
+{
+    valid_numbers(r) & valid_log(r, log)
 }
 
 // The fields that a call changes are in range. In two steps: the compiler joins the comparisons of one step into vectors, whose
@@ -47,13 +60,32 @@ fn valid_rounds(r: Replica) -> bool
         & (r.committed_height.0 <= r.committed_round.0)
 }
 
-// All fields and the length of the log are in range, and R is not led by this replica.
-pub fn valid_replica(r: Replica, log: &[u8]) -> bool
-    ensures { λ b. ⌜ b ≡ validReplica r (now (log .entry)) ⌝ }
+// No mark is at bit n or above.
+fn valid_marks(r: Replica) -> bool
+    ensures { λ b. ⌜ b ≡ validMarks r ⌝ }
+{
+    let n = 2 * (r.f as u32) + 1;
+    masks::fits(r.equivocators, n)
+}
+
+// The record by itself: all fields are in range, and R is not led by this replica.
+pub fn valid_record(r: Replica) -> bool
+    ensures { λ b. ⌜ b ≡ validRecord r ⌝ }
 {
     let seats = r.rotation;
     let n = 2 * (r.f as usize) + 1;
-    valid_setup(r, log) & rotation::valid_rotation(seats, n) & valid_rounds(r) & !leads(r)
+    valid_numbers(r)
+        & rotation::valid_rotation(seats, n)
+        & valid_rounds(r)
+        & valid_marks(r)
+        & !leads(r)
+}
+
+// The record with its log.
+pub fn valid_replica(r: Replica, log: &[u8]) -> bool
+    ensures { λ b. ⌜ b ≡ validReplica r (now (log .entry)) ⌝ }
+{
+    valid_record(r) & valid_log(r, log)
 }
 
 // There is one mask a round.

@@ -30,13 +30,13 @@ returns : tie.Need-returns Inv-loop μ-loop
 returns c =
     let f = c .before in
     let l = f .before .before .before in
-    each-stop (l .before .before .args .frames .now) _ (l .loop .i) _ _ (l .loop .inv .1) (f .before .before .loop-test .taken) _ (f .fault .ensures) (c .if1 .taken)
+    each-stop (l .before .before .args .frames .now) _ (l .loop .i) _ _ (l .loop .inv .1) (f .before .before .loop-test .taken) _ (f .blame-fault .ensures) (c .if1 .taken)
 
 loop-again : tie.Need-loop-again Inv-loop μ-loop
 loop-again c =
     let f = c .before in
     let l = f .before .before .before in
-    (search needs, each-more (l .before .before .args .frames .now) _ (l .loop .i) _ _ (l .loop .inv .1) (f .before .before .loop-test .taken) _ (f .fault .ensures) (c .if1 .left))
+    (search needs, each-more (l .before .before .args .frames .now) _ (l .loop .i) _ _ (l .loop .inv .1) (f .before .before .loop-test .taken) _ (f .blame-fault .ensures) (c .if1 .left))
 
 returns-2 : tie.Need-returns-2 Inv-loop μ-loop
 returns-2 c =

@@ -23,14 +23,14 @@ abbrev μ-loop : tie.MeasureT-loop
 returns : tie.Need-returns Inv-loop μ-loop
 returns c = judge-none _ (c .before .before .args .frames .now) _ (c .if1 .taken)
 
-slice-aggregate-faulty : tie.Need-slice-aggregate-faulty Inv-loop μ-loop
-slice-aggregate-faulty c = sym (length-take-le 512 (c .before .before .before .args .frames .now) (omega arith))
+slice-aggregate-block-fault : tie.Need-slice-aggregate-block-fault Inv-loop μ-loop
+slice-aggregate-block-fault c = sym (length-take-le 512 (c .before .before .before .args .frames .now) (omega arith))
 
 returns-2 : tie.Need-returns-2 Inv-loop μ-loop
-returns-2 c = judge-first _ (c .before .before .before .before .before .args .frames .now) _ (omega arith) (c .before .faulty .result) (c .before .faulty .ensures) (c .if2 .taken)
+returns-2 c = judge-first _ (c .before .before .before .before .before .args .frames .now) _ (omega arith) (c .before .block-fault .result) (c .before .block-fault .ensures) (c .if2 .taken)
 
 loop-holds : tie.Need-loop-holds Inv-loop μ-loop
-loop-holds c = (search needs, search needs, judge-start _ (c .before .before .before .before .before .args .frames .now) _ (omega arith) (c .before .faulty .result) (c .before .faulty .ensures) (c .if2 .left))
+loop-holds c = (search needs, search needs, judge-start _ (c .before .before .before .before .before .args .frames .now) _ (omega arith) (c .before .block-fault .result) (c .before .block-fault .ensures) (c .if2 .left))
 
 cast-place : tie.Need-cast-t23 Inv-loop μ-loop
 cast-place c =
@@ -53,7 +53,7 @@ judge-frames-spec =
     Inv-loop
     μ-loop
     returns
-    slice-aggregate-faulty
+    slice-aggregate-block-fault
     (λ c κs. search needs)
     returns-2
     loop-holds

@@ -24,6 +24,7 @@ returns c =
       «committed_round» = record { 0 = 0 };
       «committed_height» = record { 0 = 0 };
       rotation = seats;
+      equivocators = 0;
     }) (c .padded .ensures)
 
 pub fresh-spec : {M : Type 1} → statement M

@@ -1,5 +1,4 @@
 -- `record_ranges::valid_setup` meets its contract. Assumes nothing.
-use mathlib.Core.Path.{refl}
 use borrow.Author.Needs.{needs}
 use Rattle.apollo.specs.Replica.{validSetup}
 use Rattle.record_ranges.proofs.valid_setup.Statement.{statement}
@@ -7,16 +6,7 @@ use Rattle.record_ranges.proofs.valid_setup.Tie as tie
 
 returns : tie.Need-returns
 unfolding validSetup
-returns c = refl
+returns c = rw (c .before .valid-numbers .ensures, c .valid-log .ensures)
 
 pub valid-setup-spec : {M : Type 1} → statement M
-valid-setup-spec =
-    tie.close
-    (tie.spec
-    (λ c. search needs)
-    (λ c. search needs)
-    (λ c. search needs)
-    (λ c. search needs)
-    (λ c. search needs)
-    (λ c. search needs)
-    returns)
+valid-setup-spec = tie.close (tie.spec (λ c κs. search needs) (λ c κs. search needs) returns)
