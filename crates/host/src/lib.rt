@@ -3,6 +3,7 @@
 use apollo::Answer;
 use apollo::Fetched;
 use apollo::Height;
+use apollo::Marked;
 use apollo::Part;
 use apollo::Replica;
 use apollo::Round;
@@ -10,14 +11,14 @@ use apollo::Ticks;
 ghost use mathlib.Core.Path.{_≡_};
 ghost use Rattle.sha256.specs.Fips as Fips;
 ghost use Rattle.apollo.specs.Calls.{state, outcome, fetched};
-ghost use Rattle.apollo.specs.Calls.{openCall, branchCall, blameCall, blamesCall, tickCall, readCall, fetchCall};
+ghost use Rattle.apollo.specs.Calls.{openCall, branchCall, blameCall, blamesCall, tickCall, readCall, fetchCall, equivocationCall};
 
 // The version of the interface: APOLLO_VERSION of the header that belongs to this archive.
 #[no_mangle]
 pub extern "C" fn apollo_version() -> u32
-    ensures { λ v. ⌜ v ≡ 5 ⌝ }
+    ensures { λ v. ⌜ v ≡ 6 ⌝ }
 {
-    5
+    6
 }
 
 #[no_mangle]
@@ -118,6 +119,13 @@ pub extern "C" fn apollo_fetch(
     ensures { λ a. ⌜ fetched a (now (out .exit)) ≡ fetchCall replica (now (log .entry)) (height .0) (now (out .entry)) ⌝ }
 {
     call_fetch::fetch(replica, log, height, out)
+}
+
+#[no_mangle]
+pub extern "C" fn apollo_equivocation(replica: Replica, frames: &[u8]) -> Marked
+    ensures { λ a. ⌜ a ≡ equivocationCall replica (now (frames .entry)) ⌝ }
+{
+    call_equivocation::equivocation(replica, frames)
 }
 
 #[no_mangle]

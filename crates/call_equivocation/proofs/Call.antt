@@ -1,0 +1,137 @@
+-- Equivocation as the code answers it: two frames judged one after the other, then together, then the record. Assumes nothing.
+use mathlib.Core.Path.{_≡_, refl, sym, ap, _∙_}
+use mathlib.Core.Logic.{_≢_}
+use mathlib.Core.Bool.{Bool, true, false, _&&_, not, cond}
+use mathlib.Core.List.{List, [], _∷_}
+use Prim.Native.Nat.{ℕ, _<_}
+use native.Mathlib.Omega.{arith}
+use lib.Dec.{eqb}
+use lib.ListN.{length}
+use borrow.Author.Tests.{eq-eqb, ne-eqb}
+use Rattle.sha256.specs.Fips.{sha256}
+use Rattle.apollo.specs.declared.Replica.{Replica}
+use Rattle.apollo.specs.declared.Setup.{Setup}
+use Rattle.apollo.specs.declared.Marked.{Marked}
+use Rattle.apollo.specs.declared.Verdict.{Verdict}
+use Rattle.apollo.specs.Bytes.{same}
+use Rattle.apollo.specs.Setup.{setupOf, leader}
+use Rattle.apollo.specs.Frame.{round, digest, blockForm}
+use Rattle.apollo.specs.Replica.{withMark, validRecord}
+use Rattle.apollo.specs.Judging.{verdict, noRefusal, fault, judgedEach}
+use Rattle.apollo.specs.Equivocation.{marked, isPair, first, second, doubles, accusing, equivocationWith}
+use Rattle.apollo.specs.Calls.{equivocationCall}
+use Rattle.apollo.proofs.Tests.{cond-true, cond-false}
+use Rattle.apollo.proofs.Rotation.{leader-low}
+use Rattle.apollo.proofs.Validity.{record-turns}
+use Rattle.call_equivocation.specs.Judge.{judgedTwo, judgedPair}
+
+-- frame by frame
+module _ (s : Setup) (x y : List ℕ) (k : ℕ) (d : k ≡ fault sha256 (blockForm s) x) where
+  abbrev Each : Verdict → Type 0
+  Each v = v ≡ judgedEach sha256 (blockForm s) 0 (x ∷ y ∷ [])
+
+  pub first-bad : k ≢ 0 → Each (verdict k 0)
+  unfolding judgedEach
+  first-bad n = rw (← d, ne-eqb k 0 n)
+
+  module _ (z : k ≡ 0) (l : ℕ) (e : l ≡ fault sha256 (blockForm s) y) where
+    pub second-bad : l ≢ 0 → Each (verdict l 1)
+    unfolding judgedEach
+    second-bad n = rw (← d, eq-eqb k 0 z, ← e, ne-eqb l 0 n)
+
+    pub none-bad : l ≡ 0 → Each noRefusal
+    unfolding judgedEach
+    none-bad w = rw (← d, eq-eqb k 0 z, ← e, eq-eqb l 0 w)
+
+-- together
+module _ (x y : List ℕ) (p q : ℕ) (d : p ≡ round x) (e : q ≡ round y) where
+  pub two-rounds : p ≢ q → false ≡ doubles x y
+  unfolding doubles
+  two-rounds n = rw (← d, ← e, ne-eqb p q n)
+
+  pub one-round : p ≡ q → (b : Bool) → b ≡ same (digest x) (digest y) → not b ≡ doubles x y
+  unfolding doubles
+  one-round z b f = rw (← d, ← e, eq-eqb p q z, f)
+
+module _ (s : Setup) (x y : List ℕ) (v : Verdict) (d : v ≡ judgedEach sha256 (blockForm s) 0 (x ∷ y ∷ [])) where
+  pub two-faulty : v .number ≢ 0 → v ≡ judgedTwo s x y
+  unfolding judgedTwo
+  two-faulty n = rw (← d, ne-eqb (v .number) 0 n)
+
+  module _ (z : v .number ≡ 0) (b : Bool) (e : b ≡ doubles x y) where
+    pub two-alike : b ≡ false → verdict 18 0 ≡ judgedTwo s x y
+    unfolding judgedTwo
+    two-alike f = rw (← d, eq-eqb (v .number) 0 z, ← e, f)
+
+    pub two-doubled : b ≡ true → noRefusal ≡ judgedTwo s x y
+    unfolding judgedTwo
+    two-doubled t = rw (← d, eq-eqb (v .number) 0 z, ← e, t)
+
+module _ (s : Setup) (bytes : List ℕ) where
+  pub pair-cut : length bytes ≢ 1024 → verdict 6 0 ≡ judgedPair s bytes
+  unfolding judgedPair
+  pair-cut n = rw (ne-eqb (length bytes) 1024 n)
+
+  pub pair-whole : length bytes ≡ 1024 → (x y : List ℕ) (v : Verdict) → x ≡ first bytes → y ≡ second bytes → v ≡ judgedTwo s x y
+      → v ≡ judgedPair s bytes
+  unfolding judgedPair
+  pair-whole l x y v a b e = rw (eq-eqb (length bytes) 1024 l, ← a, ← b, e)
+
+-- what the call answers to a pair so judged
+unfoldable pub answered : Replica → (x : List ℕ) → Verdict → Marked
+answered r x v =
+    cond (eqb (v .number) 0) (marked 0 0 (withMark r (leader (setupOf r) (round x)))) (marked (v .number) (v .place) r)
+
+two-answer : (r : Replica) (x y : List ℕ) → answered r x (judgedTwo (setupOf r) x y) ≡ accusing sha256 r x y
+unfolding answered judgedTwo accusing
+two-answer r x y = go (eqb (judgedEach sha256 (blockForm (setupOf r)) 0 (x ∷ y ∷ []) .number) 0) refl (doubles x y) refl
+  where
+    go : (b : Bool) → eqb (judgedEach sha256 (blockForm (setupOf r)) 0 (x ∷ y ∷ []) .number) 0 ≡ b → (d : Bool) → doubles x y ≡ d
+        → answered r x (judgedTwo (setupOf r) x y) ≡ accusing sha256 r x y
+    go true e true f = rw (e, f)
+    go true e false f = rw (e, f)
+    go false e d f = rw e (rw e)
+
+module _ (r : Replica) (x : List ℕ) (v : Verdict) where
+  answered-none : v .number ≡ 0 → marked 0 0 (withMark r (leader (setupOf r) (round x))) ≡ answered r x v
+  unfolding answered
+  answered-none z = sym (cond-true _ _ (eq-eqb (v .number) 0 z))
+
+  answered-some : v .number ≢ 0 → marked (v .number) (v .place) r ≡ answered r x v
+  unfolding answered
+  answered-some n = sym (cond-false _ _ (ne-eqb (v .number) 0 n))
+
+pair-answer : (r : Replica) (bytes : List ℕ) → validRecord r ≡ true
+    → answered r (first bytes) (judgedPair (setupOf r) bytes) ≡ equivocationCall r bytes
+unfolding judgedPair equivocationWith
+pair-answer r bytes t = go (isPair bytes) refl
+  where
+    go : (b : Bool) → isPair bytes ≡ b → answered r (first bytes) (judgedPair (setupOf r) bytes) ≡ equivocationCall r bytes
+    go true e = rw (t, e) (two-answer r (first bytes) (second bytes))
+    go false e = unfold answered in rw (t, e)
+
+module _ (r : Replica) (bytes : List ℕ) (b : Bool) (e : b ≡ validRecord r) where
+  pub record-bad : (a : Marked) → a ≡ marked 2 0 r → b ≡ false → a ≡ equivocationCall r bytes
+  unfolding equivocationWith
+  record-bad a i f = rw (i, ← e, f)
+
+  module _ (t : b ≡ true) (s : Setup) (d : s ≡ setupOf r) (v : Verdict) (j : v ≡ judgedPair s bytes) where
+    by-verdict : answered r (first bytes) v ≡ equivocationCall r bytes
+    by-verdict = ap (answered r (first bytes)) (j ∙ ap (λ k. judgedPair k bytes) d) ∙ pair-answer r bytes (sym e ∙ t)
+
+    pub pair-refused : (a : Marked) → a ≡ marked (v .number) (v .place) r → v .number ≢ 0 → a ≡ equivocationCall r bytes
+    pair-refused a i n = i ∙ answered-some r (first bytes) v n ∙ by-verdict
+
+    module _ (x : List ℕ) (f : x ≡ first bytes) (q k : ℕ) (g : q ≡ round x) (h : k ≡ leader s q) where
+      leader-is : k ≡ leader (setupOf r) (round (first bytes))
+      leader-is = h ∙ ap (leader s) (g ∙ ap (λ (y : List ℕ). round y) f) ∙ ap (λ u. leader u (round (first bytes))) d
+
+      -- each card has a bit
+      pub card-low : k < 16
+      card-low =
+          let p = record-turns r (sym e ∙ t) in
+          omega (arith, leader-is, leader-low (setupOf r) (p .1) (round (first bytes)), p .0)
+
+      pub pair-taken : (m : Replica) (a : Marked) → m ≡ withMark r k → a ≡ marked 0 0 m → v .number ≡ 0 → a ≡ equivocationCall r bytes
+      pair-taken m a c i z =
+          i ∙ ap (marked 0 0) (c ∙ ap (withMark r) leader-is) ∙ answered-none r (first bytes) v z ∙ by-verdict
