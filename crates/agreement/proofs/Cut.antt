@@ -9,18 +9,20 @@ use lib.ListN.{length, take, drop}
 use lib.Dec.{eqb, ltb}
 use borrow.Author.Tests.{eqb-false}
 use Rattle.sha256.specs.Fips.{sha256}
+use Rattle.apollo.specs.declared.Marked.{Marked}
 use Rattle.apollo.specs.Setup.{setupOf}
 use Rattle.apollo.specs.Bytes.{same}
-use Rattle.apollo.specs.Frame.{round, frames, framesOf, wholeFrames, blameForm}
+use Rattle.apollo.specs.Frame.{round, frames, framesOf, wholeFrames, blockForm, blameForm}
 use Rattle.apollo.specs.Log.{attach}
-use Rattle.apollo.specs.Replica.{validReplica, validMasks}
+use Rattle.apollo.specs.Replica.{validRecord, validReplica, validMasks}
 use Rattle.apollo.specs.Enter.{State}
 use Rattle.apollo.specs.Judging.{judgedEach}
 use Rattle.apollo.specs.Outcome.{Outcome, refused, taken, guarded}
 use Rattle.apollo.specs.Branch.{lastOf, firstUncertified, grown, judgedAll, placed, branched, branchWith}
 use Rattle.apollo.specs.Blame.{oneSet, anyFresh, heard, handing}
+use Rattle.apollo.specs.Equivocation.{isPair, first, second, doubles, accusing, equivocationWith}
 use Rattle.apollo.proofs.Frames.{whole-true}
-use Rattle.agreement.specs.Run.{branch, blame, blames, tick, uncut, framesIn, answer}
+use Rattle.agreement.specs.Run.{branch, blame, blames, tick, equivocation, uncut, framesIn, recordOnly, answer}
 use Rattle.agreement.specs.Claim.{CutHandsNothing}
 use Rattle.agreement.proofs.Tests.{by-cond, cond-false}
 use Rattle.agreement.proofs.Judged.{each-low}
@@ -81,17 +83,38 @@ some-frame P h (suc n) bytes l = h (take 512 bytes) (frames n (drop 512 bytes))
 
 -- a call that judges the frames of a buffer of 1 to `most` whole frames, and does not answer 6 to them
 module _ (c : State) (bytes entry out : List ℕ) (most : ℕ) where
-  uncut-6 : (o : List (List ℕ) → Outcome) → ((x : List ℕ) (xs : List (List ℕ)) → If6 (uncut most bytes ≡ []) (o (x ∷ xs)))
-      → If6 (uncut most bytes ≡ []) (guarded c entry out (cond (wholeFrames most bytes) (o (framesOf bytes)) (refused c out 6 0)))
+  uncut-6 : (o : List (List ℕ) → Outcome) → ((x : List ℕ) (xs : List (List ℕ)) → If6 (uncut (wholeFrames most bytes) bytes ≡ []) (o (x ∷ xs)))
+      → If6 (uncut (wholeFrames most bytes) bytes ≡ []) (guarded c entry out (cond (wholeFrames most bytes) (o (framesOf bytes)) (refused c out 6 0)))
   uncut-6 o h =
       guarded-6 _ c entry out _
-      (by-cond (If6 (uncut most bytes ≡ [])) (wholeFrames most bytes)
-      (λ e. some-frame (λ xs. If6 (uncut most bytes ≡ []) (o xs)) h _ bytes (whole-true most bytes e .some))
+      (by-cond (If6 (uncut (wholeFrames most bytes) bytes ≡ [])) (wholeFrames most bytes)
+      (λ e. some-frame (λ xs. If6 (uncut (wholeFrames most bytes) bytes ≡ []) (o xs)) h _ bytes (whole-true most bytes e .some))
       (λ e z. unfold uncut in cond-false _ _ e))
 
-  handing-6 : If6 (uncut most bytes ≡ []) (handing sha256 most c bytes entry out)
+  handing-6 : If6 (uncut (wholeFrames most bytes) bytes ≡ []) (handing sha256 most c bytes entry out)
   unfolding handing
   handing-6 = uncut-6 (heard sha256 entry out c) (heard-6 _ c entry out)
+
+-- the call equivocation, and a buffer that is no pair
+module _ (c : State) (bytes : List ℕ) where
+  abbrev Of : Marked → Type 0
+  Of m = If6 (uncut (isPair bytes) bytes ≡ []) (recordOnly c m)
+
+  abbrev form : List ℕ → Bool
+  form = blockForm (setupOf (c .replica))
+
+  accused-6 : (x y : List ℕ) → Of (accusing sha256 (c .replica) x y)
+  unfolding accusing recordOnly
+  accused-6 x y =
+      by-cond Of (eqb (judgedEach sha256 form 0 (x ∷ y ∷ []) .number) 0)
+      (λ _. by-cond Of (doubles x y) (λ _ z. absurd (omega (arith, z))) (λ _ z. absurd (omega (arith, z))))
+      (λ _ z. absurd (eqb-false _ 6 (each-low sha256 form 0 (x ∷ y ∷ []) .2) z))
+
+  pair-6 : Of (equivocationWith sha256 (c .replica) bytes)
+  unfolding equivocationWith recordOnly
+  pair-6 =
+      by-cond Of (not (validRecord (c .replica))) (λ _ z. absurd (omega (arith, z)))
+      (λ _. by-cond Of (isPair bytes) (λ _. accused-6 (first bytes) (second bytes)) (λ e z. unfold uncut in cond-false _ _ e))
 
 pub cut : CutHandsNothing
 unfolding answer framesIn branchWith
@@ -100,3 +123,4 @@ cut c (branch bytes entry out) =
 cut c (blame bytes entry out) = handing-6 c bytes entry out 1
 cut c (blames bytes entry out) = handing-6 c bytes entry out 15
 cut c (tick entry out) = λ z. refl
+cut c (equivocation bytes) = pair-6 c bytes

@@ -1,5 +1,5 @@
 -- The state of a replica that keeps the rules, nobody presumed correct, and the effects that keep it good. Assumes nothing.
-use Prim.Native.Nat.{ℕ, suc, _+_, _*_, _≤_, _<_}
+use Prim.Native.Nat.{ℕ, suc, _+_, _*_, _^_, _≤_, _<_}
 use mathlib.Core.Path.{_≡_, refl, sym, ap, _∙_, subst}
 use mathlib.Core.Logic.{⊎-elim, _≢_}
 use mathlib.Core.List.{List}
@@ -13,10 +13,12 @@ use Rattle.apollo.specs.declared.Setup.{Setup}
 use Rattle.apollo.specs.Setup.{setupOf, replicas, validRotation}
 use Rattle.apollo.specs.Frame.{kind, signer, round, height}
 use Rattle.apollo.specs.Log.{slot, filled, highest}
-use Rattle.apollo.specs.Masks.{bit, mask, certified}
-use Rattle.apollo.specs.Replica.{leads}
+use Rattle.apollo.specs.Masks.{bit, setBit, mask, certified}
+use Rattle.apollo.specs.Replica.{leads, withMark}
+use Rattle.apollo.proofs.Masks.{bit-set-other, bit-kept, set-below}
 use Rattle.apollo.specs.Enter.{State, commitLimit, commit, tipped, waiting, hearing, holding, entered}
 use Rattle.agreement.specs.Run.{Event, Seen}
+use Rattle.agreement.specs.Marks.{Doubled}
 use Rattle.agreement.proofs.Masks.{mask-set, length-blame, certified-kept, certified-other}
 use Rattle.agreement.proofs.Slots.{highest-le, highest-filled, highest-grows}
 use Rattle.agreement.proofs.Chain.{Held, within}
@@ -108,36 +110,40 @@ committed-low {r} {log} h = omega (arith, h .committed-is, highest-le log (commi
 pub committed-held : {r : Replica} {log : List ℕ} → Renewed r log → Held (slot log) (r .«committed_round» .0)
 committed-held {r} {log} h = subst (Held (slot log)) (sym (h .committed-is)) (highest-filled log (commitLimit r))
 
--- A later state, also within a call, keeps the slots up to the committed round; neither that round nor the limit of commit falls.
+-- A later state, also within a call, keeps the slots up to the committed round and every mark; neither that round nor the limit of
+-- commit falls.
 pub record Extends (c d : State) : Type 0 where
   pub further : c .replica .«committed_round» .0 ≤ d .replica .«committed_round» .0
   pub limit : commitLimit (c .replica) ≤ commitLimit (d .replica)
+  pub marks : (k : ℕ) → bit k (c .replica .equivocators) ≡ true → bit k (d .replica .equivocators) ≡ true
   pub same-slots : (q : ℕ) → 1 ≤ q → q ≤ c .replica .«committed_round» .0 → slot (d .log) q ≡ slot (c .log) q
 
 pub extends-refl : (c : State) → Extends c c
-extends-refl c = record { further = omega arith; limit = omega arith; same-slots = λ q o l. refl }
+extends-refl c = record { further = omega arith; limit = omega arith; marks = λ k e. e; same-slots = λ q o l. refl }
 
 pub extends-trans : (c d e : State) → Extends c d → Extends d e → Extends c e
 extends-trans c d e g h =
     record {
       further = omega (arith, g .further, h .further);
       limit = omega (arith, g .limit, h .limit);
+      marks = λ k e. h .marks k (g .marks k e);
       same-slots = λ q o l. h .same-slots q o (omega (arith, g .further)) ∙ g .same-slots q o l;
     }
 
 pub wait-extends : (c : State) (R timer : ℕ) → c .replica .round .0 ≤ R → Extends c (waiting c R timer)
 unfolding waiting commitLimit
-wait-extends c R timer up = record { further = omega arith; limit = omega arith; same-slots = λ q o l. refl }
+wait-extends c R timer up = record { further = omega arith; limit = omega arith; marks = λ k e. e; same-slots = λ q o l. refl }
 
 pub hear-extends : (c : State) (r k : ℕ) → Extends c (hearing c r k)
 unfolding hearing
-hear-extends c r k = record { further = omega arith; limit = omega arith; same-slots = λ q o l. refl }
+hear-extends c r k = record { further = omega arith; limit = omega arith; marks = λ k e. e; same-slots = λ q o l. refl }
 
 -- a log that keeps the committed slots is held
 pub hold-extends : (c d : State) → Extends c d → (log : List ℕ) (t n : ℕ) → d .replica .round .0 ≤ t
     → ((q : ℕ) → 1 ≤ q → q ≤ c .replica .«committed_round» .0 → slot log q ≡ slot (c .log) q) → Extends c (holding d log t n)
 unfolding holding tipped commitLimit
-hold-extends c d x log t n up keep = record { further = x .further; limit = omega (arith, x .limit); same-slots = keep }
+hold-extends c d x log t n up keep =
+    record { further = x .further; limit = omega (arith, x .limit); marks = x .marks; same-slots = keep }
 
 -- committed is renewed at the end of a call on c
 pub enter-extends : (c d : State) → Renewed (c .replica) (c .log) → Extends c d → Extends c (entered d)
@@ -152,7 +158,45 @@ enter-extends c d r x =
                 (λ q o l. x .same-slots q o (omega (arith, r .committed-is))),
           );
       limit = x .limit;
+      marks = x .marks;
       same-slots = x .same-slots;
+    }
+
+-- the state with card k marked
+abbrev pub marking : State → (k : ℕ) → State
+marking c k = record { replica = withMark (c .replica) k; log = c .log; masks = c .masks }
+
+pub mark-extends : (c : State) (k : ℕ) → Extends c (marking c k)
+unfolding commitLimit
+mark-extends c k =
+    record {
+      further = omega arith;
+      limit = omega arith;
+      marks = λ j e. bit-kept k j (c .replica .equivocators) e;
+      same-slots = λ q o l. refl;
+    }
+
+pub mark-rested : (c : State) (k : ℕ) → Rested c → Rested (marking c k)
+unfolding leads commitLimit
+mark-rested c k r =
+    record {
+      idle = r .idle;
+      renewed = record { committed-is = r .renewed .committed-is; committed-height = r .renewed .committed-height };
+      ahead = r .ahead;
+    }
+
+doubled-grows : (s : Setup) (past now : List Event) → Grows past now → (k : ℕ) → Doubled s past k → Doubled s now k
+doubled-grows s past now g k d =
+    record {
+      one = d .one;
+      other = d .other;
+      one-seen = seen-grows past now g (d .one) (d .one-seen);
+      other-seen = seen-grows past now g (d .other) (d .other-seen);
+      one-block = d .one-block;
+      other-block = d .other-block;
+      one-round = d .one-round;
+      names-differ = d .names-differ;
+      led = d .led;
     }
 
 module _ (s : Setup) where
@@ -188,6 +232,8 @@ module _ (s : Setup) where
     pub timer-low : c .replica .timer .0 ≤ c .replica .timeout .0
     pub waits : (q : ℕ) → c .replica .«tip_round» .0 < q → q < c .replica .round .0 → certified s (c .masks) q ≡ true
     pub bits : (q k : ℕ) → 1 ≤ q → k < replicas s → bit k (mask (c .masks) q) ≡ true → Blamed past k q
+    pub marks-low : c .replica .equivocators < 2 ^ replicas s
+    pub marks : (k : ℕ) → bit k (c .replica .equivocators) ≡ true → Doubled s past k
 
   -- the past grew
   pub good-grows : (past now : List Event) (i : ℕ) (c : State) → Grows past now → Good past i c → Good now i c
@@ -202,6 +248,8 @@ module _ (s : Setup) where
         waits = h .waits;
         bits = λ q k o l e. let b : Blamed past k q = h .bits q k o l e in
             (b .0, seen-grows past now g (b .0) (b .1), b .2, b .3, b .4);
+        marks-low = h .marks-low;
+        marks = λ k e. doubled-grows s past now g k (h .marks k e);
       }
 
   module _ (past : List Event) (i : ℕ) (c : State) (h : Good past i c) where
@@ -219,6 +267,8 @@ module _ (s : Setup) where
           timer-low = short;
           waits = λ q a b. go q a b (leb (c .replica .round .0) q) refl;
           bits = h .bits;
+          marks-low = h .marks-low;
+          marks = h .marks;
         }
       where
         go : (q : ℕ) → c .replica .«tip_round» .0 < q → q < R → (z : Bool) → leb (c .replica .round .0) q ≡ z
@@ -239,10 +289,32 @@ module _ (s : Setup) where
           timer-low = h .timer-low;
           waits = λ q a e. certified-kept s (c .masks) r k q (h .waits q a e);
           bits = λ q j p l e. ⊎-elim (λ old. h .bits q j p l old) (λ new. at q j new) (mask-set (c .masks) r k q j o p e);
+          marks-low = h .marks-low;
+          marks = h .marks;
         }
       where
         at : (q j : ℕ) → (q ≡ r) × (j ≡ k) → Blamed past j q
         at q j e = (b .0, b .1, b .2, b .3 ∙ sym (e .1), b .4 ∙ sym (e .0))
+
+    -- a card is marked for two blocks that were seen
+    pub mark-good : (k : ℕ) → k < replicas s → Doubled s past k → Good past i (marking c k)
+    mark-good k low d =
+        record {
+          fixed = h .fixed;
+          masks-length = h .masks-length;
+          stored = h .stored;
+          tip-below = h .tip-below;
+          reach = h .reach;
+          timer-low = h .timer-low;
+          waits = h .waits;
+          bits = h .bits;
+          marks-low = set-below (replicas s) k (c .replica .equivocators) low (h .marks-low);
+          marks = λ j e. go j e (eqb j k) refl;
+        }
+      where
+        go : (j : ℕ) → bit j (setBit k (c .replica .equivocators)) ≡ true → (b : Bool) → eqb j k ≡ b → Doubled s past j
+        go j e true z = subst (Doubled s past) (sym (eqb-true _ _ z)) d
+        go j e false z = h .marks j (sym (bit-set-other j k (c .replica .equivocators) (eqb-false _ _ z)) ∙ e)
 
     -- a log with a tip at R or above is held
     pub hold-good : (log : List ℕ) (t n : ℕ) → Stored s past (c .masks) log t n → c .replica .round .0 ≤ t → Good past i (holding c log t n)
@@ -257,6 +329,8 @@ module _ (s : Setup) where
           timer-low = h .timer-low;
           waits = λ q a b. absurd (omega arith);
           bits = h .bits;
+          marks-low = h .marks-low;
+          marks = h .marks;
         }
 
     -- R is entered
@@ -272,6 +346,8 @@ module _ (s : Setup) where
           timer-low = omega arith;
           waits = h .waits;
           bits = h .bits;
+          marks-low = h .marks-low;
+          marks = h .marks;
         }
 
     -- every round below R is filled or certified

@@ -15,7 +15,8 @@ use Rattle.apollo.specs.Masks.{count, bit, mask, certified}
 use Rattle.apollo.specs.Enter.{State, commitLimit}
 use Rattle.agreement.specs.Run.{Event, emitted, In, Seen}
 use Rattle.agreement.proofs.Tests.{clash, either}
-use Rattle.agreement.proofs.Leaders.{leader-low, correct-mark, correct-round}
+use Rattle.apollo.proofs.Rotation.{leader-low}
+use Rattle.agreement.proofs.Leaders.{correct-mark, correct-round}
 use Rattle.agreement.proofs.Slots.{take-slots, highest-max}
 use Rattle.agreement.proofs.Chain.{filled-kind, within, agree}
 use Rattle.agreement.proofs.Stored.{Fact, Linked}

@@ -7,16 +7,13 @@ use mathlib.Core.Bool.{Bool, true, false, not}
 use native.Mathlib.Nat.{div-add-mod', mod-lt, mul-le-mul-right, suc-mul}
 use native.Mathlib.Omega.{arith}
 use lib.Dec.{eqb, leb, ltb}
-use lib.ListN.{getD, take}
-use lib.Seq.{getD-take}
+use lib.ListN.{getD}
 use borrow.Author.Tests.{eqb-true, eqb-false, leb-true, leb-false, ltb-true, ltb-false, not-false}
 use Rattle.apollo.specs.declared.Setup.{Setup}
-use Rattle.apollo.specs.Rotation.{isRotation}
 use Rattle.apollo.specs.Setup.{replicas, leader, validRotation}
 use Rattle.apollo.specs.Masks.{count}
-use Rattle.apollo.proofs.Rotation.{seat-low, seats-differ}
+use Rattle.apollo.proofs.Rotation.{seats-differ, seated, seat, leader-low}
 use Rattle.agreement.specs.Claim.{LeadersDiffer}
-use Rattle.agreement.proofs.Tests.{and-true}
 use Rattle.agreement.proofs.Counts.{more, spread}
 
 -- two of n rounds in a row have different seats
@@ -36,40 +33,25 @@ apart-mod n a d pos low e = go (leb ((a + d) / n) (a / n)) refl
           e,
         )
 
--- the seats of a valid rotation, as those of n cards
+-- two seats of a valid rotation have different cards
 module _ (s : Setup) (v : validRotation s ≡ true) where
-  abbrev n : ℕ
-  n = replicas s
-
-  seated : isRotation n (take n (s .rotation)) ≡ true
-  unfolding validRotation
-  seated = and-true _ _ v .0
-
-  seat : (k : ℕ) → k < n → getD (take n (s .rotation)) k 0 ≡ getD (s .rotation) k 0
-  seat k l = getD-take n (s .rotation) k 0 l
-
-  apart : (j k : ℕ) → j ≢ k → j < n → k < n → getD (s .rotation) j 0 ≢ getD (s .rotation) k 0
+  apart : (j k : ℕ) → j ≢ k → j < replicas s → k < replicas s → getD (s .rotation) j 0 ≢ getD (s .rotation) k 0
   apart j k ne a b e = go (ltb j k) refl
     where
       go : (t : Bool) → ltb j k ≡ t → ⊥
-      go true t = seats-differ n _ seated j k (ltb-true j k t) b (seat j a ∙ e ∙ sym (seat k b))
+      go true t = seats-differ (replicas s) _ (seated s v) j k (ltb-true j k t) b (seat s v j a ∙ e ∙ sym (seat s v k b))
       go false t =
           let l : k ≤ j = ltb-false j k t in
-          seats-differ n _ seated k j (omega arith) a (seat k b ∙ sym e ∙ sym (seat j a))
+          seats-differ (replicas s) _ (seated s v) k j (omega arith) a (seat s v k b ∙ sym e ∙ sym (seat s v j a))
 
--- The only two laws about leaders that the proof of demand 3 uses: n rounds in a row have different ones, and each is a replica's number.
+-- The only two laws about leaders that the proof of demand 3 uses: n rounds in a row have different ones, and each is a replica's number
+-- (`leader-low`).
 pub leaders-differ : LeadersDiffer
 unfolding leader
 leaders-differ s v r q one lt near =
     apart s v ((r - 1) % replicas s) ((q - 1) % replicas s)
     (λ e. apart-mod (replicas s) (r - 1) (q - r) (omega arith) (omega arith) (e ∙ ap (λ k. k % replicas s) (omega arith)))
     (mod-lt (r - 1) (omega arith)) (mod-lt (q - 1) (omega arith))
-
-pub leader-low : (s : Setup) → validRotation s ≡ true → (r : ℕ) → leader s r < replicas s
-unfolding leader
-leader-low s v r =
-    let l : (r - 1) % replicas s < replicas s = mod-lt (r - 1) (omega arith) in
-    omega (arith, seat s v ((r - 1) % replicas s) l, seat-low (replicas s) _ (seated s v) ((r - 1) % replicas s) l)
 
 -- the first round of k from r on that passes, or none does
 Row : (ℕ → Bool) → ℕ → ℕ → Type 0

@@ -17,6 +17,7 @@ pub mod Outcomes
 pub mod Tick
 pub mod Blame
 pub mod Branch
+pub mod Equivocation
 pub mod Open
 pub mod World
 pub mod Honest

@@ -7,6 +7,7 @@ use mathlib.Core.Bool.{Bool, true, false, not, _&&_}
 use native.Mathlib.Omega.{arith}
 use lib.ListN.{length, getD, replicate, getD-replicate, List·getD-eq-default, length-replicate}
 use lib.Dec.{leb, ltb, eqb}
+use lib.Pow.{pow-pos}
 use borrow.Author.Tests.{lt-leb, leb-true, leb-false, ltb-false, eqb-false, not-false}
 use Rattle.sha256.specs.Fips.{sha256}
 use Rattle.apollo.specs.declared.Setup.{Setup}
@@ -94,6 +95,8 @@ module _ (s : Setup) (past : List Event) (i : ℕ) where
           timer-low = omega arith;
           waits = λ q a b. absurd (omega arith);
           bits = λ q k o l e. absurd (clash e (ap (bit k) (mask-zero last q) ∙ bit-zero k));
+          marks-low = pow-pos (2 * s .f + 1);
+          marks = λ k e. absurd (clash e (bit-zero k));
         }
 
     first-renewed : Renewed (first .replica) log

@@ -1,6 +1,6 @@
 -- A good state after a call meets no refusal 2. Assumes nothing.
-use Prim.Native.Nat.{ℕ, _*_, _≤_}
-use mathlib.Core.Path.{_≡_, sym, ap, _∙_}
+use Prim.Native.Nat.{ℕ, _+_, _*_, _^_, _≤_, _<_}
+use mathlib.Core.Path.{_≡_, sym, ap, _∙_, subst}
 use mathlib.Core.List.{List}
 use mathlib.Core.Bool.{true, _&&_}
 use native.Mathlib.Omega.{arith}
@@ -8,9 +8,9 @@ use borrow.Author.Tests.{eq-eqb}
 use Rattle.apollo.specs.declared.Setup.{Setup}
 use Rattle.apollo.specs.Setup.{validRotation}
 use Rattle.apollo.specs.Log.{slot}
-use Rattle.apollo.specs.Replica.{validReplica, validMasks}
+use Rattle.apollo.specs.Replica.{validRecord, validLog, validReplica, validMasks}
 use Rattle.apollo.specs.Enter.{State}
-use Rattle.apollo.proofs.Tests.{both}
+use Rattle.apollo.proofs.Tests.{and-true, both}
 use Rattle.apollo.proofs.Validity.{ValidSetup, Valid, valid-of}
 use Rattle.agreement.specs.Run.{Event}
 use Rattle.agreement.proofs.Chain.{held-level, rises}
@@ -64,6 +64,7 @@ module _ (s : Setup) (past : List Event) (i : ℕ) (c : State) (g : Good s past 
         committed-most = committed-tip s past i c g r;
         committed-height-most = height-tip;
         committed-height = height-round;
+        marks = subst (λ k. c .replica .equivocators < 2 ^ (2 * k + 1)) (sym (g .fixed .f-is)) (g .marks-low);
         waits = rests .idle;
       }
 
@@ -71,3 +72,8 @@ module _ (s : Setup) (past : List Event) (i : ℕ) (c : State) (g : Good s past 
   valid =
       both (validReplica (c .replica) (c .log)) (validMasks (c .replica) (c .masks)) (valid-of (c .replica) (c .log) valid-record)
       (eq-eqb _ _ (g .masks-length ∙ sym (g .fixed .last-is)))
+
+  -- and the record by itself
+  pub valid-own : validRecord (c .replica) ≡ true
+  unfolding validReplica
+  valid-own = and-true (validRecord (c .replica)) (validLog (c .replica) (c .log)) (valid-of (c .replica) (c .log) valid-record) .0

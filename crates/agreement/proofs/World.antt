@@ -12,8 +12,9 @@ use Rattle.apollo.specs.declared.Setup.{Setup}
 use Rattle.apollo.specs.Frame.{kind, round, framesOf, wholeFrames}
 use Rattle.apollo.specs.Enter.{State}
 use Rattle.apollo.specs.Outcome.{Outcome}
+use Rattle.apollo.specs.Equivocation.{isPair}
 use Rattle.apollo.specs.Calls.{openCall}
-use Rattle.agreement.specs.Run.{Act, branch, blame, blames, tick, Call, opening, act, Event, handed, emitted, answered, In, World, start, uncut, framesIn, hand, emit, emittedBy, note, stateOf, after, opened, answer, callAt, step, run}
+use Rattle.agreement.specs.Run.{Act, branch, blame, blames, tick, equivocation, Call, opening, act, Event, handed, emitted, answered, In, World, start, uncut, framesIn, hand, emit, emittedBy, note, stateOf, after, opened, answer, callAt, step, run}
 use Rattle.agreement.specs.Premises.{Each, Lawful}
 use Rattle.agreement.proofs.Tests.{by-cond, cond-true}
 use Rattle.agreement.proofs.Past.{Grows, emitted-is, emit-grows, emit-back, hand-grows, hand-in, Given, hand-back}
@@ -25,6 +26,7 @@ use Rattle.agreement.proofs.Outcomes.{Reverts, Fine}
 use Rattle.agreement.proofs.Tick.{tick-fine}
 use Rattle.agreement.proofs.Blame.{handing-fine}
 use Rattle.agreement.proofs.Branch.{branch-fine}
+use Rattle.agreement.proofs.Equivocation.{equivocation-fine}
 use Rattle.agreement.proofs.Open.{OpenFine, open-fine}
 
 -- what an answer adds to the past: itself, and frames that its replica emitted
@@ -184,22 +186,23 @@ module _ (s : Setup) where
         }
 
   -- the frames of a buffer that is not cut are seen
-  known-uncut : (past : List Event) (most : ℕ) (bytes : List ℕ) → Known s past (uncut most bytes) → wholeFrames most bytes ≡ true
+  known-uncut : (past : List Event) (whole : Bool) (bytes : List ℕ) → Known s past (uncut whole bytes) → whole ≡ true
       → Known s past (framesOf bytes)
   unfolding uncut
-  known-uncut past most bytes k e = subst (Known s past) (cond-true _ _ e) k
+  known-uncut past whole bytes k e = subst (Known s past) (cond-true _ _ e) k
 
   -- each call other than open keeps the state: the one place that names them
   act-fine : (past : List Event) (i : ℕ) (c : State) (a : Act) → Known s past (framesIn c a) → Standing s past i c
       → Rested c → Fine s past i c (answer c a)
   unfolding answer framesIn
   act-fine past i c (branch bytes entry out) k st r =
-      branch-fine s past i entry c st r bytes out (known-uncut past (c .replica .«last_round» .0) bytes k)
+      branch-fine s past i entry c st r bytes out (known-uncut past (wholeFrames (c .replica .«last_round» .0) bytes) bytes k)
   act-fine past i c (blame bytes entry out) k st r =
-      handing-fine s past i entry c st r 1 bytes out (known-uncut past 1 bytes k)
+      handing-fine s past i entry c st r 1 bytes out (known-uncut past (wholeFrames 1 bytes) bytes k)
   act-fine past i c (blames bytes entry out) k st r =
-      handing-fine s past i entry c st r 15 bytes out (known-uncut past 15 bytes k)
+      handing-fine s past i entry c st r 15 bytes out (known-uncut past (wholeFrames 15 bytes) bytes k)
   act-fine past i c (tick entry out) k st r = tick-fine s past i entry c st r out
+  act-fine past i c (equivocation bytes) k st r = equivocation-fine s past i c st r bytes (known-uncut past (isPair bytes) bytes k)
 
   -- What a call does to the states: each that was there is still there, and extended.
   abbrev pub Grown : World → World → Type 0

@@ -5,13 +5,15 @@ use mathlib.Core.Path.{_≡_}
 use mathlib.Core.Logic.{_⊎_}
 use mathlib.Core.Option.{Option, none, some}
 use mathlib.Core.List.{List, [], _∷_}
-use mathlib.Core.Bool.{cond}
+use mathlib.Core.Bool.{Bool, cond}
 use lib.Dec.{eqb}
 use Rattle.sha256.specs.Fips.{sha256}
+use Rattle.apollo.specs.declared.Marked.{Marked}
 use Rattle.apollo.specs.Frame.{frames, framesOf, wholeFrames, checked}
 use Rattle.apollo.specs.Enter.{State}
 use Rattle.apollo.specs.Outcome.{Outcome}
-use Rattle.apollo.specs.Calls.{openCall, branchCall, blameCall, blamesCall, tickCall}
+use Rattle.apollo.specs.Equivocation.{isPair}
+use Rattle.apollo.specs.Calls.{openCall, branchCall, blameCall, blamesCall, tickCall, equivocationCall}
 
 -- a call other than open, with the bytes handed in and the buffers lent, whatever they hold
 pub data Act : Type 0 where
@@ -20,6 +22,8 @@ pub data Act : Type 0 where
   -- document 02, F-1: a set of blames
   blames : (bytes entry out : List ℕ) → Act
   tick : (entry out : List ℕ) → Act
+  -- document 02, F-6: two blocks of one round
+  equivocation : (bytes : List ℕ) → Act
 
 -- a call
 pub data Call : Type 0 where
@@ -50,16 +54,17 @@ pub record World : Type 0 where
 unfoldable pub start : World
 start = record { states = λ i. none; past = [] }
 
--- the frames of a buffer of 1 to `most` whole frames; any other buffer is cut (refusal 6), and no frame is handed in by it
-unfoldable pub uncut : (most : ℕ) (bytes : List ℕ) → List (List ℕ)
-uncut most bytes = cond (wholeFrames most bytes) (framesOf bytes) []
+-- the frames of a buffer that is whole, as its call asks; any other is cut (refusal 6), and no frame is handed in by it
+unfoldable pub uncut : (whole : Bool) (bytes : List ℕ) → List (List ℕ)
+uncut whole bytes = cond whole (framesOf bytes) []
 
 -- the frames that a call hands in at a replica in state c, whatever it answers
 unfoldable pub framesIn : State → Act → List (List ℕ)
-framesIn c (branch bytes entry out) = uncut (c .replica .«last_round» .0) bytes
-framesIn c (blame bytes entry out) = uncut 1 bytes
-framesIn c (blames bytes entry out) = uncut 15 bytes
+framesIn c (branch bytes entry out) = uncut (wholeFrames (c .replica .«last_round» .0) bytes) bytes
+framesIn c (blame bytes entry out) = uncut (wholeFrames 1 bytes) bytes
+framesIn c (blames bytes entry out) = uncut (wholeFrames 15 bytes) bytes
 framesIn c (tick entry out) = []
+framesIn c (equivocation bytes) = uncut (isPair bytes) bytes
 
 -- the past after some frames were handed in: those with a right check count
 unfoldable pub hand : List (List ℕ) → List Event → List Event
@@ -91,12 +96,23 @@ after w i o = record { states = λ j. cond (eqb i j) (some (stateOf o)) (w .stat
 unfoldable pub opened : World → ℕ → Outcome → World
 opened w i o = cond (eqb (o .answer .number) 0) (after w i o) (record { states = w .states; past = note i o (w .past) })
 
+-- the outcome of a call that is lent the record alone: log and masks stay, nothing is emitted, and no leader is told
+unfoldable pub recordOnly : State → Marked → Outcome
+recordOnly c m =
+    record {
+      answer = record { number = m .number; frames = 0; leader = 255; place = m .place; replica = m .replica };
+      log = c .log;
+      masks = c .masks;
+      out = [];
+    }
+
 -- what a call answers at a replica in state c
 unfoldable pub answer : State → Act → Outcome
 answer c (branch bytes entry out) = branchCall c bytes entry out
 answer c (blame bytes entry out) = blameCall c bytes entry out
 answer c (blames bytes entry out) = blamesCall c bytes entry out
 answer c (tick entry out) = tickCall c entry out
+answer c (equivocation bytes) = recordOnly c (equivocationCall (c .replica) bytes)
 
 -- A call at replica i with the state that its last call left: its frames are handed in, and it is answered. Without a state
 -- nothing happens, and the premises rule it out.

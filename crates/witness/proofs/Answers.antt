@@ -12,7 +12,7 @@ use Rattle.apollo.specs.Setup.{leader, validRotation}
 use Rattle.apollo.specs.Frame.{frames, wholeFrames, checked, blockForm, blameForm, linked, blockHead, blameHead, sealed, makeBlock, makeBlame}
 use Rattle.apollo.specs.Log.{genesis, slot, store, clearAbove, attach, highest}
 use Rattle.apollo.specs.Masks.{bit, setBit, count, certified, gap}
-use Rattle.apollo.specs.Replica.{fresh, leads, validSetup, validRounds, validReplica}
+use Rattle.apollo.specs.Replica.{withEquivocators, fresh, leads, validNumbers, validRounds, validRecord, validSetup, validReplica}
 use Rattle.apollo.specs.Enter.{State, commitLimit, commit, tipped, waiting, hearing, holding, entered, ownBlock, proposing, enterRound, settle}
 use Rattle.apollo.specs.Judging.{fault, judgedEach}
 use Rattle.apollo.specs.Outcome.{Outcome, taken, guarded}
@@ -20,8 +20,9 @@ use Rattle.apollo.specs.Open.{openWith}
 use Rattle.apollo.specs.Branch.{lastOf, firstUncertified, storeAll, grown, judged, judgedAll, adopting, placed, branched, branchWith}
 use Rattle.apollo.specs.Blame.{oneSet, anyFresh, addBlames, hearingAll, heard, handing}
 use Rattle.apollo.specs.Tick.{blaming, ticked, tickWith}
-use Rattle.apollo.specs.Calls.{openCall, branchCall, blameCall, blamesCall, tickCall}
-use Rattle.witness.proofs.Frames.{d1, d3, d4, e0, e2, head1, head3, head4, head-m0, head-m2, b1, b3, b4, m0, m2, name1, name3, name4, name-m0, name-m2, checked1, checked3, checked4, checked-m0, checked-m2}
+use Rattle.apollo.specs.Equivocation.{marked, doubles, accusing, equivocationWith}
+use Rattle.apollo.specs.Calls.{openCall, branchCall, blameCall, blamesCall, tickCall, equivocationCall}
+use Rattle.witness.proofs.Frames.{d1, d2, d2′, d3, d4, e0, e2, head1, head2, head2′, head3, head4, head-m0, head-m2, b1, b2, b2′, b3, b4, m0, m2, name1, name3, name4, name-m0, name-m2, checked1, checked2, checked2′, checked3, checked4, checked-m0, checked-m2}
 
 unfoldable pub out : List ℕ
 out = zeros 1024
@@ -60,6 +61,7 @@ stateAt id round timer tip committed log mask =
             «committed_round» = record { 0 = committed .0 };
             «committed_height» = record { 0 = committed .1 };
             rotation = padded rotation;
+            equivocators = 0;
           };
       log = log;
       masks = 0 ∷ mask ∷ 0 ∷ 0 ∷ [];
@@ -71,7 +73,7 @@ made c xs = taken (record { state = c; emitted = xs }) out
 
 -- all that computes, but for SHA-256 and the test of a check
 unfoldable pub all : Unit {0}
-unfolding out rotation log0 log1 log3 log4 stateAt made b1 b3 b4 m0 m2 head1 head3 head4 head-m0 head-m2 d1 d3 d4 e0 e2 blockHead blameHead zeros number2 number4 same seats eachOnce isRotation padded leader validRotation frames wholeFrames blockForm blameForm linked sealed makeBlock makeBlame genesis slot store clearAbove attach highest bit setBit count certified gap fresh leads validSetup validRounds validReplica commitLimit commit tipped waiting hearing holding entered ownBlock proposing enterRound settle taken guarded openWith lastOf firstUncertified storeAll grown fault judgedEach judged judgedAll adopting placed branched branchWith oneSet anyFresh addBlames hearingAll heard handing blaming ticked tickWith
+unfolding out rotation log0 log1 log3 log4 stateAt made b1 b2 b2′ b3 b4 m0 m2 head1 head2 head2′ head3 head4 head-m0 head-m2 d1 d2 d2′ d3 d4 e0 e2 blockHead blameHead zeros number2 number4 same seats eachOnce isRotation padded leader validRotation frames wholeFrames blockForm blameForm linked sealed makeBlock makeBlame genesis slot store clearAbove attach highest bit setBit count certified gap fresh leads validNumbers validRounds validRecord validSetup validReplica commitLimit commit tipped waiting hearing holding entered ownBlock proposing enterRound settle taken guarded openWith lastOf firstUncertified storeAll grown fault judgedEach judged judgedAll adopting placed branched branchWith oneSet anyFresh addBlames hearingAll heard handing blaming ticked tickWith doubles accusing equivocationWith
 all = tt
 
 -- Replica 1 opens.
@@ -179,3 +181,11 @@ last-0 = stateAt 0 5 1 (4, 3) (3, 2) log4 5
 pub take-4 : branchCall skipped-0 b4 [] out ≡ made last-0 []
 unfolding all skipped-0 last-0
 take-4 = rw checked4 refl
+
+-- The rounds are over for it. It is handed two blocks of round 2, and marks replica 1, which led that round.
+unfoldable pub marked-0 : State
+marked-0 = record { replica = withEquivocators (last-0 .replica) 2; log = log4; masks = 0 ∷ 5 ∷ 0 ∷ 0 ∷ [] }
+
+pub mark-1 : equivocationCall (last-0 .replica) (b2 ++ b2′) ≡ marked 0 0 (marked-0 .replica)
+unfolding all last-0 marked-0
+mark-1 = rw (checked2, checked2′) refl

@@ -1,5 +1,6 @@
 -- The frames of the witness of demand 3, their digests as SHA-256 computes them: the blocks of rounds 1, 3 and 4, with empty entries,
--- each on the one before, and the blames of replicas 0 and 2 for round 2. Assumes nothing.
+-- each on the one before, the blames of replicas 0 and 2 for round 2, and two blocks of round 2 on block 1, one of them with an entry.
+-- Assumes nothing.
 use Prim.Native.Nat.{ℕ}
 use mathlib.Core.Path.{_≡_, refl, sym}
 use mathlib.Core.List.{List, [], _∷_, _++_}
@@ -28,6 +29,18 @@ d4 =
     ∷ 0x08 ∷ 0xf8 ∷ 0x0d ∷ 0x2d ∷ 0xb7 ∷ 0x29 ∷ 0x8e ∷ 0xb6 ∷ 0x22 ∷ 0xd1 ∷ 0x62 ∷ 0x4c ∷ 0xc3 ∷ 0x19 ∷ 0x6a ∷ 0xb6
     ∷ []
 
+unfoldable pub d2 : List ℕ
+d2 =
+    0x22 ∷ 0x49 ∷ 0xdf ∷ 0x93 ∷ 0x8d ∷ 0x17 ∷ 0xf9 ∷ 0xd8 ∷ 0x71 ∷ 0x0c ∷ 0x47 ∷ 0x7e ∷ 0x73 ∷ 0xa9 ∷ 0x97 ∷ 0x20
+    ∷ 0xbd ∷ 0xe5 ∷ 0x16 ∷ 0xbb ∷ 0x68 ∷ 0x81 ∷ 0xb2 ∷ 0xd8 ∷ 0xc4 ∷ 0x43 ∷ 0x5f ∷ 0xa9 ∷ 0x9c ∷ 0xf7 ∷ 0x97 ∷ 0xeb
+    ∷ []
+
+unfoldable pub d2′ : List ℕ
+d2′ =
+    0x26 ∷ 0x39 ∷ 0x22 ∷ 0x49 ∷ 0x96 ∷ 0x77 ∷ 0x6c ∷ 0x52 ∷ 0xbf ∷ 0xb3 ∷ 0xca ∷ 0x1d ∷ 0x91 ∷ 0x1e ∷ 0xd2 ∷ 0xc7
+    ∷ 0xb2 ∷ 0xe6 ∷ 0xd8 ∷ 0x83 ∷ 0x2e ∷ 0x58 ∷ 0x20 ∷ 0x1f ∷ 0xf1 ∷ 0x68 ∷ 0xe0 ∷ 0xff ∷ 0x46 ∷ 0xd0 ∷ 0x31 ∷ 0x83
+    ∷ []
+
 unfoldable pub e0 : List ℕ
 e0 =
     0xc0 ∷ 0x1f ∷ 0xa5 ∷ 0x85 ∷ 0x20 ∷ 0x87 ∷ 0xf2 ∷ 0xaa ∷ 0x48 ∷ 0xe5 ∷ 0xe5 ∷ 0xcd ∷ 0x82 ∷ 0x41 ∷ 0x56 ∷ 0xf8
@@ -50,6 +63,12 @@ head3 = blockHead 0 3 2 d1 []
 unfoldable pub head4 : List ℕ
 head4 = blockHead 2 4 3 d3 []
 
+unfoldable pub head2 : List ℕ
+head2 = blockHead 1 2 2 d1 []
+
+unfoldable pub head2′ : List ℕ
+head2′ = blockHead 1 2 2 d1 (1 ∷ [])
+
 unfoldable pub head-m0 : List ℕ
 head-m0 = blameHead 0 2
 
@@ -65,6 +84,12 @@ b3 = head3 ++ d3
 
 unfoldable pub b4 : List ℕ
 b4 = head4 ++ d4
+
+unfoldable pub b2 : List ℕ
+b2 = head2 ++ d2
+
+unfoldable pub b2′ : List ℕ
+b2′ = head2′ ++ d2′
 
 unfoldable pub m0 : List ℕ
 m0 = head-m0 ++ e0
@@ -84,6 +109,14 @@ name3 = refl
 pub name4 : sha256 head4 ≡ d4
 unfolding K padded schedule t1 round rounds plus compress hash sha256 head4 d3 d4 blockHead zeros
 name4 = refl
+
+name2 : sha256 head2 ≡ d2
+unfolding K padded schedule t1 round rounds plus compress hash sha256 head2 d1 d2 blockHead zeros
+name2 = refl
+
+name2′ : sha256 head2′ ≡ d2′
+unfolding K padded schedule t1 round rounds plus compress hash sha256 head2′ d1 d2′ blockHead zeros
+name2′ = refl
 
 pub name-m0 : sha256 head-m0 ≡ e0
 unfolding K padded schedule t1 round rounds plus compress hash sha256 head-m0 e0 blameHead zeros
@@ -105,6 +138,14 @@ checked3 = same-of (sym name3)
 pub checked4 : checked sha256 b4 ≡ true
 unfolding checked b4 head4 d3 d4 blockHead zeros
 checked4 = same-of (sym name4)
+
+pub checked2 : checked sha256 b2 ≡ true
+unfolding checked b2 head2 d1 d2 blockHead zeros
+checked2 = same-of (sym name2)
+
+pub checked2′ : checked sha256 b2′ ≡ true
+unfolding checked b2′ head2′ d1 d2′ blockHead zeros
+checked2′ = same-of (sym name2′)
 
 pub checked-m0 : checked sha256 m0 ≡ true
 unfolding checked m0 head-m0 e0 blameHead zeros

@@ -1,6 +1,7 @@
 -- A list of calls that meets demand 3's premises, with SHA-256 itself and another rotation than the old turn, where a leader does
 -- nothing after its open, its round is blamed and skipped, one replica commits by blames alone, and two commit a block above that round.
--- Its first six, seven and eight calls meet them too. Assumes nothing.
+-- At the end two blocks of the skipped round turn up, and their leader is marked. Its first six, seven, eight and ten calls meet the
+-- premises too. Assumes nothing.
 use Prim.Native.Nat.{ℕ}
 use mathlib.Core.Path.{_≡_, refl, sym, ap, _∙_, subst}
 use mathlib.Core.Logic.{_⊎_, inl, inr}
@@ -18,13 +19,13 @@ use Rattle.apollo.specs.Log.{genesis, chain}
 use Rattle.apollo.specs.Masks.{count}
 use Rattle.apollo.specs.Enter.{State}
 use Rattle.apollo.specs.Calls.{blamesCall}
-use Rattle.agreement.specs.Run.{Act, branch, blame, blames, tick, Call, opening, act, Event, handed, emitted, answered, In, Seen, World, start, uncut, framesIn, emit, stateOf, answer, run}
+use Rattle.agreement.specs.Run.{Act, branch, blame, blames, tick, equivocation, Call, opening, act, Event, handed, emitted, answered, In, Seen, World, start, uncut, framesIn, emit, stateOf, answer, run}
 use Rattle.agreement.specs.Premises.{Mostly, Patient, Distinct, Premises}
 use Rattle.agreement.specs.Claim.{committed, Agreed}
 use Rattle.agreement.proofs.Agreement.{agreement, beginnings}
-use Rattle.witness.proofs.Frames.{d1, d3, d4, e0, b1, b3, b4, m0, m2, checked1, checked3, checked4, checked-m0, checked-m2}
-use Rattle.witness.proofs.Answers.{out, rotation, log0, all, opened-1, opened-2, opened-0, first-0, blaming-2, heard-0, skipped-0, skipped-2, last-2, last-0, open-1, open-2, open-0, take-1, tick-2, hear-2, tick-0, hear-set, take-3, take-4}
-use Rattle.witness.proofs.Worlds.{given, next, Goes, stay, then, goes, lawful, unforged, opens, acts}
+use Rattle.witness.proofs.Frames.{d1, d2, d3, d4, e0, e2, b1, b2, b2′, b3, b4, m0, m2, checked1, checked2, checked2′, checked3, checked4, checked-m0, checked-m2}
+use Rattle.witness.proofs.Answers.{out, rotation, log0, all, opened-1, opened-2, opened-0, first-0, blaming-2, heard-0, skipped-0, skipped-2, last-2, last-0, marked-0, open-1, open-2, open-0, take-1, tick-2, hear-2, tick-0, hear-set, take-3, take-4, mark-1}
+use Rattle.witness.proofs.Worlds.{given, next, Goes, stay, then, goes, lawful, unforged, opens, acts, marks}
 
 -- The list: f = 1, T = 4, a timeout of one tick, the rotation 2, 1, 0; replica 1, the leader of round 2, is not correct.
 --   1 opens, and hears nothing; 2 opens and emits block 1; 0 opens; 0 takes block 1
@@ -32,6 +33,7 @@ use Rattle.witness.proofs.Worlds.{given, next, Goes, stay, then, goes, 
 --   0 ticks and blames round 2, which is now certified: it enters round 3, emits block 3 on block 1 and commits block 1
 --   2 hears both blames as a set, its own bit standing already: it passes round 2 and commits block 1
 --   2 takes block 3, emits block 4 and commits block 3; 0 takes block 4 and commits block 3
+--   0, whose rounds are over, is handed two blocks of round 2 that nobody here emitted, and marks 1
 openAt : ℕ → Call
 openAt i = opening i 1 1 4 rotation log0 (zeros 4) [] out
 
@@ -47,6 +49,9 @@ hearingSet ms = blames ms [] out
 ticking : Act
 ticking = tick [] out
 
+accusing : List ℕ → Act
+accusing bs = equivocation bs
+
 pub first-six : List (ℕ × Call)
 first-six = (1, openAt 1) ∷ (2, openAt 2) ∷ (0, openAt 0) ∷ (0, act (taking b1)) ∷ (2, act ticking) ∷ (0, act (hearing m2)) ∷ []
 
@@ -59,8 +64,11 @@ first-eight = first-seven ++ ((2, act (hearingSet (m2 ++ m0))) ∷ [])
 last-two : List (ℕ × Call)
 last-two = (2, act (taking b3)) ∷ (0, act (taking b4)) ∷ []
 
+pub first-ten : List (ℕ × Call)
+first-ten = first-eight ++ last-two
+
 pub calls : List (ℕ × Call)
-calls = first-eight ++ last-two
+calls = first-ten ++ ((0, act (accusing (b2 ++ b2′))) ∷ [])
 
 -- the worlds that it goes through
 w0 : World
@@ -93,8 +101,11 @@ w8 = next w7 2 (b3 ∷ []) last-2 (b4 ∷ [])
 w9 : World
 w9 = next w8 0 (b4 ∷ []) last-0 []
 
+w10 : World
+w10 = next w9 0 (b2 ∷ b2′ ∷ []) marked-0 []
+
 worlds : Unit {0}
-unfolding openAt taking hearing hearingSet ticking first-six first-seven first-eight last-two calls start given next emit w0 w1 w2 w3 w4 w5 w6 w7 w8 w9
+unfolding openAt taking hearing hearingSet ticking accusing first-six first-seven first-eight last-two first-ten calls start given next emit w0 w1 w2 w3 w4 w5 w6 w7 w8 w9 w10
 worlds = tt
 
 -- replicas 0 and 2 are correct
@@ -145,17 +156,27 @@ two =
     (acts setup correct w8 0 (taking b4) skipped-0 last-0 (b4 ∷ []) [] refl refl (checked4, tt) (inr (inl (by b4 2 refl)), tt) take-4 tt
     stay)
 
-steps : Goes setup correct start calls w9
+ten : Goes setup correct start first-ten w9
+unfolding first-ten
+ten = then setup correct eight two
+
+eleventh : Goes setup correct w9 ((0, act (accusing (b2 ++ b2′))) ∷ []) w10
+unfolding worlds setup correct framesIn uncut all last-0 marked-0
+eleventh =
+    marks setup correct w9 0 (b2 ++ b2′) last-0 (marked-0 .replica) (b2 ∷ b2′ ∷ []) refl refl (checked2, (checked2′, tt)) (refl, (refl, tt))
+    mark-1 stay
+
+steps : Goes setup correct start calls w10
 unfolding calls
-steps = then setup correct eight two
+steps = then setup correct ten eleventh
 
 mostly : Mostly setup correct
 unfolding setup correct count
 mostly = omega arith
 
--- the frames seen are the three blocks and the two blames
+-- the frames seen are the three blocks, the two blames, and the two blocks of round 2
 abbrev Frame : List ℕ → Type 0
-Frame x = (x ≡ b1) ⊎ ((x ≡ b3) ⊎ ((x ≡ b4) ⊎ ((x ≡ m0) ⊎ (x ≡ m2))))
+Frame x = (x ≡ b1) ⊎ ((x ≡ b3) ⊎ ((x ≡ b4) ⊎ ((x ≡ m0) ⊎ ((x ≡ m2) ⊎ ((x ≡ b2) ⊎ (x ≡ b2′))))))
 
 abbrev Known : Event → Type 0
 Known (handed x) = Frame x
@@ -184,14 +205,20 @@ is0 : Frame m0
 is0 = inr (inr (inr (inl refl)))
 
 is2 : Frame m2
-is2 = inr (inr (inr (inr refl)))
+is2 = inr (inr (inr (inr (inl refl))))
 
-known-all : KnownAll (w9 .past)
+is-one : Frame b2
+is-one = inr (inr (inr (inr (inr (inl refl)))))
+
+is-other : Frame b2′
+is-other = inr (inr (inr (inr (inr (inr refl)))))
+
+known-all : KnownAll (w10 .past)
 unfolding worlds
-known-all = (tt, (is4, (tt, (is4, (is3, (tt, (is0, (is2, (tt, (is3, (is0, (tt, (is2, (tt, (is2, (tt, (is1, (tt, (tt, (is1, (tt, tt)))))))))))))))))))))
+known-all = (tt, (is-other, (is-one, (tt, (is4, (tt, (is4, (is3, (tt, (is0, (is2, (tt, (is3, (is0, (tt, (is2, (tt, (is2, (tt, (is1, (tt, (tt, (is1, (tt, tt))))))))))))))))))))))))
 
 known : (e : Event) → In e (run start calls .past) → Known e
-known e p = known-in (w9 .past) known-all e (subst (λ (w : World). In e (w .past)) (goes setup correct steps) p)
+known e p = known-in (w10 .past) known-all e (subst (λ (w : World). In e (w .past)) (goes setup correct steps) p)
 
 seen : (x : List ℕ) → Seen x (run start calls .past) → Frame x
 seen x (inl p) = known (handed x) p
@@ -204,10 +231,12 @@ record Fields : Type 0 where
   block-4 : kind b4 ≡ 1
   blame-0 : round m0 ≡ 2
   blame-2 : round m2 ≡ 2
+  one : kind b2 ≡ 1
+  other : kind b2′ ≡ 1
 
 fields : Fields
 unfolding all
-fields = record { block-1 = refl; block-3 = refl; block-4 = refl; blame-0 = refl; blame-2 = refl }
+fields = record { block-1 = refl; block-3 = refl; block-4 = refl; blame-0 = refl; blame-2 = refl; one = refl; other = refl }
 
 -- only round 2 was blamed, whose leader is not correct
 patient : Patient setup correct (run start calls)
@@ -225,11 +254,15 @@ patient i x c p k = of (known (emitted i x) p)
     of (inr (inl e)) = block b3 (fields .block-3) e
     of (inr (inr (inl e))) = block b4 (fields .block-4) e
     of (inr (inr (inr (inl e)))) = blame-2 m0 (fields .blame-0) e
-    of (inr (inr (inr (inr e)))) = blame-2 m2 (fields .blame-2) e
+    of (inr (inr (inr (inr (inl e))))) = blame-2 m2 (fields .blame-2) e
+    of (inr (inr (inr (inr (inr (inl e)))))) = block b2 (fields .one) e
+    of (inr (inr (inr (inr (inr (inr e)))))) = block b2′ (fields .other) e
 
 -- the frame with a given digest
 pick : List ℕ → List ℕ
-pick d = cond (same d (zeros 32)) genesis (cond (same d d1) b1 (cond (same d d3) b3 (cond (same d d4) b4 (cond (same d e0) m0 m2))))
+pick d =
+    cond (same d (zeros 32)) genesis
+    (cond (same d d1) b1 (cond (same d d3) b3 (cond (same d d4) b4 (cond (same d e0) m0 (cond (same d e2) m2 (cond (same d d2) b2 b2′))))))
 
 record Picked : Type 0 where
   none : genesis ≡ pick (digest genesis)
@@ -238,10 +271,22 @@ record Picked : Type 0 where
   block-4 : b4 ≡ pick (digest b4)
   blame-0 : m0 ≡ pick (digest m0)
   blame-2 : m2 ≡ pick (digest m2)
+  one : b2 ≡ pick (digest b2)
+  other : b2′ ≡ pick (digest b2′)
 
 picked : Picked
 unfolding all pick
-picked = record { none = refl; block-1 = refl; block-3 = refl; block-4 = refl; blame-0 = refl; blame-2 = refl }
+picked =
+    record {
+      none = refl;
+      block-1 = refl;
+      block-3 = refl;
+      block-4 = refl;
+      blame-0 = refl;
+      blame-2 = refl;
+      one = refl;
+      other = refl;
+    }
 
 pick-is : (x : List ℕ) → (x ≡ genesis) ⊎ Seen x (run start calls .past) → x ≡ pick (digest x)
 pick-is x p = of-any p
@@ -254,7 +299,9 @@ pick-is x p = of-any p
     of (inr (inl e)) = at b3 (picked .block-3) e
     of (inr (inr (inl e))) = at b4 (picked .block-4) e
     of (inr (inr (inr (inl e)))) = at m0 (picked .blame-0) e
-    of (inr (inr (inr (inr e)))) = at m2 (picked .blame-2) e
+    of (inr (inr (inr (inr (inl e))))) = at m2 (picked .blame-2) e
+    of (inr (inr (inr (inr (inr (inl e)))))) = at b2 (picked .one) e
+    of (inr (inr (inr (inr (inr (inr e)))))) = at b2′ (picked .other) e
 
     of-any : (x ≡ genesis) ⊎ Seen x (run start calls .past) → x ≡ pick (digest x)
     of-any (inl e) = at genesis (picked .none) e
@@ -281,21 +328,25 @@ agreed = agreement setup correct calls premises
 abbrev Leaves : List (ℕ × Call) → ℕ → State → Type 0
 Leaves es i c = run start es .states i ≡ some c
 
-pub all-leave : Leaves calls 0 last-0 × Leaves calls 2 last-2
+pub all-leave : Leaves calls 0 marked-0 × Leaves calls 2 last-2
 unfolding worlds
 all-leave =
-    let e : (i : ℕ) → run start calls .states i ≡ w9 .states i = λ i. ap (λ (w : World). w .states i) (goes setup correct steps) in
+    let e : (i : ℕ) → run start calls .states i ≡ w10 .states i = λ i. ap (λ (w : World). w .states i) (goes setup correct steps) in
     (e 0, e 2)
 
 -- replicas 0 and 2 have both committed the blocks of rounds 1 and 3
-pub commits : (committed last-0 ≡ b1 ∷ b3 ∷ []) × (committed last-2 ≡ b1 ∷ b3 ∷ [])
-unfolding all last-0 last-2 committed chain
+pub commits : (committed marked-0 ≡ b1 ∷ b3 ∷ []) × (committed last-2 ≡ b1 ∷ b3 ∷ [])
+unfolding all last-0 marked-0 last-2 committed chain
 commits = (refl, refl)
 
--- The first eight, seven and six calls meet the premises too.
-pub eight-premises : Premises setup correct first-eight
+-- The first ten, eight, seven and six calls meet the premises too.
+pub ten-premises : Premises setup correct first-ten
 unfolding calls
-eight-premises = beginnings setup correct first-eight last-two premises
+ten-premises = beginnings setup correct first-ten _ premises
+
+pub eight-premises : Premises setup correct first-eight
+unfolding first-ten
+eight-premises = beginnings setup correct first-eight last-two ten-premises
 
 pub seven-premises : Premises setup correct first-seven
 unfolding first-eight
@@ -318,6 +369,12 @@ unfolding worlds
 seven-leave =
     let e : (i : ℕ) → run start first-seven .states i ≡ w6 .states i = λ i. ap (λ (w : World). w .states i) (goes setup correct seven) in
     (e 0, e 1, e 2)
+
+pub ten-leave : Leaves first-ten 0 last-0 × Leaves first-ten 2 last-2
+unfolding worlds
+ten-leave =
+    let e : (i : ℕ) → run start first-ten .states i ≡ w9 .states i = λ i. ap (λ (w : World). w .states i) (goes setup correct ten) in
+    (e 0, e 2)
 
 pub eight-leave : Leaves first-eight 0 skipped-0 × Leaves first-eight 2 skipped-2
 unfolding worlds

@@ -4,17 +4,20 @@ use mathlib.Core.Path.{_≡_, refl, sym, ap, ap₂, _∙_, subst}
 use mathlib.Core.Logic.{inl, inr}
 use mathlib.Core.Option.{none, some}
 use mathlib.Core.List.{List, [], _∷_, _++_}
-use mathlib.Core.Bool.{Bool, true, cond}
+use mathlib.Core.Bool.{Bool, true, false, cond}
 use lib.Dec.{eqb}
 use Rattle.sha256.specs.Fips.{sha256}
+use Rattle.apollo.specs.declared.Replica.{Replica}
 use Rattle.apollo.specs.declared.Setup.{Setup}
 use Rattle.apollo.specs.Rotation.{padded}
-use Rattle.apollo.specs.Frame.{signer, checked}
-use Rattle.apollo.specs.Enter.{State}
-use Rattle.apollo.specs.Outcome.{taken}
-use Rattle.apollo.specs.Calls.{openCall}
+use Rattle.apollo.specs.Frame.{signer, frames, checked}
+use Rattle.apollo.specs.Enter.{State, state}
+use Rattle.apollo.specs.Outcome.{Outcome, taken}
+use Rattle.apollo.specs.Equivocation.{marked}
+use Rattle.apollo.specs.Calls.{openCall, equivocationCall}
 use Rattle.apollo.proofs.Tests.{cond-true}
-use Rattle.agreement.specs.Run.{Act, Call, opening, act, Event, handed, emitted, answered, In, World, framesIn, hand, emit, emittedBy, note, after, opened, answer, callAt, step, run}
+use Rattle.agreement.proofs.Tests.{clash}
+use Rattle.agreement.specs.Run.{Act, equivocation, Call, opening, act, Event, handed, emitted, answered, In, World, framesIn, hand, emit, emittedBy, note, after, opened, recordOnly, answer, callAt, step, run}
 use Rattle.agreement.specs.Premises.{Each, Lawful, Unforged}
 use Rattle.agreement.proofs.Frames.{Whole, frames-flatten}
 use Rattle.witness.proofs.Answers.{out, made}
@@ -54,14 +57,20 @@ opened-so : (w : World) (i id f timeout last : ℕ) (rotation log masks entry : 
 unfolding step callAt opened made taken
 opened-so w i id f timeout last rotation log masks entry c ys e whole = ap (opened w i) e ∙ after-made w i c ys whole
 
-acted : (w : World) (i : ℕ) (a : Act) (c d : State) (xs ys : List (List ℕ)) → w .states i ≡ some c → framesIn c a ≡ xs → Checked xs
-    → answer c a ≡ made d ys → Whole ys → step w i (act a) ≡ next w i xs d ys
+-- what a taken outcome leaves is known for every world
+acted : (w : World) (i : ℕ) (a : Act) (c d : State) (o : Outcome) (xs ys : List (List ℕ)) → w .states i ≡ some c → framesIn c a ≡ xs
+    → Checked xs → answer c a ≡ o → ((u : World) → after u i o ≡ next u i [] d ys) → step w i (act a) ≡ next w i xs d ys
 unfolding step callAt next given
-acted w i a c d xs ys at hands right e whole =
+acted w i a c d o xs ys at hands right e left =
     ap (λ o. callAt w i o (act a)) at
     ∙ ap₂ (λ past o. after (record { states = w .states; past = past }) i o)
     (ap (λ zs. hand zs (w .past)) hands ∙ hand-given xs (w .past) right) e
-    ∙ after-made (record { states = w .states; past = given xs (w .past) }) i d ys whole
+    ∙ left (record { states = w .states; past = given xs (w .past) })
+
+after-marked : (u : World) (i : ℕ) (c : State) (r : Replica)
+    → after u i (recordOnly c (marked 0 0 r)) ≡ next u i [] (state r (c .log) (c .masks)) []
+unfolding after note emittedBy frames emit recordOnly next given
+after-marked u i c r = refl
 
 -- each of some frames was emitted before, by the replica that it names
 abbrev pub Earlier : World → List (List ℕ) → Type 0
@@ -74,6 +83,16 @@ earlier w (y ∷ ys) h x (inl e) = subst (λ z. In (emitted (signer z) z) (w .pa
 earlier w (y ∷ ys) h x (inr p) = earlier w ys (h .1) x p
 
 module _ (s : Setup) (correct : ℕ → Bool) where
+  -- no frame names a correct signer
+  abbrev pub Others : List (List ℕ) → Type 0
+  Others [] = Unit {0}
+  Others (x ∷ xs) = (correct (signer x) ≡ false) × Others xs
+
+  other : (xs : List (List ℕ)) → Others xs → (x : List ℕ) → In x xs → correct (signer x) ≡ false
+  other [] h x p = absurd p
+  other (y ∷ ys) h x (inl e) = ap (λ z. correct (signer z)) e ∙ h .0
+  other (y ∷ ys) h x (inr p) = other ys (h .1) x p
+
   -- a list of calls that leads from one world to another, each call lawful and with nothing forged
   pub data Goes : World → List (ℕ × Call) → World → Type 0 where
     stay : {w : World} → Goes w [] w
@@ -110,9 +129,24 @@ module _ (s : Setup) (correct : ℕ → Bool) where
     -- any other call
     pub acts : (a : Act) (c d : State) (xs ys : List (List ℕ)) → w .states i ≡ some c → framesIn c a ≡ xs → Checked xs → Earlier w xs
         → answer c a ≡ made d ys → Whole ys → Goes (next w i xs d ys) es v → Goes w ((i, act a) ∷ es) v
-    acts a c d xs ys at hands right old e whole = go {d = act a} (c, at) honest (acted w i a c d xs ys at hands right e whole)
+    acts a c d xs ys at hands right old e whole =
+        go {d = act a} (c, at) honest (acted w i a c d (made d ys) xs ys at hands right e (λ u. after-made u i d ys whole))
       where
         honest : Unforged s correct w i (act a)
         honest b x f p r l k =
             let q : c ≡ b = cc in
             earlier w xs old x (subst (In x) (ap (λ u. framesIn u a) (sym q) ∙ hands) p)
+
+    -- two frames of other signers than correct ones, by which a card is marked
+    pub marks : (bytes : List ℕ) (c : State) (m : Replica) (xs : List (List ℕ)) → w .states i ≡ some c
+        → framesIn c (equivocation bytes) ≡ xs → Checked xs → Others xs → equivocationCall (c .replica) bytes ≡ marked 0 0 m
+        → Goes (next w i xs (state m (c .log) (c .masks)) []) es v → Goes w ((i, act (equivocation bytes)) ∷ es) v
+    marks bytes c m xs at hands right others e =
+        go {d = act (equivocation bytes)} (c, at) honest
+        (acted w i (equivocation bytes) c (state m (c .log) (c .masks)) (recordOnly c (marked 0 0 m)) xs [] at hands right
+        (unfold answer in ap (recordOnly c) e) (λ u. after-marked u i c m))
+      where
+        honest : Unforged s correct w i (act (equivocation bytes))
+        honest b x f p r l k =
+            let q : c ≡ b = cc in
+            absurd (clash k (other xs others x (subst (In x) (ap (λ u. framesIn u (equivocation bytes)) (sym q) ∙ hands) p)))
