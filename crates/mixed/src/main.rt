@@ -65,6 +65,7 @@ fn target(l: Task) -> usize
 // The record in a line.
 fn replica_of(l: Task, bytes: &[u8; 8704]) -> Replica {
     let n = l.numbers;
+    let s = l.sizes;
     let rotation = rotation::padded(slices::part(bytes, 0, 15));
     Replica {
         id: (n[1] % 256) as u8,
@@ -78,6 +79,7 @@ fn replica_of(l: Task, bytes: &[u8; 8704]) -> Replica {
         committed_round: Round(n[9]),
         committed_height: Height(n[10]),
         rotation,
+        equivocators: (s[6] % 65536) as u16,
     }
 }
 
@@ -245,15 +247,26 @@ fn lend(
     )
 }
 
+// The bytes of a line's frames.
+fn frames_of<'a>(l: Task, bytes: &'a [u8; 8704]) -> &'a [u8] {
+    let s = l.sizes;
+    slices::part(bytes, 512, std::num::wrapping_sub_usize(s[8], 512))
+}
+
 // The replica keeps the record of an answer that takes the call.
-fn kept(t: Table, l: Task, x: Answer, is_written: bool) -> Table {
+fn kept(t: Table, l: Task, number: u8, r: Replica, is_written: bool) -> Table {
     let i = target(l);
     let mut next = called(t, is_written);
-    if x.number == 0 {
-        let r = x.replica;
+    if number == 0 {
         next.replicas[i] = r;
     }
     next
+}
+
+// `e`
+fn accuse(t: Table, l: Task, bytes: &[u8; 8704]) -> Table {
+    let x = call_equivocation::equivocation(replica_for(t, l), frames_of(l, bytes));
+    kept(t, l, x.number, x.replica, print::marked(x))
 }
 
 // `o`, `a`, `b`, `v` or `t`
@@ -270,12 +283,18 @@ fn change(
         l,
         replica_for(t, l),
         slices::part(bytes, 0, s[7]),
-        slices::part(bytes, 512, std::num::wrapping_sub_usize(s[8], 512)),
+        frames_of(l, bytes),
         log,
         masks,
         &mut out,
     );
-    kept(t, l, x, print::answer(x, s, log, masks, &out))
+    kept(
+        t,
+        l,
+        x.number,
+        x.replica,
+        print::answer(x, s, log, masks, &out),
+    )
 }
 
 // `n` and `w` set logs and masks to zero.
@@ -334,6 +353,7 @@ fn call(t: Table, l: Task, logs: &mut Logs, masks: &mut Masks, bytes: &[u8; 8704
     match letter {
         b'h' => told(t, digest(l, bytes)),
         b'q' | b'f' => look(t, l, &logs[i]),
+        b'e' => accuse(t, l, bytes),
         b'o' | b'a' | b'b' | b'v' | b't' => change(t, l, &mut logs[i], &mut masks[i], bytes),
         _ => t,
     }

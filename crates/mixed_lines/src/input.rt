@@ -94,18 +94,19 @@ fn task_of(l: Line) -> Task {
 }
 
 // The words after a letter by their kinds, the first in the lowest four bits: 1 a replica, 2 bytes of the log, 3 masks,
-// 4 bytes of the out buffer, 5 a round, 6 a mask, 7 bytes, 8 frames or a rotation to open with, 9 an own number or f, a any
+// 4 bytes of the out buffer, 5 a round, 6 a mask or marks, 7 bytes, 8 frames or a rotation to open with, 9 an own number or f, a any
 // number. f if there is no such letter.
 fn form(letter: u8) -> u64 {
     match letter {
         b'n' => 0,
-        b'w' => 0x7aaaaaaaa991,
+        b'w' => 0x67aaaaaaaa991,
         b's' => 0x751,
         b'm' => 0x651,
-        b'g' => 0x7aaaaaaaa99,
+        b'g' => 0x67aaaaaaaa99,
         b'o' => 0x74328aa991,
         b'a' | b'b' | b'v' => 0x874321,
         b't' => 0x74321,
+        b'e' => 0x81,
         b'q' => 0xa21,
         b'f' => 0xa421,
         b'h' => 7,

@@ -1,6 +1,8 @@
 // Lines of text, each written at once. One that could not be written is told, and false is the answer.
 use apollo::Answer;
 use apollo::Fetched;
+use apollo::Marked;
+use apollo::Replica;
 ghost use Prim.Native.Nat.{_≤_};
 
 fn glyph(d: u8) -> u8 {
@@ -24,21 +26,19 @@ fn hex(d: &[u8]) -> [u8; 66] {
     digits
 }
 
-// Prints numbers, some text and a digest.
-fn row(ns: &[u64], s: &[u8], d: [u8; 32]) -> bool {
+// Prints numbers and a digest.
+fn row(ns: &[u64], d: [u8; 32]) -> bool {
     let mut line = [0u8; 256];
-    let none = [0u64; 0];
     let digits = hex(&d);
     let a = 1 - cut(ns.len(), 1); // a space only after numbers
-    let k = text::put_row(&mut line, 0, ns, s);
-    let n = text::put_row(&mut line, k, &none, &digits[a..66]);
+    let n = text::put_row(&mut line, 0, ns, &digits[a..66]);
     text::print(&line[0..n])
 }
 
 // Prints the digest of some bytes.
 pub fn digest(bytes: &[u8]) -> bool {
     let none = [0u64; 0];
-    row(&none, b"", sha256::digest(bytes))
+    row(&none, sha256::digest(bytes))
 }
 
 pub fn cut(n: usize, most: usize) -> usize
@@ -96,13 +96,8 @@ fn wide(x: u32) -> u64 {
     x as u64
 }
 
-fn numbers_of(x: Answer) -> [u64; 14] {
-    let r = x.replica;
+fn numbers_of(r: Replica) -> [u64; 10] {
     [
-        x.number as u64,
-        wide(x.place),
-        x.frames as u64,
-        x.leader as u64,
         r.id as u64,
         r.f as u64,
         wide(r.timeout.0),
@@ -116,7 +111,20 @@ fn numbers_of(x: Answer) -> [u64; 14] {
     ]
 }
 
-// Prints an answer, its record's rotation in hex at the end, and the digest of what was lent, whose sizes are s[2] to s[4].
+// Prints numbers, a record, its rotation in hex before its marks, and what ends the line.
+fn record_row(ns: &[u64], r: Replica, end: &[u8]) -> bool {
+    let mut line = [0u8; 256];
+    let own = numbers_of(r);
+    let rotation = r.rotation;
+    let seats = hex(&rotation);
+    let marks = [r.equivocators as u64];
+    let a = text::put_row(&mut line, 0, ns, b" ");
+    let b = text::put_row(&mut line, a, &own, &seats[0..32]);
+    let n = text::put_row(&mut line, b, &marks, end);
+    text::print(&line[0..n])
+}
+
+// Prints an answer, and the digest of what was lent, whose sizes are s[2] to s[4].
 pub fn answer(
     x: Answer,
     s: [usize; 9],
@@ -124,28 +132,37 @@ pub fn answer(
     masks: &[u16; 9],
     out: &[u8; 6144],
 ) -> bool {
-    let ns = numbers_of(x);
-    let r = x.replica;
-    let rotation = r.rotation;
-    let seats = hex(&rotation);
+    let ns = [
+        x.number as u64,
+        wide(x.place),
+        x.frames as u64,
+        x.leader as u64,
+    ];
     let d = lent_digest(
         slices::part(log, 0, s[2]),
         masks,
         s[3],
         slices::part(out, 0, s[4]),
     );
-    row(&ns, &seats[0..31], d)
+    let digits = hex(&d);
+    record_row(&ns, x.replica, &digits)
+}
+
+// Prints the answer of an equivocation, for which no buffer is lent to write to.
+pub fn marked(x: Marked) -> bool {
+    let ns = [x.number as u64, wide(x.place)];
+    record_row(&ns, x.replica, b"\n")
 }
 
 // Prints the answer of a read and the digest of the lent log.
 pub fn entry(number: u8, start: usize, size: usize, log: &[u8]) -> bool {
     let ns = [number as u64, start as u64, size as u64];
-    row(&ns, b"", sha256::digest(log))
+    row(&ns, sha256::digest(log))
 }
 
 // Prints the answer of a fetch and the digest of what was lent.
 pub fn fetched(x: Fetched, log: &[u8], out: &[u8]) -> bool {
     let ns = [x.number as u64, x.count as u64];
     let masks = [0u16; 0];
-    row(&ns, b"", lent_digest(log, &masks, 0, out))
+    row(&ns, lent_digest(log, &masks, 0, out))
 }
