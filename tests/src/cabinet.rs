@@ -19,6 +19,8 @@ struct Pool {
     /// The leaders' alone. Round r at index r; a call may be lent a term of one round more.
     blocks: Vec<Vec<usize>>,
     blames: Vec<Vec<usize>>,
+    /// The rounds for which a leader signed two blocks or more.
+    doubles: Vec<usize>,
 }
 
 impl Pool {
@@ -29,6 +31,7 @@ impl Pool {
             by_name: HashMap::new(),
             blocks: rounds(),
             blames: rounds(),
+            doubles: Vec::new(),
         }
     }
 
@@ -45,8 +48,16 @@ impl Pool {
             self.blames[round].push(index);
         } else if frame::signer(frame) == leader {
             self.blocks[round].push(index);
+            if self.blocks[round].len() == 2 {
+                self.doubles.push(round);
+            }
         }
         index
+    }
+
+    fn flatten(&self, frames: &[usize]) -> Vec<u8> {
+        let frames = frames.iter().map(|&index| self.frames[index]);
+        frames.collect::<Vec<_>>().into_flattened()
     }
 
     /// A block and up to `most - 1` of its forebears, the oldest first.
@@ -60,8 +71,8 @@ impl Pool {
             path.push(index);
             frame = &self.frames[index];
         }
-        let frames = path.iter().rev().map(|&index| self.frames[index]);
-        frames.collect::<Vec<_>>().into_flattened()
+        path.reverse();
+        self.flatten(&path)
     }
 }
 
@@ -74,6 +85,8 @@ struct Habits {
     bundle: usize,
     withhold: usize,
     equivocate: usize,
+    /// How often two blocks of one round are handed in as soon as they are made.
+    tell: usize,
     /// How often a maker takes the old turn for the rotation.
     astray: usize,
     /// How often a faulty card does something.
@@ -95,6 +108,7 @@ impl Habits {
             bundle: rng.pick(&[0, 40, 90]),
             withhold: rng.pick(&[0, 20, 80]),
             equivocate: rng.pick(&[0, 40, 90]),
+            tell: rng.pick(&[0, 20, 60]),
             astray: rng.pick(&[0, 0, 10, 30]),
             busy: rng.pick(&[0, 8, 16]),
             change: rng.pick(&[0, 8, 25]),
@@ -226,9 +240,10 @@ impl Cabinet {
             return self.tick(card, sides);
         }
         match self.rng.below(100) {
-            0..=44 => self.help(card, sides),
-            45..=66 => self.deliver(card, sides),
-            67..=76 => self.replay(card, sides),
+            0..=42 => self.help(card, sides),
+            43..=63 => self.deliver(card, sides),
+            64..=72 => self.replay(card, sides),
+            73..=76 => self.equivocation(card, sides),
             77..=84 => self.catch_up(card, sides),
             85..=90 => self.read(card, sides),
             91..=94 => self.fetch(card, sides),
@@ -356,8 +371,7 @@ impl Cabinet {
             _ => {}
         }
         self.rng.shuffle(&mut set);
-        let frames = set.iter().map(|&index| self.pool.frames[index]);
-        frames.collect::<Vec<_>>().into_flattened()
+        self.pool.flatten(&set)
     }
 
     /// Something that is likely to bring the card on, or else another card.
@@ -418,6 +432,52 @@ impl Cabinet {
         let near = length.min(self.rng.pick(&[4, 30, usize::MAX]));
         let index = length - 1 - self.rng.below(near);
         self.hand(card, index)
+    }
+
+    /// Hands in two frames: two blocks of a leader for one round, where there are any, or others.
+    fn equivocation(&mut self, card: usize, sides: &[Side]) -> Call {
+        if self.pool.frames.is_empty() {
+            return self.read(card, sides);
+        }
+        let pair = match self.pool.doubles.is_empty() || self.rng.chance(40) {
+            true => self.any_pair(),
+            false => {
+                let round = self.rng.pick(&self.pool.doubles);
+                self.double(round)
+            }
+        };
+        let frames = self.pool.flatten(&pair);
+        Call::new(&self.head, card, What::Equivocation(frames))
+    }
+
+    /// Two blocks of a round that has two or more.
+    fn double(&mut self, round: usize) -> [usize; 2] {
+        let mut blocks = self.pool.blocks[round].clone();
+        self.rng.shuffle(&mut blocks);
+        [blocks[0], blocks[1]]
+    }
+
+    /// Any frame, and the same, one of the leader's next round, one of the same round, or any other.
+    fn any_pair(&mut self) -> [usize; 2] {
+        let any = |rng: &mut Rng, pool: &Pool| rng.below(pool.frames.len());
+        let first = any(&mut self.rng, &self.pool);
+        let round = frame::round(&self.pool.frames[first]) as usize;
+        let next = round + cards(self.head.f) as usize;
+        let near = match self.rng.below(5) {
+            0 => return [first, first],
+            1 => self.pool.blocks.get(next),
+            2 => self.pool.blocks.get(round),
+            3 => self.pool.blames.get(round),
+            _ => None,
+        };
+        let second = match near.filter(|near| !near.is_empty()) {
+            Some(near) => self.rng.pick(near),
+            None => any(&mut self.rng, &self.pool),
+        };
+        match self.rng.chance(50) {
+            true => [first, second],
+            false => [second, first],
+        }
     }
 
     /// Fetches at another card what is then handed to this one.
@@ -523,6 +583,13 @@ impl Cabinet {
             if !self.rng.chance(self.habits.withhold) {
                 self.send(index, None);
             }
+        }
+        let doubled = self.pool.blocks[round as usize].len() > 1;
+        if doubled && self.rng.chance(self.habits.tell) {
+            let pair = self.double(round as usize);
+            let (card, frames) = (self.present(), self.pool.flatten(&pair));
+            let call = Call::new(&self.head, card, What::Equivocation(frames));
+            self.coming.push_back(call);
         }
     }
 

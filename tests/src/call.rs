@@ -41,6 +41,7 @@ pub enum What {
     Blame(Vec<u8>),
     Blames(Vec<u8>),
     Tick,
+    Equivocation(Vec<u8>),
     Read(u32),
     Fetch(u32),
     Digest(Vec<u8>),
@@ -105,6 +106,7 @@ impl Call {
             What::Blame(_) => "blame",
             What::Blames(_) => "blames",
             What::Tick => "tick",
+            What::Equivocation(_) => "equivocation",
             What::Read(_) => "read",
             What::Fetch(_) => "fetch",
             What::Digest(_) => "digest",
@@ -112,12 +114,16 @@ impl Call {
     }
 
     /// A number from the call's own bytes, the same in every list that has the call.
-    pub fn mark(&self) -> u64 {
+    pub fn seed(&self) -> u64 {
         let given = self.given().iter().rev();
         let bytes = self.entry.iter().take(8).chain(given.take(8));
-        let start = (self.card + self.out_len + self.log_len) as u64;
-        bytes.fold(start, |mark, byte| {
-            mark.wrapping_mul(0x100_0000_01b3) ^ u64::from(*byte)
+        let height = match self.what {
+            What::Read(height) | What::Fetch(height) => u64::from(height),
+            _ => 0,
+        };
+        let start = (self.card + self.out_len + self.log_len) as u64 + height;
+        bytes.fold(start, |seed, byte| {
+            seed.wrapping_mul(0x100_0000_01b3) ^ u64::from(*byte)
         })
     }
 
@@ -132,15 +138,27 @@ impl Call {
     /// The bytes lent for frames.
     pub fn handed(&self) -> &[u8] {
         match &self.what {
-            What::Branch(bytes) | What::Blame(bytes) | What::Blames(bytes) => bytes,
+            What::Branch(bytes) | What::Blame(bytes) => bytes,
+            What::Blames(bytes) | What::Equivocation(bytes) => bytes,
             _ => &[],
         }
     }
 
-    /// Whether the card's own record, its whole log and all its masks are lent.
+    /// The lengths of log and masks, as far as the call is lent them.
+    pub fn lengths(&self) -> (Option<usize>, Option<usize>) {
+        match self.what {
+            What::Equivocation(_) => (None, None),
+            What::Read(_) | What::Fetch(_) => (Some(self.log_len), None),
+            _ => (Some(self.log_len), Some(self.masks_len)),
+        }
+    }
+
+    /// Whether the card's own record is lent, and of its log and masks what the call takes, whole.
     pub fn lends_all(&self, term: u32) -> bool {
-        let term = term as usize;
-        self.record.is_none() && (self.log_len, self.masks_len) == (SIZE * term, term)
+        let (term, (log, masks)) = (term as usize, self.lengths());
+        self.record.is_none()
+            && log.is_none_or(|log| log == SIZE * term)
+            && masks.is_none_or(|masks| masks == term)
     }
 
     pub fn is_set_of_one(&self) -> bool {
@@ -149,11 +167,12 @@ impl Call {
 
     /// The frames handed in, whatever the call answers; a buffer that is cut hands in none.
     pub fn frames(&self, term: u32) -> &[Frame] {
-        let most = match self.what {
-            What::Branch(_) => term as usize,
-            What::Blames(_) => MOST_BLAMES,
-            _ => 1,
+        let allowed = match self.what {
+            What::Branch(_) => 1..=term as usize,
+            What::Blames(_) => 1..=MOST_BLAMES,
+            What::Equivocation(_) => 2..=2,
+            _ => 1..=1,
         };
-        whole_frames(self.handed(), most).unwrap_or(&[])
+        whole_frames(self.handed(), allowed).unwrap_or(&[])
     }
 }

@@ -4,7 +4,7 @@
 use crate::call::{Call, Head, What};
 use crate::coverage::Row;
 use crate::frame::{self, Frame, SIZE};
-use crate::model::{cards, in_turn, leader, Record, Setup};
+use crate::model::{all_cards, cards, in_turn, leader, Record, Setup};
 use crate::model::{MOST_BLAMES, MOST_CARDS, MOST_TERM};
 use crate::rng::Rng;
 
@@ -87,7 +87,7 @@ const LENGTHS: &[(&str, Change)] = &[
 fn log(call: &mut Call, hand: &Hand, by: isize) -> bool {
     let all = SIZE * hand.head.term as usize;
     call.log_len = all.saturating_add_signed(by);
-    !matches!(call.what, What::Digest(_))
+    !matches!(call.what, What::Digest(_) | What::Equivocation(_))
 }
 
 fn masks(call: &mut Call, hand: &Hand, by: isize) -> bool {
@@ -109,7 +109,8 @@ fn out(call: &mut Call, length: usize) -> bool {
 }
 
 fn is_machine(call: &Call) -> bool {
-    !matches!(call.what, What::Read(_) | What::Fetch(_) | What::Digest(_))
+    let lent_less = matches!(call.what, What::Read(_) | What::Fetch(_) | What::Digest(_));
+    !lent_less && !is_pair(call)
 }
 
 const FRAMES: &[(&str, Change)] = &[
@@ -153,6 +154,53 @@ const FRAMES: &[(&str, Change)] = &[
     ("set handed in as blame", |_, call| {
         is_set(call) && hand_in_as(call, What::Blame, 2)
     }),
+    ("branch handed in as pair", |_, call| {
+        is_branch(call) && hand_in_as_pair(call)
+    }),
+    ("blame handed in as pair", |_, call| {
+        is_blame(call) && hand_in_as_pair(call)
+    }),
+    ("set handed in as pair", |_, call| {
+        is_set(call) && hand_in_as_pair(call)
+    }),
+    ("pair handed in as branch", |_, call| {
+        is_pair(call) && hand_in_as(call, What::Branch, 2)
+    }),
+    ("pair handed in as blame", |hand, call| {
+        let most = 1 + hand.rng.below(2);
+        is_pair(call) && hand_in_as(call, What::Blame, most)
+    }),
+    ("pair handed in as set", |_, call| {
+        is_pair(call) && hand_in_as(call, What::Blames, 2)
+    }),
+    ("a part of a frame for a pair", |hand, call| {
+        let length = hand.rng.pick(&[1, 255, 480, 511]);
+        resize_pair(call, length)
+    }),
+    ("one frame for a pair", |_, call| resize_pair(call, SIZE)),
+    ("three frames for a pair", |_, call| {
+        resize_pair(call, 3 * SIZE)
+    }),
+    ("more frames for a pair", |hand, call| {
+        let frames = 4 + hand.rng.below(4);
+        resize_pair(call, SIZE * frames)
+    }),
+    ("any bytes for a pair", |hand, call| {
+        let any = hand.rng.below(4 * SIZE);
+        let length = hand.rng.pick(&[513, 1022, 1026, 1535, any]);
+        resize_pair(call, length)
+    }),
+    ("a pair of two rounds", two_rounds),
+    ("one name for a pair", |hand, call| {
+        let Some([first, second]) = pair(call) else {
+            return false;
+        };
+        match hand.rng.chance(50) {
+            true => first[frame::CHECK_AT..].copy_from_slice(frame::name(second)),
+            false => second[frame::CHECK_AT..].copy_from_slice(frame::name(first)),
+        }
+        true
+    }),
     ("two frames swapped", |hand, call| {
         let Some(frames) = several(call) else {
             return false;
@@ -191,6 +239,10 @@ fn is_set(call: &Call) -> bool {
     matches!(call.what, What::Blames(_))
 }
 
+fn is_pair(call: &Call) -> bool {
+    matches!(call.what, What::Equivocation(_))
+}
+
 /// Hands at most so many of a call's frames to another call.
 fn hand_in_as(call: &mut Call, what: fn(Vec<u8>) -> What, most: usize) -> bool {
     let Some(bytes) = handed(call) else {
@@ -198,6 +250,50 @@ fn hand_in_as(call: &mut Call, what: fn(Vec<u8>) -> What, most: usize) -> bool {
     };
     bytes.truncate(SIZE * most);
     call.what = what(std::mem::take(bytes));
+    true
+}
+
+/// Hands the first two of a call's frames to equivocation; one alone is there twice.
+fn hand_in_as_pair(call: &mut Call) -> bool {
+    if let Some(bytes) = handed(call).filter(|bytes| bytes.len() >= SIZE) {
+        fill(bytes, 2 * SIZE);
+    }
+    hand_in_as(call, What::Equivocation, 2)
+}
+
+/// Makes what equivocation is handed so long, with the first frame again and again.
+fn resize_pair(call: &mut Call, length: usize) -> bool {
+    match &mut call.what {
+        What::Equivocation(bytes) if bytes.len() >= SIZE => {
+            fill(bytes, length);
+            true
+        }
+        _ => false,
+    }
+}
+
+/// The two frames handed to equivocation.
+fn pair(call: &mut Call) -> Option<&mut [Frame; 2]> {
+    match &mut call.what {
+        What::Equivocation(bytes) => bytes.as_chunks_mut().0.try_into().ok(),
+        _ => None,
+    }
+}
+
+/// Gives one of two frames another round, at times the leader's next, with the leader that goes with it.
+fn two_rounds(hand: &mut Hand, call: &mut Call) -> bool {
+    let (strict, n, term) = (hand.strict, hand.cards(), hand.head.term);
+    let Some(pair) = pair(call).filter(|_| !strict) else {
+        return false;
+    };
+    let frame = &mut pair[hand.rng.below(2)];
+    let old = frame::round(frame);
+    let round = hand.pick(&[up(old), down(old), old.wrapping_add(n), old.wrapping_sub(n)]);
+    let round = round.clamp(1, term);
+    frame[1] = hand.head.leader(round);
+    frame::set_round(frame, round);
+    frame::set_height(frame, frame::height(frame).min(round));
+    frame::seal(frame);
     true
 }
 
@@ -239,15 +335,18 @@ fn same_round(hand: &mut Hand, call: &mut Call) -> bool {
 
 fn handed(call: &mut Call) -> Option<&mut Vec<u8>> {
     match &mut call.what {
-        What::Branch(bytes) | What::Blame(bytes) | What::Blames(bytes) => Some(bytes),
+        What::Branch(bytes) | What::Blame(bytes) => Some(bytes),
+        What::Blames(bytes) | What::Equivocation(bytes) => Some(bytes),
         _ => None,
     }
 }
 
-/// The frames of a branch or a set of at least two.
+/// The frames of a branch, a set or a pair of at least two.
 fn several(call: &mut Call) -> Option<&mut [Frame]> {
     match &mut call.what {
-        What::Branch(bytes) | What::Blames(bytes) if bytes.len() >= 2 * SIZE => {
+        What::Branch(bytes) | What::Blames(bytes) | What::Equivocation(bytes)
+            if bytes.len() >= 2 * SIZE =>
+        {
             Some(bytes.as_chunks_mut().0)
         }
         _ => None,
@@ -359,6 +458,8 @@ const BLAME_LEFT: &str = "blame, check left";
 const BLAME_SEALED: &str = "blame, check made right";
 const SET_LEFT: &str = "set, check left";
 const SET_SEALED: &str = "set, check made right";
+const PAIR_LEFT: &str = "pair, check left";
+const PAIR_SEALED: &str = "pair, check made right";
 
 /// Damages one field of one handed frame, with its check left as it was or made right.
 fn harm(hand: &mut Hand, call: &mut Call) -> bool {
@@ -366,6 +467,7 @@ fn harm(hand: &mut Hand, call: &mut Call) -> bool {
         What::Branch(_) => (BLOCK_FIELDS, [BLOCK_LEFT, BLOCK_SEALED]),
         What::Blame(_) => (BLAME_FIELDS, [BLAME_LEFT, BLAME_SEALED]),
         What::Blames(_) => (BLAME_FIELDS, [SET_LEFT, SET_SEALED]),
+        What::Equivocation(_) => (BLOCK_FIELDS, [PAIR_LEFT, PAIR_SEALED]),
         _ => return false,
     };
     let may_link = !hand.strict && is_branch(call);
@@ -492,6 +594,19 @@ const RECORD_FIELDS: &[(&str, Edge)] = &[
         record.rotation.swap(one, other);
     }),
     ("all seats zero", |_, record| record.rotation.fill(0)),
+    ("a mark at bit n", |hand, record| {
+        record.equivocators |= 1 << hand.cards();
+    }),
+    ("a mark at bit 15", |_, record| {
+        record.equivocators |= 1 << 15
+    }),
+    ("marks from n on alone", |hand, record| {
+        let above = !all_cards(hand.head.f);
+        record.equivocators = above & hand.pick(&[0xffff, 1 << hand.cards()]) as u16;
+    }),
+    ("marks of all cards", |hand, record| {
+        record.equivocators = all_cards(hand.head.f);
+    }),
 ];
 
 /// Two different seats in use.
@@ -719,6 +834,8 @@ pub fn rows() -> impl Iterator<Item = Row> {
         .chain(of(BLAME_SEALED, sealed(BLAME_FIELDS)))
         .chain(of(SET_LEFT, labels(BLAME_FIELDS)))
         .chain(of(SET_SEALED, sealed(BLAME_FIELDS)))
+        .chain(of(PAIR_LEFT, labels(BLOCK_FIELDS)))
+        .chain(of(PAIR_SEALED, sealed(BLOCK_FIELDS)))
         .chain(of("record", labels(RECORD_FIELDS)))
         .chain(of("record", SIZED.to_vec()))
         .chain(of("set-up", SIZED.to_vec()))

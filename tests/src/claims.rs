@@ -2,19 +2,22 @@
 //! committing by R adds to them: sound cards that wait for one round have committed the same, R is at
 //! most 2f + 1 above the committed round, and the search for it reads at most f + 1 slots. Beside
 //! them: sound cards tell one leader for a round, and another for each of n rounds in a row. What a
-//! card that comes back is answered is in catch_up.rs.
+//! card that comes back is answered is in catch_up.rs, who is marked in marks.rs.
 //!
 //! The premises are judged from the calls themselves, so a list with calls left out is judged
 //! afresh: at most f cards that are not sound, one rotation for the sound ones, no forged frame, and
 //! no sound card that blamed a round led by a sound card.
 
-use std::collections::HashSet;
-
-use crate::call::{Call, Head, What};
-use crate::frame::{self, Frame, Name};
-use crate::model::{cards, leader, seats, slots, Answer, Rotation, Search, NOBODY};
+use crate::call::{Call, Head};
+use crate::frame::{self, Frame};
+use crate::marks::{Marks, MARKED};
+use crate::model::{cards, leader, slots, Answer, Rotation, Search, NOBODY};
 use crate::rules::Rules;
 use crate::runner::{Outcome, Side};
+use crate::sound::Sound;
+
+const FORGED: &str = "a frame was forged";
+const BLAMED: &str = "a sound card blamed a sound leader's round";
 
 pub struct Claims {
     f: u8,
@@ -22,17 +25,14 @@ pub struct Claims {
     rotation: Rotation,
     /// What every card keeps to; none to leave it out.
     pub rules: Option<Rules>,
-    /// Cards that have been sound so far, and those of them that are open.
-    sound: u16,
-    open: u16,
+    marks: Marks,
+    sound: Sound,
     /// Cards that were handed a forged frame.
     misled: u16,
     /// A premise failed: nothing is due any more.
     broken: Option<&'static str>,
     due: bool,
     answered_12: bool,
-    /// Names of all frames that sound cards put out.
-    put_out: HashSet<Name>,
     /// Blocks that sound cards put out; round r at index r - 1.
     blocks: Vec<Option<Box<Frame>>>,
     /// The longest committed list of all sound cards.
@@ -53,6 +53,8 @@ pub struct Due {
     pub two_tips: bool,
     /// The leaders of n rounds in a row were told, the last of them by this call.
     pub leaders: bool,
+    /// How the call marked a card, where the claim about marks was due.
+    pub marked: [bool; MARKED.len()],
 }
 
 impl Claims {
@@ -62,13 +64,12 @@ impl Claims {
             term: head.term,
             rotation: head.rotation,
             rules: Some(Rules::new(head)),
-            sound: head.sound,
-            open: 0,
+            marks: Marks::new(head),
+            sound: Sound::new(head),
             misled: 0,
             broken: None,
             due: false,
             answered_12: false,
-            put_out: HashSet::new(),
             blocks: vec![None; head.term as usize],
             agreed: Vec::new(),
             told: vec![None; head.term as usize],
@@ -81,23 +82,15 @@ impl Claims {
         self.broken
     }
 
-    fn is_sound(&self, card: usize) -> bool {
-        card < 16 && self.sound >> card & 1 == 1
-    }
-
-    fn is_open(&self, card: usize) -> bool {
-        card < 16 && self.open >> card & 1 == 1
-    }
-
     /// No premise failed, and at most f cards are not sound or not open.
     fn premises_hold(&self) -> bool {
-        let others = cards(self.f) - self.open.count_ones();
+        let others = cards(self.f) - self.sound.open().count_ones();
         self.broken.is_none() && others <= u32::from(self.f)
     }
 
     /// Whether the claims about sound cards are due for a card.
     pub fn are_due_for(&self, card: usize) -> bool {
-        self.is_open(card) && self.premises_hold()
+        self.sound.is_open(card) && self.premises_hold()
     }
 
     /// Whether the claims about every card are due for a card.
@@ -119,7 +112,7 @@ impl Claims {
 
     /// Whether the claims about one card that comes back to another are due for a card, as either.
     pub fn catching_up_is_due_for(&self, card: usize, side: &Side) -> bool {
-        let takes_part = self.is_open(card) || self.is_lawful(card, side);
+        let takes_part = self.sound.is_open(card) || self.is_lawful(card, side);
         takes_part && self.misled >> card & 1 == 0 && self.premises_hold()
     }
 
@@ -128,46 +121,26 @@ impl Claims {
         if let Some(rules) = &mut self.rules {
             rules.written(card);
         }
-        self.lent_other(card);
-    }
-
-    /// A card is lent what no call left.
-    fn lent_other(&mut self, card: usize) {
-        if self.is_open(card) {
-            self.broken = Some("a sound card's state was written");
-        } else if self.is_sound(card) {
-            self.sound &= !(1 << card);
-        }
+        self.marks.written(card);
+        let fault = self.sound.lent_other(card);
+        self.broken = self.broken.or(fault);
     }
 
     /// What the call shows before it is made.
     pub fn before(&mut self, call: &Call) {
-        if self.broken.is_some() {
-            return;
-        }
+        self.marks.before(call, &self.sound);
         let mut frames = call.frames(self.term).iter();
-        let forged = frames.any(|frame| self.is_forged(frame));
+        let holds = self.broken.is_none();
+        let forged = holds && frames.any(|frame| self.sound.is_forged(frame));
+        let fault = self.sound.before(call);
+        if !holds {
+            return;
+        }
         self.misled |= u16::from(forged) << call.card;
-        if !self.is_sound(call.card) {
-            return;
-        }
-        if call.record.is_some() {
-            self.lent_other(call.card);
-            return;
-        }
-        if !self.is_open(call.card) && !matches!(call.what, What::Open(..) | What::Digest(_)) {
-            self.sound &= !(1 << call.card);
-            return;
-        }
-        if forged {
-            self.broken = Some("a frame was forged");
-        }
-    }
-
-    fn is_forged(&self, frame: &Frame) -> bool {
-        self.is_sound(usize::from(frame::signer(frame)))
-            && !self.put_out.contains(frame::name(frame))
-            && frame::check_is_right(frame)
+        self.broken = match forged && self.sound.is_sound(call.card) {
+            true => Some(FORGED),
+            false => fault,
+        };
     }
 
     /// Checks the claims after a call at a card; the sides, the out buffer and the search of the
@@ -180,35 +153,68 @@ impl Claims {
         out: &[u8],
         search: Search,
     ) -> Result<Due, String> {
+        let (side, answer) = (&sides[call.card], outcome.answer());
         if let Some(rules) = &mut self.rules {
-            rules.after(call, outcome, &sides[call.card], search)?;
+            rules.after(call, outcome, side, search)?;
         }
-        if self.broken.is_some() || !self.is_sound(call.card) {
-            return Ok(Due::default());
-        }
-        let answer = outcome.answer();
-        let block = answer.and_then(|answer| self.note(call, answer, out));
-        let leaders = match (answer, self.broken) {
-            (Some(answer), None) => self.check_leader(answer)?,
-            _ => false,
+        let was_sound = self.sound.is_sound(call.card);
+        let fault = answer.and_then(|answer| self.sound.after(call, answer, out));
+        self.marks.after(call, outcome, side, &self.sound)?;
+        let mut due = Due {
+            marked: self.marked(call, outcome),
+            ..Due::default()
         };
-        if !self.premises_hold() {
-            return Ok(Due {
-                leaders,
-                ..Due::default()
-            });
+        if self.broken.is_some() || !was_sound {
+            return Ok(due);
         }
+        self.broken = fault;
+        let block = answer.and_then(|answer| self.note(answer, out));
+        if let (Some(answer), None) = (answer, self.broken) {
+            due.leaders = self.check_leader(answer)?;
+        }
+        if self.premises_hold() {
+            self.check_sound(call.card, block, sides, search)?;
+            self.tips(call.card, sides, &mut due);
+        }
+        Ok(due)
+    }
+
+    /// The claims that are due while the premises hold.
+    fn check_sound(
+        &mut self,
+        called: usize,
+        block: Option<u32>,
+        sides: &[Side],
+        search: Search,
+    ) -> Result<(), String> {
         if self.answered_12 {
             return Err("claim: a sound card answered 12".into());
         }
-        self.check_sides(call.card, block, sides)?;
-        self.check_search(call.card, search)?;
+        self.check_sides(called, block, sides)?;
+        self.check_search(called, search)?;
         self.due = true;
         self.checked += 1;
-        Ok(Due {
-            leaders,
-            ..self.tips(call.card, sides)
-        })
+        Ok(())
+    }
+
+    /// How a call marked a card, if it did in a record that calls made.
+    fn marked(&self, call: &Call, outcome: &Outcome) -> [bool; MARKED.len()] {
+        let (Some(frame), Outcome::Marked(marked)) = (call.frames(self.term).first(), outcome)
+        else {
+            return Default::default();
+        };
+        if marked.number != 0 || !self.marks.are_calls(call.card) {
+            return Default::default();
+        }
+        let others = cards(self.f) - self.sound.cards().count_ones();
+        [
+            self.premises_hold(),
+            others > u32::from(self.f),
+            self.broken == Some(BLAMED),
+            self.broken == Some(FORGED),
+            !self.sound.is_open(call.card),
+            self.sound.is_sound(frame::signer(frame).into()),
+        ]
     }
 
     /// All claims but the search's, after a call at a card that may have put out a block.
@@ -218,7 +224,7 @@ impl Claims {
         block: Option<u32>,
         sides: &[Side],
     ) -> Result<(), String> {
-        let open = |&(card, _): &(usize, &Side)| self.is_open(card);
+        let open = |&(card, _): &(usize, &Side)| self.sound.is_open(card);
         let cards: Vec<_> = sides.iter().enumerate().filter(open).collect();
         for &(card, side) in &cards {
             if card == called || !self.due {
@@ -234,7 +240,7 @@ impl Claims {
     }
 
     /// How the called card's tip differs from other cards'.
-    fn tips(&self, card: usize, sides: &[Side]) -> Due {
+    fn tips(&self, card: usize, sides: &[Side], due: &mut Due) {
         let record = &sides[card].record;
         let tip = record.tip_round;
         let other_block = |other: &Side| {
@@ -243,43 +249,32 @@ impl Claims {
         };
         let other_tip = |(index, other): (usize, &Side)| {
             let same_round = other.record.round == record.round;
-            self.is_open(index) && same_round && other.record.tip_round != tip
+            self.sound.is_open(index) && same_round && other.record.tip_round != tip
         };
-        Due {
-            claims: true,
-            two_blocks: tip > 0 && sides.iter().any(other_block),
-            two_tips: sides.iter().enumerate().any(other_tip),
-            leaders: false,
-        }
+        due.claims = true;
+        due.two_blocks = tip > 0 && sides.iter().any(other_block);
+        due.two_tips = sides.iter().enumerate().any(other_tip);
     }
 
     /// Notes what a sound card did; the round of a block that it put out.
-    fn note(&mut self, call: &Call, answer: &Answer, out: &[u8]) -> Option<u32> {
+    fn note(&mut self, answer: &Answer, out: &[u8]) -> Option<u32> {
         self.answered_12 |= answer.number == 12;
-        if let (What::Open(setup, rotation), 0) = (&call.what, answer.number) {
-            if self.is_open(call.card) {
-                self.broken = Some("a sound card was opened twice");
-            }
-            if usize::from(setup.own) != call.card || (setup.f, setup.term) != (self.f, self.term) {
-                self.broken = Some("a sound card was opened with other numbers");
-            }
-            if *rotation != seats(&self.rotation, self.f) {
-                self.broken = Some("a sound card was opened with another rotation");
-            }
-            self.open |= 1 << call.card;
-        }
         let mut block = None;
         for frame in &slots(out)[..usize::from(answer.frames)] {
-            self.put_out.insert(*frame::name(frame));
             let round = frame::round(frame);
             if frame::kind(frame) == frame::BLOCK {
                 self.blocks[round as usize - 1] = Some(Box::new(*frame));
                 block = Some(round);
-            } else if self.is_sound(usize::from(leader(round, self.f, &self.rotation))) {
-                self.broken = Some("a sound card blamed a sound leader's round");
+            } else if self.is_sound_leader(round) {
+                self.broken = Some(BLAMED);
             }
         }
         block
+    }
+
+    fn is_sound_leader(&self, round: u32) -> bool {
+        let leader = leader(round, self.f, &self.rotation);
+        self.sound.is_sound(leader.into())
     }
 
     /// One leader for a round, whichever sound card tells it, and another for each round less than n

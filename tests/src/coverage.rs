@@ -8,10 +8,12 @@ use crate::catch_up::{CatchUp, Checked, Reply};
 use crate::changes;
 use crate::claims::Due;
 use crate::frame::{self, Frame, MOST_ENTRY, SIZE};
-use crate::model::{attaching, block_in_form, cards, committed, filled, in_turn, is_rotation};
-use crate::model::{leader, record_holds, seats, shown, slots};
-use crate::model::{Answer, Fetched, Part, Record, Rotation, Search, Setup};
+use crate::marks::MARKED;
+use crate::model::{all_cards, attaching, block_in_form, cards, committed, filled, in_turn};
+use crate::model::{is_rotation, leader, record_holds, seats, shown, slots};
+use crate::model::{Answer, Fetched, Marked, Part, Record, Rotation, Search, Setup};
 use crate::model::{LEAST_OUT, MOST_BLAMES, MOST_CARDS, MOST_F, NOBODY};
+use crate::pairs;
 use crate::runner::{Outcome, Searched, Side};
 
 /// Refusals that each call can give.
@@ -21,11 +23,12 @@ const REFUSALS: &[(&str, &[u8])] = &[
     ("blame", &[2, 3, 4, 5, 6, 7, 8, 10, 14]),
     ("blames", &[2, 3, 4, 5, 6, 7, 8, 10, 14, 16]),
     ("tick", &[2, 3, 4, 5]),
+    ("equivocation", &[2, 6, 7, 8, 18]),
     ("read", &[2, 15]),
     ("fetch", &[2, 4, 15]),
 ];
 
-const REFUSED: [&str; 18] = [
+const REFUSED: [&str; 19] = [
     "",
     "refused  1 set-up",
     "refused  2 record",
@@ -44,9 +47,11 @@ const REFUSED: [&str; 18] = [
     "refused 15 absent",
     "refused 16 no set",
     "refused 17 rotation",
+    "refused 18 no equivocation",
 ];
 
-/// Ways of taking, and of refusing a rotation, a signer and a set of blames.
+/// Ways of taking, and of refusing a rotation, a signer and a set of blames; those of equivocation are
+/// in pairs.rs.
 const WAYS: &[Row] = &[
     ("open", "rotation empty"),
     ("open", "rotation one short"),
@@ -72,6 +77,7 @@ const WAYS: &[Row] = &[
     ("open", "taken, does not lead"),
     ("open", "taken, not the list's rotation"),
     ("open", "taken, a neighbour's rotation"),
+    ("open", "taken, marks before"),
     ("branch", "form, signer by number"),
     ("branch", "form, later signer by number"),
     ("branch", "taken, signer not by number"),
@@ -218,12 +224,14 @@ const CLAIMED: &[(&str, &str, &[&str])] = &[
             "taken, committed frames again",
             "taken, ends in T",
             "taken, block put out after",
+            "taken with marks",
         ],
     ),
     (
         "blame",
         "claims, blame",
         &[
+            "taken with marks",
             "refused  7 check",
             "refused  8 form",
             "refused 10 stale",
@@ -239,6 +247,7 @@ const CLAIMED: &[(&str, &str, &[&str])] = &[
         "blames",
         "claims, blames",
         &[
+            "taken with marks",
             "refused  6 cut",
             "check, last of several",
             "form, last of several",
@@ -260,10 +269,25 @@ const CLAIMED: &[(&str, &str, &[&str])] = &[
         "tick",
         "claims, tick",
         &[
+            "taken with marks",
             "blamed, R shown",
             "commits, no block stored",
             "commits, block put out",
             "commits at R = T + 1",
+        ],
+    ),
+    (
+        "equivocation",
+        "claims, equivocation",
+        &[
+            "refused  6 cut",
+            "refused  7 check",
+            "refused  8 form",
+            "refused 18 no equivocation",
+            "taken, first mark",
+            "taken, beside other marks",
+            "taken, marked already",
+            "taken at R = T + 1",
         ],
     ),
     (
@@ -300,6 +324,35 @@ const SEATS: [&str; 5] = [
     "refused  2, byte n not zero",
     "refused  2, byte 14 not zero",
     "refused  2, leads, not by number",
+];
+
+/// A record with marks: right but for one from n on, or right.
+const MARKS: [&str; 7] = [
+    "refused  2, mark at bit n",
+    "refused  2, mark at bit 15",
+    "refused  2, marks below n too",
+    "refused  2, marks from n on alone",
+    "refused with marks",
+    "taken with marks",
+    "taken with all n marks",
+];
+
+/// Where bit n is bit 15.
+const LAST_MARK: Row = ("record", "refused  2, bit 15 with n = 15");
+
+pub const OTHER_MARKS: &str = "other marks";
+
+/// Calls made with other marks, too.
+const MADE_TWICE: [&str; 9] = [
+    "branch taken",
+    "blame taken",
+    "blames taken",
+    "tick taken",
+    "equivocation taken",
+    "equivocation, a new mark in one",
+    "read found",
+    "fetch taken",
+    "refused",
 ];
 
 /// Where the rotation is not the old turn.
@@ -378,13 +431,13 @@ const SIZES: &[Size] = &[
 ];
 
 /// The leader of the old turn.
-fn by_number(round: u32, f: u8) -> u8 {
+pub fn by_number(round: u32, f: u8) -> u8 {
     leader(round, f, &in_turn(f))
 }
 
 /// What has to be known of a card before a call to tell how the call was taken.
 pub struct Before {
-    record: Record,
+    pub record: Record,
     /// The mask of the round blamed: the first frame's for blames, R for a tick.
     mask: u16,
     /// The round that a branch attaches to, and whether filled slots lie above it.
@@ -393,6 +446,8 @@ pub struct Before {
     another_due: bool,
     /// Round and height of each frame of the line, for a fetch.
     line: Vec<(u32, u32)>,
+    /// How many of the frames handed to equivocation stand in the book.
+    pub held: usize,
 }
 
 impl Before {
@@ -419,6 +474,10 @@ impl Before {
                     .collect(),
                 _ => Vec::new(),
             },
+            held: match &call.what {
+                What::Equivocation(frames) => held(frames, log),
+                _ => 0,
+            },
         }
     }
 
@@ -434,8 +493,11 @@ fn different(numbers: &[u8]) -> usize {
     numbers.iter().enumerate().filter(first).count()
 }
 
+/// Whether a row was reached.
+pub type Reached = (bool, &'static str);
+
 /// What was reached of some rows.
-fn zip<const N: usize>(reached: [bool; N], rows: [&'static str; N]) -> [(bool, &'static str); N] {
+pub fn zip<const N: usize>(reached: [bool; N], rows: [&'static str; N]) -> [Reached; N] {
     std::array::from_fn(|index| (reached[index], rows[index]))
 }
 
@@ -461,6 +523,42 @@ fn attach(frames: &[u8], log: &[u8]) -> Option<(u32, bool)> {
     let round = attaching(log, first)?;
     let above = &slots(log)[round as usize..];
     Some((round, above.iter().any(frame::filled)))
+}
+
+/// How many frames stand in the slots of their rounds.
+fn held(frames: &[u8], log: &[u8]) -> usize {
+    let index = |frame: &Frame| (frame::round(frame) as usize).wrapping_sub(1);
+    let stands = |frame: &&Frame| slots(log).get(index(frame)) == Some(*frame);
+    slots(frames).iter().filter(stands).count()
+}
+
+/// Whether a call may go by a record.
+fn holds(call: &Call, record: &Record) -> bool {
+    let (log, masks) = call.lengths();
+    record_holds(record, log, masks)
+}
+
+/// The rows of a call with these refusals.
+fn rows_of(&(call, numbers): &(&'static str, &[u8])) -> Vec<Row> {
+    let of_call = |row| (call, row);
+    let refused = numbers.iter().map(|&number| REFUSED[usize::from(number)]);
+    let mut rows: Vec<Row> = refused.map(of_call).collect();
+    rows.extend(WAYS.iter().filter(|row| row.0 == call));
+    if call == "equivocation" {
+        rows.extend(pairs::ways().map(of_call));
+    }
+    if matches!(call, "blame" | "blames" | "tick") {
+        rows.extend(COMMITS.map(of_call));
+    }
+    if !matches!(call, "equivocation" | "read" | "fetch") {
+        rows.extend(LEADERS.map(of_call));
+    }
+    if call != "open" {
+        rows.push((call, ABOVE));
+        rows.extend(SEATS.map(of_call));
+        rows.extend(MARKS.map(of_call));
+    }
+    rows
 }
 
 /// Counts by call and row.
@@ -490,28 +588,17 @@ impl Default for Coverage {
 impl Coverage {
     /// All rows with nothing reached yet.
     pub fn new() -> Coverage {
-        let mut rows = Vec::new();
-        for &(call, numbers) in REFUSALS {
-            rows.extend(numbers.iter().map(|&n| (call, REFUSED[usize::from(n)])));
-            rows.extend(WAYS.iter().filter(|row| row.0 == call));
-            if matches!(call, "blame" | "blames" | "tick") {
-                rows.extend(COMMITS.map(|row| (call, row)));
-            }
-            if !matches!(call, "read" | "fetch") {
-                rows.extend(LEADERS.map(|row| (call, row)));
-            }
-            if call != "open" {
-                rows.push((call, ABOVE));
-                rows.extend(SEATS.map(|row| (call, row)));
-            }
-        }
+        let mut rows: Vec<Row> = REFUSALS.iter().flat_map(rows_of).collect();
         rows.extend(WAYS.iter().filter(|row| row.0 == "digest"));
         rows.extend(WAYS.iter().filter(|row| row.0 == "search"));
         rows.extend(changes::rows());
+        rows.push(LAST_MARK);
         for &(_, group, claimed) in CLAIMED {
             rows.extend(claimed.iter().map(|row| (group, *row)));
         }
         rows.extend([TWO_BLOCKS, TWO_TIPS, TWO_ENDS, SET_OF_ONE, LEADERS_TOLD]);
+        rows.extend(MARKED.map(|row| ("claims", row)));
+        rows.extend(MADE_TWICE.map(|row| (OTHER_MARKS, row)));
         rows.extend(FETCHED_ON.map(|row| (CATCHING_UP, row)));
         rows.extend(TWO_CARDS.map(|row| (CATCHING_UP, row)));
         for group in [ALL, FEWER, NOT_SOUND, SHARED] {
@@ -539,7 +626,7 @@ impl Coverage {
     }
 
     /// Counts the rows that were reached.
-    fn add_all(&mut self, call: &'static str, rows: &[(bool, &'static str)]) {
+    fn add_all(&mut self, call: &'static str, rows: &[Reached]) {
         for &(reached, row) in rows {
             if reached {
                 self.add(call, row);
@@ -569,6 +656,7 @@ impl Coverage {
             (due.leaders, LEADERS_TOLD.1),
         ];
         self.add_all("claims", &rows);
+        self.add_all("claims", &zip(due.marked, MARKED));
         let follows = self.above == Some(before.record) && call.lends_all(before.record.term);
         if follows && outcome.number() == Some(2) {
             self.add(call.word(), ABOVE);
@@ -579,9 +667,11 @@ impl Coverage {
         if outcome.number() == Some(2) {
             self.bad_record(call, &before.record);
         }
+        self.marks(call, &before.record, outcome);
         match outcome {
             Outcome::Answer(answer) if answer.number != 0 => self.refused(call, before, answer),
             Outcome::Answer(answer) => self.taken(call, before, answer),
+            Outcome::Marked(marked) => self.marked(call, before, marked),
             Outcome::Part(part) => self.part(call, part),
             Outcome::Fetched(fetched) => self.fetched(call, before, fetched),
             Outcome::Digest => self.add("digest", "made"),
@@ -595,14 +685,12 @@ impl Coverage {
 
     /// A record that a call said 2 to, where its rotation or its leading R is the only cause.
     fn bad_record(&mut self, call: &Call, record: &Record) {
-        let lends_masks = !matches!(call.what, What::Read(_) | What::Fetch(_));
-        let masks = lends_masks.then_some(call.masks_len);
         let holds = |rotation| {
             let other = Record {
                 rotation,
                 ..*record
             };
-            record_holds(&other, call.log_len, masks)
+            holds(call, &other)
         };
         let f = record.f.clamp(1, MOST_F);
         let n = cards(f) as usize;
@@ -623,6 +711,62 @@ impl Coverage {
             leads && by_number(record.round, f) != record.own,
         ];
         self.add_all(call.word(), &zip(reached, SEATS));
+    }
+
+    /// What a call with marks in its record came to; 2 where they are its only cause.
+    fn marks(&mut self, call: &Call, record: &Record, outcome: &Outcome) {
+        let (Some(number), marks) = (outcome.number(), record.equivocators) else {
+            return;
+        };
+        if matches!(call.what, What::Open(..)) || marks == 0 {
+            return;
+        }
+        let f = record.f.clamp(1, MOST_F);
+        let (n, below) = (cards(f), marks & all_cards(f));
+        let mended = Record {
+            equivocators: below,
+            ..*record
+        };
+        let bad = number == 2 && below != marks && holds(call, &mended);
+        let reached = [
+            bad && marks >> n & 1 == 1,
+            bad && n < 15 && marks >> 15 == 1,
+            bad && below != 0,
+            bad && below == 0,
+            !matches!(number, 0 | 2),
+            number == 0,
+            number == 0 && marks == all_cards(f),
+        ];
+        self.add_all(call.word(), &zip(reached, MARKS));
+        self.add_all(LAST_MARK.0, &[(bad && n == 15, LAST_MARK.1)]);
+    }
+
+    fn marked(&mut self, call: &Call, before: &Before, marked: &Marked) {
+        if marked.number != 0 {
+            self.refusal(call, marked.number);
+        }
+        let rows = pairs::reached(call, before, marked);
+        self.add_all("equivocation", &rows);
+    }
+
+    /// Counts a call that was made with other marks, too.
+    pub fn other_marks(&mut self, call: &Call, outcome: &Outcome, handed: &Record, other: &Record) {
+        let taken = outcome.number() == Some(0);
+        let is = |word: &str| taken && call.word() == word;
+        let leader = slots(call.handed()).first().map_or(0, frame::signer);
+        let apart = handed.equivocators ^ other.equivocators;
+        let reached = [
+            is("branch"),
+            is("blame"),
+            is("blames"),
+            is("tick"),
+            is("equivocation"),
+            is("equivocation") && apart >> leader & 1 == 1,
+            is("read"),
+            is("fetch"),
+            !taken,
+        ];
+        self.add_all(OTHER_MARKS, &zip(reached, MADE_TWICE));
     }
 
     fn refused(&mut self, call: &Call, before: &Before, answer: &Answer) {
@@ -816,7 +960,7 @@ impl Coverage {
         }
         self.leaders(call, before, answer);
         match &call.what {
-            What::Open(_, rotation) => self.open(call.card, rotation, answer),
+            What::Open(_, rotation) => self.open(call.card, rotation, before, answer),
             What::Branch(frames) => self.branch(slots(frames), before, answer),
             What::Blame(frame) => self.blames("blame", slots(frame), before, answer),
             What::Blames(frames) => self.set(slots(frames), before, answer),
@@ -824,7 +968,7 @@ impl Coverage {
         }
     }
 
-    fn open(&mut self, card: usize, rotation: &[u8], answer: &Answer) {
+    fn open(&mut self, card: usize, rotation: &[u8], before: &Before, answer: &Answer) {
         let leads = answer.frames == 1;
         let other = rotation != seats(&self.rotation, answer.record.f);
         let neighbour = self.neighbours >> card & 1 == 1;
@@ -835,6 +979,7 @@ impl Coverage {
                 (!leads, "taken, does not lead"),
                 (other, "taken, not the list's rotation"),
                 (other && neighbour, "taken, a neighbour's rotation"),
+                (before.record.equivocators != 0, "taken, marks before"),
             ],
         );
     }
@@ -1011,7 +1156,7 @@ impl Coverage {
 
     fn refused_fetch(&mut self, call: &Call, height: u32, before: &Before, absent: bool) {
         let (record, out) = (&before.record, call.out_len);
-        let bad = !record_holds(record, call.log_len, None);
+        let bad = !holds(call, record);
         let (short, at) = (out < LEAST_OUT, height.cmp(&record.tip_height));
         let held = !before.line.is_empty();
         let mut rows = vec![

@@ -8,8 +8,8 @@
 //! buffer of 6,144 bytes. LOG, MASKS and OUT say how many of them, from the start, a call is lent.
 //! An entry has at most 512 bytes, the frames of a call at most 8,192, other bytes at most 512.
 //! RECORD is ten numbers: own number, f, wait, T, R, ticks left, tip round, tip height, committed
-//! round, committed height; and then the rotation, 15 bytes. ROTATION has any number of bytes up to
-//! 512.
+//! round, committed height; then the rotation, 15 bytes; then the marks, a number. ROTATION has any
+//! number of bytes up to 512.
 //!
 //! ```text
 //!     n                                  a new list: all records, logs and masks become zero
@@ -22,14 +22,15 @@
 //!     v CARD LOG MASKS OUT ENTRY FRAME                    blame
 //!     a CARD LOG MASKS OUT ENTRY FRAMES                   blames
 //!     t CARD LOG MASKS OUT ENTRY                          tick
+//!     e CARD FRAMES                                       equivocation
 //!     q CARD LOG HEIGHT                                   read
 //!     f CARD LOG OUT HEIGHT                               fetch
 //!     h BYTES                                             digest
 //! ```
 //!
 //! Before each call the lent part of the out buffer is filled with bytes of 165. If open, branch,
-//! blame, blames or tick is taken, the record of its answer becomes the card's; else the card keeps
-//! its own.
+//! blame, blames, tick or equivocation is taken, the record that it gives becomes the card's; else the
+//! card keeps its own.
 //!
 //! The output has a line for each call, from `o` to `h`. The rotation of its RECORD is 30 lower-case
 //! hex digits. DIGEST is in lower-case hex too; it is that of the lent log, then the lent masks with
@@ -37,6 +38,7 @@
 //!
 //! ```text
 //!     o b v a t  NUMBER PLACE FRAMES LEADER RECORD DIGEST
+//!     e          NUMBER PLACE RECORD
 //!     q          NUMBER START LENGTH DIGEST
 //!     f          NUMBER COUNT DIGEST
 //!     h          DIGEST, of the bytes
@@ -45,7 +47,7 @@
 use std::fmt::Write;
 
 use crate::call::{Call, State, Step, What};
-use crate::coverage::{Coverage, Row, CATCHING_UP};
+use crate::coverage::{Coverage, Row, CATCHING_UP, OTHER_MARKS};
 use crate::frame::SIZE;
 use crate::library::Model;
 use crate::lists::{Maker, Sizes};
@@ -70,7 +72,7 @@ pub struct Emitted {
 }
 
 /// How many seeds are looked at for lists that reach much.
-const SEEDS: u64 = 3_000;
+const SEEDS: u64 = 6_000;
 
 /// Lists of small cards from a seed on, until there are so many calls: each time the one that
 /// reaches most that is new for its length, in the end any.
@@ -79,7 +81,8 @@ pub fn emit(first_seed: u64, calls: u64, coverage: &mut Coverage) -> Emitted {
     let mut trials: Vec<Trial> = (first_seed..first_seed + SEEDS).map(Trial::new).collect();
     let mut next_seed = first_seed + SEEDS;
     while emitted.calls < calls {
-        let best = (0..trials.len()).max_by_key(|&index| trials[index].worth(coverage));
+        let reached = counts(coverage);
+        let best = (0..trials.len()).max_by_key(|&index| trials[index].worth(&reached));
         let seed = best.map_or(next_seed, |index| trials.swap_remove(index).seed);
         next_seed += u64::from(best.is_none());
         emitted.list(seed, calls, coverage);
@@ -92,29 +95,36 @@ struct Trial {
     seed: u64,
     /// Bytes of the input; a call counts as 256 more.
     length: usize,
-    /// How often it reaches each row.
-    counts: Vec<(Row, u64)>,
+    /// The rows that it reaches, each by its index, and how often.
+    counts: Vec<(usize, u64)>,
+}
+
+/// How often each row was reached.
+fn counts(coverage: &Coverage) -> Vec<u64> {
+    let rows = coverage.rows().iter();
+    rows.map(|row| coverage.count(row)).collect()
 }
 
 impl Trial {
     fn new(seed: u64) -> Trial {
         let (mut emitted, mut coverage) = (Emitted::default(), Coverage::new());
         emitted.list(seed, u64::MAX, &mut coverage);
-        // The program that reads the list makes no searches, and no card catches up on a copy.
-        let made = |row: &&Row| !row.0.ends_with("search") && !row.0.starts_with(CATCHING_UP);
-        let rows = coverage.rows().iter().filter(made);
-        let counts = rows.map(|row| (*row, coverage.count(row)));
+        // The program that reads the list makes no searches, and no calls on copies.
+        let on_copies = |row: &Row| row.0.starts_with(CATCHING_UP) || row.0 == OTHER_MARKS;
+        let made = |row: &Row| !row.0.ends_with("search") && !on_copies(row);
+        let counts = counts(&coverage).into_iter().enumerate();
+        let reached = counts.filter(|&(row, count)| count > 0 && made(&coverage.rows()[row]));
         Trial {
             seed,
             length: emitted.input.len() + 256 * emitted.calls as usize,
-            counts: counts.filter(|(_, count)| *count > 0).collect(),
+            counts: reached.collect(),
         }
     }
 
     /// Points for each megabyte.
-    fn worth(&self, coverage: &Coverage) -> usize {
-        let points = |(row, count): &(Row, u64)| {
-            let reached = coverage.count(row);
+    fn worth(&self, reached: &[u64]) -> usize {
+        let points = |&(row, count): &(usize, u64)| {
+            let reached = reached[row];
             points(reached + count) - points(reached)
         };
         1_000_000 * self.counts.iter().map(points).sum::<usize>() / self.length
@@ -125,7 +135,7 @@ impl Trial {
 fn points(count: u64) -> usize {
     match count {
         0 => 0,
-        _ => 24 + count.min(6) as usize,
+        _ => 40 + count.min(6) as usize,
     }
 }
 
@@ -196,6 +206,7 @@ impl Emitted {
             What::Blame(frame) => self.line('v', &[card, lent, bytes(frame)]),
             What::Blames(frames) => self.line('a', &[card, lent, bytes(frames)]),
             What::Tick => self.line('t', &[card, lent]),
+            What::Equivocation(frames) => self.line('e', &[card, bytes(frames)]),
             What::Read(height) => self.line('q', &[card, log, height.to_string()]),
             What::Fetch(height) => self.line('f', &[card, log, out, height.to_string()]),
             What::Digest(of) => self.line('h', &[bytes(of)]),
@@ -220,10 +231,11 @@ impl Emitted {
         let digest = hex(&sha256::digest(&lent));
         self.output += &match (outcome, &call.what) {
             (Outcome::Answer(a), _) => {
-                let (record, rotation) = (numbers(&a.record), hex(&a.record.rotation));
                 let (number, place, frames, leader) = (a.number, a.place, a.frames, a.leader);
-                format!("{number} {place} {frames} {leader} {record} {rotation} {digest}\n")
+                let record = printed(&a.record);
+                format!("{number} {place} {frames} {leader} {record} {digest}\n")
             }
+            (Outcome::Marked(m), _) => format!("{} {} {}\n", m.number, m.place, printed(&m.record)),
             (Outcome::Part(p), _) => format!("{} {} {} {digest}\n", p.number, p.start, p.length),
             (Outcome::Fetched(f), _) => format!("{} {} {digest}\n", f.number, f.count),
             (_, What::Digest(of)) => format!("{}\n", hex(&sha256::digest(of))),
@@ -243,10 +255,17 @@ fn check_sizes(call: &Call) {
 
 /// A record for the program to read.
 fn given(record: &Record) -> String {
-    format!("{} {}", numbers(record), bytes(&record.rotation))
+    let (rotation, marks) = (bytes(&record.rotation), record.equivocators);
+    format!("{} {rotation} {marks}", numbers(record))
 }
 
-/// A record's numbers.
+/// A record as the program prints it.
+fn printed(record: &Record) -> String {
+    let (rotation, marks) = (hex(&record.rotation), record.equivocators);
+    format!("{} {rotation} {marks}", numbers(record))
+}
+
+/// A record's ten numbers.
 fn numbers(r: &Record) -> String {
     let mut words = format!("{} {} {} {}", r.own, r.f, r.wait, r.term);
     for number in [

@@ -5,7 +5,7 @@ use crate::model::{Record, Rotation};
 #[cfg(apollo_lib)]
 use crate::{
     library::Library,
-    model::{Answer, Fetched, Lent, Part, Search, Setup},
+    model::{Answer, Fetched, Lent, Marked, Part, Search, Setup},
 };
 
 #[repr(C)]
@@ -40,6 +40,7 @@ pub struct ApolloReplica {
     pub committed_round: ApolloRound,
     pub committed_height: ApolloHeight,
     pub rotation: Rotation,
+    pub equivocators: u16,
 }
 
 #[repr(C)]
@@ -48,6 +49,14 @@ pub struct ApolloAnswer {
     pub number: u8,
     pub frames: u8,
     pub leader: u8,
+    pub place: u32,
+    pub replica: ApolloReplica,
+}
+
+#[repr(C)]
+#[derive(Clone, Copy, Debug, PartialEq, Eq)]
+pub struct ApolloMarked {
+    pub number: u8,
     pub place: u32,
     pub replica: ApolloReplica,
 }
@@ -146,6 +155,12 @@ extern "C" {
         out_len: usize,
     ) -> ApolloAnswer;
 
+    pub fn apollo_equivocation(
+        replica: ApolloReplica,
+        frames: *const u8,
+        frames_len: usize,
+    ) -> ApolloMarked;
+
     pub fn apollo_read(
         replica: ApolloReplica,
         log: *const u8,
@@ -184,6 +199,7 @@ impl From<Record> for ApolloReplica {
             committed_round: round(record.committed_round),
             committed_height: height(record.committed_height),
             rotation: record.rotation,
+            equivocators: record.equivocators,
         }
     }
 }
@@ -202,6 +218,7 @@ impl From<ApolloReplica> for Record {
             committed_round: replica.committed_round.value,
             committed_height: replica.committed_height.value,
             rotation: replica.rotation,
+            equivocators: replica.equivocators,
         }
     }
 }
@@ -314,6 +331,15 @@ impl Library for Archive {
         answer.into()
     }
 
+    fn equivocation(&self, record: Record, frames: &[u8]) -> Marked {
+        let marked = unsafe { apollo_equivocation(record.into(), frames.as_ptr(), frames.len()) };
+        Marked {
+            number: marked.number,
+            place: marked.place,
+            record: marked.replica.into(),
+        }
+    }
+
     fn read(&self, record: Record, log: &[u8], height: u32) -> Part {
         let height = ApolloHeight { value: height };
         let part = unsafe { apollo_read(record.into(), log.as_ptr(), log.len(), height) };
@@ -366,14 +392,18 @@ mod tests {
         assert_eq!(size_of::<ApolloRound>(), 4);
         assert_eq!(size_of::<ApolloHeight>(), 4);
         assert_eq!(size_of::<ApolloTicks>(), 4);
-        assert_eq!(size_of::<ApolloReplica>(), 52);
+        assert_eq!(size_of::<ApolloReplica>(), 56);
         assert_eq!(offset_of!(ApolloReplica, timeout), 4);
         assert_eq!(offset_of!(ApolloReplica, round), 12);
         assert_eq!(offset_of!(ApolloReplica, committed_height), 32);
         assert_eq!(offset_of!(ApolloReplica, rotation), 36);
-        assert_eq!(size_of::<ApolloAnswer>(), 60);
+        assert_eq!(offset_of!(ApolloReplica, equivocators), 52);
+        assert_eq!(size_of::<ApolloAnswer>(), 64);
         assert_eq!(offset_of!(ApolloAnswer, place), 4);
         assert_eq!(offset_of!(ApolloAnswer, replica), 8);
+        assert_eq!(size_of::<ApolloMarked>(), 64);
+        assert_eq!(offset_of!(ApolloMarked, place), 4);
+        assert_eq!(offset_of!(ApolloMarked, replica), 8);
         assert_eq!(size_of::<ApolloPart>(), 24);
         assert_eq!(offset_of!(ApolloPart, start), 8);
         assert_eq!(size_of::<ApolloFetched>(), 16);
@@ -396,6 +426,7 @@ mod tests {
             committed_round: 9,
             committed_height: 10,
             rotation: std::array::from_fn(|seat| 11 + seat as u8),
+            equivocators: 0x1a1b,
         };
         assert_eq!(Record::from(ApolloReplica::from(record)), record);
     }

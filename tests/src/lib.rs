@@ -14,7 +14,9 @@ pub mod ffi;
 pub mod frame;
 pub mod library;
 pub mod lists;
+pub mod marks;
 pub mod model;
+pub mod pairs;
 pub mod replaced;
 pub mod rng;
 pub mod rules;
@@ -25,4 +27,5 @@ pub mod sha256;
 #[path = "../../bench/sha256.rs"]
 pub mod sha256;
 pub mod show;
+pub mod sound;
 pub mod wild;

@@ -1,6 +1,6 @@
-//! What is compared: anything that offers the eight functions of a host, and the search by itself.
+//! What is compared: anything that offers the nine functions of a host, and the search by itself.
 
-use crate::model::{self, Answer, Fetched, Lent, Part, Record, Search, Setup};
+use crate::model::{self, Answer, Fetched, Lent, Marked, Part, Record, Search, Setup};
 use crate::sha256;
 
 pub trait Library {
@@ -9,6 +9,7 @@ pub trait Library {
     fn blame(&self, record: Record, frame: &[u8], lent: Lent) -> Answer;
     fn blames(&self, record: Record, frames: &[u8], lent: Lent) -> Answer;
     fn tick(&self, record: Record, lent: Lent) -> Answer;
+    fn equivocation(&self, record: Record, frames: &[u8]) -> Marked;
     fn read(&self, record: Record, log: &[u8], height: u32) -> Part;
     fn fetch(&self, record: Record, log: &[u8], height: u32, out: &mut [u8]) -> Fetched;
     fn digest(&self, bytes: &[u8]) -> [u8; 32];
@@ -38,6 +39,10 @@ impl Library for Model {
 
     fn tick(&self, record: Record, lent: Lent) -> Answer {
         model::tick(record, lent)
+    }
+
+    fn equivocation(&self, record: Record, frames: &[u8]) -> Marked {
+        model::equivocation(record, frames)
     }
 
     fn read(&self, record: Record, log: &[u8], height: u32) -> Part {

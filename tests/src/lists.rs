@@ -51,7 +51,7 @@ impl Maker {
             rotation,
         };
         let most = match (sizes, term) {
-            (Sizes::Small, _) => 150,
+            (Sizes::Small, _) => 120,
             (_, 0..=256) => 2_500,
             _ => 1_200,
         };
@@ -65,7 +65,7 @@ impl Maker {
 
     fn wild(rng: Rng, head: Head, sizes: Sizes) -> Maker {
         let steps = match (sizes, head.term) {
-            (Sizes::Small, _) => 40,
+            (Sizes::Small, _) => 16,
             (_, 257..) => 150,
             _ => 400,
         };

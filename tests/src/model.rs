@@ -1,7 +1,9 @@
-//! One card's step machine: open, branch, blame, blames, tick, read and fetch; and the search for the
-//! last committed slot.
+//! One card's step machine: open, branch, blame, blames, tick, equivocation, read and fetch; and the
+//! search for the last committed slot.
 //!
 //! Each call first judges everything it was handed and writes nothing until all of it has passed.
+
+use std::ops::RangeInclusive;
 
 use crate::frame::{self, Frame, Name, ENTRY_AT, GENESIS, MOST_ENTRY, SIZE};
 
@@ -38,6 +40,8 @@ pub struct Record {
     pub committed_round: u32,
     pub committed_height: u32,
     pub rotation: Rotation,
+    /// The marks: bit i says that card i signed two blocks for one round.
+    pub equivocators: u16,
 }
 
 /// The numbers that open is handed.
@@ -67,6 +71,14 @@ pub struct Answer {
     pub frames: u8,
     /// The leader of R.
     pub leader: u8,
+    pub record: Record,
+}
+
+/// The result of equivocation.
+#[derive(Clone, Copy, Debug, PartialEq, Eq)]
+pub struct Marked {
+    pub number: u8,
+    pub place: u32,
     pub record: Record,
 }
 
@@ -140,10 +152,14 @@ pub fn is_rotation(seats: &[u8], f: u8) -> bool {
     seats.len() == n as usize && all_seated()
 }
 
+/// A bit for each card below n.
+pub fn all_cards(f: u8) -> u16 {
+    ((1u32 << cards(f)) - 1) as u16
+}
+
 /// Whether a mask shows its round; bits from n on do not count.
 pub fn shown(mask: u16, f: u8) -> bool {
-    let low = (1u32 << cards(f)) - 1;
-    (u32::from(mask) & low).count_ones() > u32::from(f)
+    (mask & all_cards(f)).count_ones() > u32::from(f)
 }
 
 /// The slots of a book; slot r stands at index r - 1.
@@ -296,6 +312,25 @@ pub fn tick(record: Record, lent: Lent) -> Answer {
     card.taken()
 }
 
+/// Hands in two blocks of one round: its leader, who signed both, is marked.
+pub fn equivocation(record: Record, frames: &[u8]) -> Marked {
+    match judge_pair(&record, frames) {
+        Err(Refusal { number, place }) => Marked {
+            number,
+            place,
+            record,
+        },
+        Ok(leader) => Marked {
+            number: 0,
+            place: 0,
+            record: Record {
+                equivocators: record.equivocators | 1 << leader,
+                ..record
+            },
+        },
+    }
+}
+
 /// Shows the entry at a committed height.
 pub fn read(record: Record, log: &[u8], height: u32) -> Part {
     let refused = |number| Part {
@@ -303,7 +338,7 @@ pub fn read(record: Record, log: &[u8], height: u32) -> Part {
         start: 0,
         length: 0,
     };
-    if !record_holds(&record, log.len(), None) {
+    if !record_holds(&record, Some(log.len()), None) {
         return refused(2);
     }
     let committed = &slots(log)[..record.committed_round as usize];
@@ -323,7 +358,7 @@ pub fn read(record: Record, log: &[u8], height: u32) -> Part {
 /// Copies line frames above a height, lowest rounds first: as many as there are and as fit whole.
 pub fn fetch(record: Record, log: &[u8], height: u32, out: &mut [u8]) -> Fetched {
     let refused = |number| Fetched { number, count: 0 };
-    if !record_holds(&record, log.len(), None) {
+    if !record_holds(&record, Some(log.len()), None) {
         return refused(2);
     }
     if out.len() < LEAST_OUT {
@@ -350,19 +385,20 @@ fn refused(record: Record, refusal: Refusal) -> Answer {
     }
 }
 
-/// The set-up's ranges and the sizes that go with them; read and fetch lend no masks.
-fn setup_holds(setup: &Setup, log: usize, masks: Option<usize>) -> bool {
+/// The set-up's ranges and the sizes that go with them; read and fetch lend no masks, equivocation no
+/// log either.
+fn setup_holds(setup: &Setup, log: Option<usize>, masks: Option<usize>) -> bool {
     let term = setup.term as usize;
     (1..=MOST_F).contains(&setup.f)
         && (1..=MOST_WAIT).contains(&setup.wait)
         && (1..=MOST_TERM).contains(&setup.term)
         && u32::from(setup.own) < cards(setup.f)
-        && log == SIZE * term
+        && log.is_none_or(|log| log == SIZE * term)
         && masks.is_none_or(|masks| masks == term)
 }
 
 /// The ranges of all fields of a record, and that the card does not lead the round it waits for.
-pub fn record_holds(record: &Record, log: usize, masks: Option<usize>) -> bool {
+pub fn record_holds(record: &Record, log: Option<usize>, masks: Option<usize>) -> bool {
     let setup = Setup {
         own: record.own,
         f: record.f,
@@ -378,6 +414,7 @@ pub fn record_holds(record: &Record, log: usize, masks: Option<usize>) -> bool {
         && record.committed_round <= record.tip_round
         && record.committed_height <= record.tip_height
         && rotation_holds(record)
+        && record.equivocators & !all_cards(record.f) == 0
         && !leads(record)
 }
 
@@ -403,7 +440,7 @@ fn judge_tray(lent: &Lent) -> Result<(), Refusal> {
 }
 
 fn judge_open(setup: &Setup, rotation: &[u8], lent: &Lent) -> Result<(), Refusal> {
-    if !setup_holds(setup, lent.log.len(), Some(lent.masks.len())) {
+    if !setup_holds(setup, Some(lent.log.len()), Some(lent.masks.len())) {
         return refuse(1);
     }
     if !is_rotation(rotation, setup.f) {
@@ -414,7 +451,7 @@ fn judge_open(setup: &Setup, rotation: &[u8], lent: &Lent) -> Result<(), Refusal
 
 /// 2 to 5, which branch, blame, blames and tick share.
 fn judge_start(record: &Record, lent: &Lent) -> Result<(), Refusal> {
-    if !record_holds(record, lent.log.len(), Some(lent.masks.len())) {
+    if !record_holds(record, Some(lent.log.len()), Some(lent.masks.len())) {
         return refuse(2);
     }
     if record.round > record.term {
@@ -426,7 +463,7 @@ fn judge_start(record: &Record, lent: &Lent) -> Result<(), Refusal> {
 /// 2 to 13. The round that the branch attaches to, 0 for the genesis.
 fn judge_branch(record: &Record, frames: &[u8], lent: &Lent) -> Result<u32, Refusal> {
     judge_start(record, lent)?;
-    let Some(frames) = whole_frames(frames, record.term as usize) else {
+    let Some(frames) = whole_frames(frames, 1..=record.term as usize) else {
         return refuse(6);
     };
     judge_frames(record, frames)?;
@@ -445,10 +482,10 @@ fn judge_branch(record: &Record, frames: &[u8], lent: &Lent) -> Result<u32, Refu
     Ok(attach)
 }
 
-/// From 1 to so many frames; none if the bytes are anything else.
-pub fn whole_frames(bytes: &[u8], most: usize) -> Option<&[Frame]> {
+/// As many frames as are allowed; none if the bytes are anything else.
+pub fn whole_frames(bytes: &[u8], allowed: RangeInclusive<usize>) -> Option<&[Frame]> {
     match bytes.as_chunks() {
-        (frames, []) if (1..=most).contains(&frames.len()) => Some(frames),
+        (frames, []) if allowed.contains(&frames.len()) => Some(frames),
         _ => None,
     }
 }
@@ -552,7 +589,7 @@ fn judge_blames(
     lent: &Lent,
 ) -> Result<Blames, Refusal> {
     judge_start(record, lent)?;
-    let Some(frames) = whole_frames(frames, most) else {
+    let Some(frames) = whole_frames(frames, 1..=most) else {
         return refuse(6);
     };
     for (frame, place) in frames.iter().zip(0..) {
@@ -591,6 +628,23 @@ fn blame_in_form(record: &Record, blame: &Frame) -> bool {
         && frame::length(blame) == 0
         && (1..=record.term).contains(&frame::round(blame))
         && all_zero(&blame[8..frame::CHECK_AT])
+}
+
+/// 2, 6, 7 and 8 of each frame in turn, and 18. The round's leader.
+fn judge_pair(record: &Record, frames: &[u8]) -> Result<u8, Refusal> {
+    if !record_holds(record, None, None) {
+        return refuse(2);
+    }
+    let Some([first, second]) = whole_frames(frames, 2..=2) else {
+        return refuse(6);
+    };
+    judge_frame(record, first, block_in_form, 0)?;
+    judge_frame(record, second, block_in_form, 1)?;
+    let round = frame::round(first);
+    if frame::name(first) == frame::name(second) || round != frame::round(second) {
+        return refuse(18);
+    }
+    Ok(leader(round, record.f, &record.rotation))
 }
 
 /// A card in the middle of a call that is taken.

@@ -1,10 +1,10 @@
 //! The model with some of its functions replaced, for tests of the comparison.
 
 use crate::library::Library;
-use crate::model::{self, Answer, Fetched, Lent, Part, Record, Search, Setup};
+use crate::model::{self, Answer, Fetched, Lent, Marked, Part, Record, Search, Setup};
 use crate::sha256;
 
-/// A call of the machine.
+/// A call that is lent the card's book and masks.
 pub enum Ask<'a> {
     Open(Setup, &'a [u8]),
     Branch(Record, &'a [u8]),
@@ -24,12 +24,14 @@ impl Ask<'_> {
 }
 
 pub type Machine = fn(&Ask, Lent) -> Answer;
+pub type Equivocation = fn(Record, &[u8]) -> Marked;
 pub type Read = fn(Record, &[u8], u32) -> Part;
 pub type Fetch = fn(Record, &[u8], u32, &mut [u8]) -> Fetched;
 pub type Find = fn(&[u8], u32) -> Search;
 
 pub struct Replaced {
     machine: Machine,
+    equivocation: Equivocation,
     read: Read,
     fetch: Fetch,
     search: Find,
@@ -39,9 +41,17 @@ impl Replaced {
     pub fn machine(machine: Machine) -> Replaced {
         Replaced {
             machine,
+            equivocation: model::equivocation,
             read: model::read,
             fetch: model::fetch,
             search: model::search,
+        }
+    }
+
+    pub fn equivocation(equivocation: Equivocation) -> Replaced {
+        Replaced {
+            equivocation,
+            ..Replaced::machine(honest)
         }
     }
 
@@ -86,6 +96,10 @@ impl Library for Replaced {
 
     fn tick(&self, record: Record, lent: Lent) -> Answer {
         (self.machine)(&Ask::Tick(record), lent)
+    }
+
+    fn equivocation(&self, record: Record, frames: &[u8]) -> Marked {
+        (self.equivocation)(record, frames)
     }
 
     fn read(&self, record: Record, log: &[u8], height: u32) -> Part {

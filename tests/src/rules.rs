@@ -40,7 +40,7 @@ impl Rules {
         side: &Side,
         search: Search,
     ) -> Result<(), String> {
-        let taken = outcome.answer().is_some_and(|answer| answer.number == 0);
+        let taken = outcome.kept().is_some();
         match &call.what {
             What::Open(setup, _) if taken => {
                 self.lists[call.card] = (setup.term == self.term).then(Vec::new);

@@ -1,5 +1,6 @@
 //! Runs calls on the library and on the model and compares every byte after each, and two searches.
-//! After some calls, and at the end, a card catches up with another on copies.
+//! Some calls are made with other marks too, on copies. After some calls, and at the end, a card
+//! catches up with another on copies.
 
 use crate::call::{Call, Head, State, Step, What};
 use crate::catch_up::{Card, CatchUp, Due};
@@ -7,7 +8,8 @@ use crate::claims::Claims;
 use crate::coverage::{Before, Coverage};
 use crate::frame::{Frame, SIZE};
 use crate::library::{Library, Model};
-use crate::model::{self, Answer, Fetched, Lent, Part, Record, Search};
+use crate::marks::{self, Other};
+use crate::model::{self, Answer, Fetched, Lent, Marked, Part, Record, Search};
 use crate::rng::Rng;
 use crate::show::Filled;
 
@@ -19,6 +21,8 @@ const SLACK: usize = 1024;
 const ABOVE: u32 = 3;
 /// One in so many calls is followed by a card's catching up.
 const CATCH_UPS: usize = 16;
+/// One in so many calls is made with other marks, too.
+const OTHER_MARKS: usize = 16;
 
 /// A lent buffer between two guards.
 #[derive(Clone)]
@@ -34,7 +38,7 @@ impl<T: Copy + PartialEq> Buffer<T> {
         Buffer { cells }
     }
 
-    fn room(&self) -> usize {
+    pub fn room(&self) -> usize {
         self.cells.len() - 2 * GUARD
     }
 
@@ -48,7 +52,7 @@ impl<T: Copy + PartialEq> Buffer<T> {
     }
 
     /// Where two buffers first differ in their first `length` cells and the guards around them.
-    fn difference(&self, other: &Self, length: usize) -> Option<isize> {
+    pub fn difference(&self, other: &Self, length: usize) -> Option<isize> {
         let end = GUARD + length + GUARD;
         let (these, others) = (&self.cells[..end], &other.cells[..end]);
         if these == others {
@@ -83,7 +87,7 @@ impl Side {
     }
 
     /// Where log or masks differ from another's.
-    fn difference(&self, other: &Side) -> Option<String> {
+    pub fn difference(&self, other: &Side) -> Option<String> {
         if let Some(at) = self.log.difference(&other.log, other.log.room()) {
             let round = at.div_euclid(SIZE as isize) + 1;
             return Some(format!("log differs at byte {at}, slot {round}"));
@@ -104,11 +108,12 @@ impl Side {
 }
 
 /// What a call came to.
-#[derive(Clone, Copy, Debug)]
+#[derive(Clone, Copy, Debug, PartialEq, Eq)]
 pub enum Outcome {
     /// A state was written; no call was made.
     Written,
     Answer(Answer),
+    Marked(Marked),
     Part(Part),
     Fetched(Fetched),
     Digest,
@@ -125,10 +130,40 @@ impl Outcome {
     pub fn number(&self) -> Option<u8> {
         match self {
             Outcome::Answer(answer) => Some(answer.number),
+            Outcome::Marked(marked) => Some(marked.number),
             Outcome::Part(part) => Some(part.number),
             Outcome::Fetched(fetched) => Some(fetched.number),
             Outcome::Written | Outcome::Digest => None,
         }
+    }
+
+    /// The record that the call gave.
+    pub fn record(&self) -> Option<&Record> {
+        match self {
+            Outcome::Answer(answer) => Some(&answer.record),
+            Outcome::Marked(marked) => Some(&marked.record),
+            _ => None,
+        }
+    }
+
+    /// The record that the host keeps: that of a call that was taken.
+    pub fn kept(&self) -> Option<&Record> {
+        self.record().filter(|_| self.number() == Some(0))
+    }
+
+    /// The marks in the record that the call gave, zero if it gave none.
+    pub fn marks(&self) -> u16 {
+        self.record().map_or(0, |record| record.equivocators)
+    }
+
+    /// The same with other marks in the record, if there is one.
+    pub fn with_marks(mut self, marks: u16) -> Outcome {
+        match &mut self {
+            Outcome::Answer(answer) => answer.record.equivocators = marks,
+            Outcome::Marked(marked) => marked.record.equivocators = marks,
+            _ => {}
+        }
+        self
     }
 }
 
@@ -241,15 +276,17 @@ impl<'l> Runner<'l> {
         self.claims.before(call);
         self.prepare(call);
         let before = Before::of(call, &self.model[call.card]);
+        let handed = call.record.unwrap_or(self.tried[call.card].record);
+        let (alone, other) = (self.alone(call, handed), self.other_marks(call, &handed));
         let outcome = match &call.what {
             What::Digest(bytes) => self.digest(bytes)?,
-            What::Read(height) => self.read(call, *height)?,
-            What::Fetch(height) => self.fetch(call, *height)?,
-            _ => self.machine(call)?,
+            _ => self.make(call)?,
         };
         let searched = self.searches(call);
         self.compare(call)?;
         let searched = searched?;
+        self.check_alone(call, &outcome, alone)?;
+        self.check_marks(call, &handed, &outcome, other, coverage)?;
         let out = self.tried_out.part(call.out_len);
         let search = searched[0].answer;
         let due = self
@@ -271,68 +308,85 @@ impl<'l> Runner<'l> {
         self.given.extend_from_slice(call.given());
     }
 
-    /// Open, branch, blame, blames or tick.
-    fn machine(&mut self, call: &Call) -> Result<Outcome, String> {
-        let alone = self.alone(call);
+    /// Any call but digest, on both sides; the hosts keep the record of one that is taken.
+    fn make(&mut self, call: &Call) -> Result<Outcome, String> {
         let tried = &mut self.tried[call.card];
         let record = call.record.unwrap_or(tried.record);
-        let lent = lend(tried, call, &self.entry, &mut self.tried_out);
-        let answer = ask(self.library, call, record, &self.given, lent);
-        if let Some(alone) = alone {
-            alone.same_as(&answer, tried, &self.tried_out)?;
-        }
+        let (given, out) = ((&self.entry[..], &self.given[..]), &mut self.tried_out);
+        let outcome = make(self.library, call, record, given, tried, out);
         let model = &mut self.model[call.card];
         let record = call.record.unwrap_or(model.record);
-        let lent = lend(model, call, &call.entry, &mut self.model_out);
-        let expected = ask(self.reference, call, record, call.given(), lent);
-        same("answer", answer, expected)?;
-        if answer.number == 0 {
-            tried.record = answer.record;
-            model.record = expected.record;
+        let (given, out) = ((&call.entry[..], call.given()), &mut self.model_out);
+        let expected = make(self.reference, call, record, given, model, out);
+        same(call.word(), outcome, expected)?;
+        if let (Some(kept), Some(expected)) = (outcome.kept(), expected.kept()) {
+            tried.record = *kept;
+            model.record = *expected;
         }
-        Ok(Outcome::Answer(answer))
+        Ok(outcome)
     }
 
     /// For a set of one frame: what the library's blame of it does to copies of the buffers.
-    fn alone(&self, call: &Call) -> Option<Alone> {
+    fn alone(&self, call: &Call, handed: Record) -> Option<Alone> {
         if !call.is_set_of_one() {
             return None;
         }
         let (mut side, mut out) = (self.tried[call.card].clone(), self.tried_out.clone());
-        let record = call.record.unwrap_or(side.record);
         let lent = lend(&mut side, call, &self.entry, &mut out);
-        let answer = self.library.blame(record, &self.given, lent);
+        let answer = self.library.blame(handed, &self.given, lent);
         Some(Alone { answer, side, out })
     }
 
-    fn read(&mut self, call: &Call, height: u32) -> Result<Outcome, String> {
-        let tried = &self.tried[call.card];
-        let record = call.record.unwrap_or(tried.record);
-        let part = self
-            .library
-            .read(record, tried.log.part(call.log_len), height);
-        let model = &self.model[call.card];
-        let record = call.record.unwrap_or(model.record);
-        let expected = self
-            .reference
-            .read(record, model.log.part(call.log_len), height);
-        same("part", part, expected)?;
-        Ok(Outcome::Part(part))
+    fn check_alone(
+        &self,
+        call: &Call,
+        outcome: &Outcome,
+        alone: Option<Alone>,
+    ) -> Result<(), String> {
+        match (alone, outcome.answer()) {
+            (Some(alone), Some(answer)) => {
+                alone.same_as(answer, &self.tried[call.card], &self.tried_out)
+            }
+            _ => Ok(()),
+        }
     }
 
-    fn fetch(&mut self, call: &Call, height: u32) -> Result<Outcome, String> {
-        let tried = &self.tried[call.card];
-        let record = call.record.unwrap_or(tried.record);
-        let log = tried.log.part(call.log_len);
-        let out = self.tried_out.lent(call.out_len);
-        let fetched = self.library.fetch(record, log, height, out);
-        let model = &self.model[call.card];
-        let record = call.record.unwrap_or(model.record);
-        let log = model.log.part(call.log_len);
-        let out = self.model_out.lent(call.out_len);
-        let expected = self.reference.fetch(record, log, height, out);
-        same("fetched", fetched, expected)?;
-        Ok(Outcome::Fetched(fetched))
+    /// For some calls: what the library does to copies with other marks in the record.
+    fn other_marks(&self, call: &Call, handed: &Record) -> Option<Other> {
+        let mut rng = Rng::new(call.seed().rotate_left(32));
+        let without = matches!(call.what, What::Open(..) | What::Digest(_));
+        if without || rng.below(OTHER_MARKS) > 0 {
+            return None;
+        }
+        let handed = marks::other(&mut rng, handed)?;
+        let (mut side, mut out) = (self.tried[call.card].clone(), self.tried_out.clone());
+        let given = (&self.entry[..], &self.given[..]);
+        let outcome = make(self.library, call, handed, given, &mut side, &mut out);
+        Some(Other {
+            handed,
+            outcome,
+            side,
+            out,
+        })
+    }
+
+    /// No mark was cleared, and other marks change nothing else.
+    fn check_marks(
+        &self,
+        call: &Call,
+        handed: &Record,
+        outcome: &Outcome,
+        other: Option<Other>,
+        coverage: &mut Coverage,
+    ) -> Result<(), String> {
+        marks::check(call, handed, outcome)?;
+        let Some(other) = other else {
+            return Ok(());
+        };
+        let side = &self.tried[call.card];
+        other.same_as(call, handed, outcome, side, &self.tried_out)?;
+        coverage.other_marks(call, outcome, handed, &other.handed);
+        Ok(())
     }
 
     fn digest(&mut self, bytes: &[u8]) -> Result<Outcome, String> {
@@ -346,7 +400,7 @@ impl<'l> Runner<'l> {
     fn searches(&self, call: &Call) -> Result<[Searched; 2], String> {
         let (term, record) = (self.term, &self.tried[call.card].record);
         let own = model::limit(record.round, record.f).min(term + ABOVE);
-        let mut rng = Rng::new(call.mark());
+        let mut rng = Rng::new(call.seed());
         let other = match rng.below(4) {
             0 => 0,
             1 => term,
@@ -377,7 +431,7 @@ impl<'l> Runner<'l> {
     /// After some calls the called card catches up with another or, more often, another with it;
     /// mostly that is the lawful card with the lowest R, of all or of those that are not sound.
     fn catch_up_after(&self, call: &Call, coverage: &mut Coverage) -> Result<(), String> {
-        let (mut rng, cards) = (Rng::new(!call.mark()), self.tried.len());
+        let (mut rng, cards) = (Rng::new(!call.seed()), self.tried.len());
         if cards == 1 || rng.below(CATCH_UPS) > 0 {
             return Ok(());
         }
@@ -478,6 +532,30 @@ fn lend<'a>(side: &'a mut Side, call: &Call, entry: &'a [u8], out: &'a mut Buffe
         masks: side.masks.lent(call.masks_len),
         entry,
         out: out.lent(call.out_len),
+    }
+}
+
+/// Makes any call but digest, with an entry and the bytes that only this call is lent.
+fn make(
+    library: &dyn Library,
+    call: &Call,
+    record: Record,
+    (entry, given): (&[u8], &[u8]),
+    side: &mut Side,
+    out: &mut Buffer<u8>,
+) -> Outcome {
+    let log = side.log.part(call.log_len);
+    match call.what {
+        What::Equivocation(_) => Outcome::Marked(library.equivocation(record, given)),
+        What::Read(height) => Outcome::Part(library.read(record, log, height)),
+        What::Fetch(height) => {
+            let out = out.lent(call.out_len);
+            Outcome::Fetched(library.fetch(record, log, height, out))
+        }
+        _ => {
+            let lent = lend(side, call, entry, out);
+            Outcome::Answer(ask(library, call, record, given, lent))
+        }
     }
 }
 

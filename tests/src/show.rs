@@ -69,23 +69,33 @@ impl fmt::Display for Call {
             What::Fetch(height) => write!(f, " above height {height}")?,
             _ => {}
         }
-        write!(f, ", log {}, masks {}", self.log_len, self.masks_len)?;
-        write!(f, ", out {}, entry [{}]", self.out_len, hex(&self.entry))?;
+        if !matches!(self.what, What::Equivocation(_)) {
+            write!(f, ", log {}, masks {}", self.log_len, self.masks_len)?;
+            write!(f, ", out {}, entry [{}]", self.out_len, hex(&self.entry))?;
+        }
         if let Some(record) = &self.record {
             write!(f, "\n        with {}", Fields(record))?;
         }
-        let handed = self.handed();
-        for (index, frame) in slots(handed).iter().enumerate() {
-            write!(f, "\n        frame {index}: {}", Words(frame))?;
-        }
-        let rest = handed.len() % SIZE;
-        if rest > 0 {
-            write!(f, "\n        and {rest} bytes more")?;
-        }
+        write!(f, "{}", Handed(self.handed()))?;
         for (group, change) in &self.changes {
             write!(f, "\n        changed: {group}: {change}")?;
         }
         Ok(())
+    }
+}
+
+/// The frames handed in.
+struct Handed<'a>(&'a [u8]);
+
+impl fmt::Display for Handed<'_> {
+    fn fmt(&self, f: &mut fmt::Formatter) -> fmt::Result {
+        for (index, frame) in slots(self.0).iter().enumerate() {
+            write!(f, "\n        frame {index}: {}", Words(frame))?;
+        }
+        match self.0.len() % SIZE {
+            0 => Ok(()),
+            rest => write!(f, "\n        and {rest} bytes more"),
+        }
     }
 }
 
@@ -103,7 +113,8 @@ impl fmt::Display for Fields<'_> {
         write!(f, " R {} left {}", r.round, r.left)?;
         write!(f, " tip {}/{}", r.tip_round, r.tip_height)?;
         write!(f, " committed {}/{}", r.committed_round, r.committed_height)?;
-        write!(f, " rotation [{}]", hex(&r.rotation))
+        write!(f, " rotation [{}]", hex(&r.rotation))?;
+        write!(f, " marks {:#b}", r.equivocators)
     }
 }
 

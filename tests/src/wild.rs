@@ -4,7 +4,7 @@ use crate::call::{Call, Head, State, Step, What};
 use crate::changes::{self, change, edge, rotation, Hand};
 use crate::fetches;
 use crate::frame::{self, Frame, Name, GENESIS, MOST_ENTRY, SIZE};
-use crate::model::{cards, in_turn, leader, line_above, seats, slots};
+use crate::model::{all_cards, cards, in_turn, leader, line_above, seats, slots};
 use crate::model::{Record, Rotation, Setup, LEAST_OUT};
 use crate::rng::Rng;
 use crate::runner::Side;
@@ -96,7 +96,7 @@ impl Wild {
     }
 
     fn masks(&mut self) -> Vec<u16> {
-        let full = ((1u32 << cards(self.head.f)) - 1) as u16;
+        let full = all_cards(self.head.f);
         let habit = self.rng.below(4);
         let mask = |rng: &mut Rng| match (habit, rng.below(5)) {
             (0, _) | (_, 0) => 0,
@@ -195,9 +195,8 @@ impl Wild {
             _ => self.rng.within(1, term + 1),
         };
         let rotation = self.rotation(10);
-        let lead = leader(round, f, &rotation);
         let mut own = self.rng.within(0, cards(f) - 1) as u8;
-        if own == lead && round <= term {
+        if own == leader(round, f, &rotation) && round <= term {
             own = ((u32::from(own) + 1) % cards(f)) as u8;
         }
         let below = if self.rng.chance(20) {
@@ -224,7 +223,14 @@ impl Wild {
             committed_round,
             committed_height: self.height_at(log, committed_round, most),
             rotation,
+            equivocators: self.marks(),
         }
+    }
+
+    /// Marks below n: none, some or all.
+    fn marks(&mut self) -> u16 {
+        let any = self.rng.number() as u16;
+        all_cards(self.head.f) & self.rng.pick(&[0, 0, any, u16::MAX])
     }
 
     /// The list's rotation, or in so many of a hundred cases another.
@@ -257,11 +263,12 @@ impl Wild {
     fn choose(&mut self, side: &Side) -> Call {
         let kinds = if self.head.term_at_edge() { 110 } else { 100 };
         let what = match self.rng.below(kinds) {
-            0..=42 => What::Branch(self.branch(side)),
-            43..=52 => What::Blame(self.blame(side)),
-            53..=64 => What::Blames(self.set(side)),
-            65..=77 => What::Tick,
-            78..=87 => What::Read(self.height(side)),
+            0..=36 => What::Branch(self.branch(side)),
+            37..=45 => What::Blame(self.blame(side)),
+            46..=56 => What::Blames(self.set(side)),
+            57..=67 => What::Tick,
+            68..=78 => What::Equivocation(self.pair(side)),
+            79..=87 => What::Read(self.height(side)),
             88..=96 => return self.fetch(side),
             _ => return self.open(side),
         };
@@ -357,6 +364,57 @@ impl Wild {
             frames[index] = frame::blame(signers[index], self.blamed(side));
         }
         frames.into_flattened()
+    }
+
+    /// Mostly two blocks of a round by its leader; also a held one, one block twice, another round or
+    /// signer, and blames.
+    fn pair(&mut self, side: &Side) -> Vec<u8> {
+        let (f, term) = (self.head.f, self.head.term);
+        let book = slots(side.log.part(SIZE * term as usize));
+        self.signers = match self.rng.below(12) {
+            0 => in_turn(f),
+            1 => self.head.rotation,
+            _ => side.record.rotation,
+        };
+        let round = self.pair_round(&side.record);
+        let mut pair = [self.double(book, round), self.double(book, round)];
+        let (one, n) = (self.rng.below(2), cards(f));
+        let rounds = [round + n, round.saturating_sub(1), 0, term + 1];
+        let other = self.rng.pick(&rounds);
+        match self.rng.below(20) {
+            0 => pair[one] = pair[1 - one],
+            1 | 2 => pair[one] = self.double(book, other),
+            3 => pair[one] = frame::blame(self.rng.bit(all_cards(f)), round),
+            4 => pair = [0, 1].map(|signer| frame::blame(signer, 1)),
+            5 | 6 => {
+                pair[one][1] = self.rng.within(0, n) as u8;
+                frame::seal(&mut pair[one]);
+            }
+            7..=9 => pair[one] = book[round.clamp(1, term) as usize - 1],
+            _ => {}
+        }
+        pair.as_flattened().to_vec()
+    }
+
+    /// The round of two blocks, at times one beyond the term.
+    fn pair_round(&mut self, record: &Record) -> u32 {
+        let term = self.head.term;
+        match self.rng.below(16) {
+            0 => self.rng.pick(&[0, term + 1]),
+            1..=3 => self.rng.pick(&[1, term]),
+            4..=6 => record.round.clamp(1, term),
+            _ => self.rng.within(1, term),
+        }
+    }
+
+    /// A block of a round on any slot or on the genesis, in form if the round is in the term.
+    fn double(&mut self, book: &[Frame], round: u32) -> Frame {
+        let parent = match self.rng.chance(60) {
+            true => *frame::name(&book[self.rng.below(book.len())]),
+            false => GENESIS,
+        };
+        let height = self.rng.pick(&[1, round, 1 + round / 2]).min(round);
+        self.block(&parent, round, height)
     }
 
     /// A chain that starts on a slot or the genesis, with or without held frames before it.

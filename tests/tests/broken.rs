@@ -6,8 +6,9 @@ use beside::drive::{replay, run, run_on, shrink, Failure};
 use beside::frame::{self, Frame, SIZE};
 use beside::lists::{Maker, Sizes};
 use beside::model::{self, attaching, in_turn, is_rotation, line, line_above, seats, shown, slots};
-use beside::model::{Answer, Fetched, Lent, Part, Record, Rotation, Search, LEAST_OUT, NOBODY};
-use beside::replaced::{again, honest, Ask, Fetch, Find, Machine, Replaced};
+use beside::model::{Answer, Fetched, Lent, Marked, Part, Record, Rotation, Search};
+use beside::model::{LEAST_OUT, NOBODY};
+use beside::replaced::{again, honest, Ask, Equivocation, Fetch, Find, Machine, Replaced};
 use beside::runner::Runner;
 
 /// What the model would answer, with other masks perhaps.
@@ -1356,6 +1357,534 @@ fn fetch_with_any_rotation(record: Record, log: &[u8], height: u32, out: &mut [u
     model::fetch(mended(record, |_, _| true), log, height, out)
 }
 
+/// The two frames that equivocation is handed, if it is lent two.
+fn two(frames: &[u8]) -> Option<[Frame; 2]> {
+    let whole = frames.len() == 2 * SIZE;
+    slots(frames).try_into().ok().filter(|_| whole)
+}
+
+fn refused_pair(number: u8, place: u32, record: Record) -> Marked {
+    Marked {
+        number,
+        place,
+        record,
+    }
+}
+
+fn taken_with(record: Record, equivocators: u16) -> Marked {
+    let record = Record {
+        equivocators,
+        ..record
+    };
+    refused_pair(0, 0, record)
+}
+
+/// Gives other marks, by the record handed in and the first frame, where the model marks a card.
+fn remark(record: Record, frames: &[u8], marks: fn(&Record, &Frame) -> u16) -> Marked {
+    let marked = model::equivocation(record, frames);
+    match (marked.number, two(frames)) {
+        (0, Some([first, _])) => taken_with(record, marks(&record, &first)),
+        _ => marked,
+    }
+}
+
+fn bit(card: u8) -> u16 {
+    1u16.checked_shl(card.into()).unwrap_or(0)
+}
+
+fn marks_the_seat(record: Record, frames: &[u8]) -> Marked {
+    remark(record, frames, |record, first| {
+        let seat = (frame::round(first) - 1) % model::cards(record.f);
+        record.equivocators | 1 << seat
+    })
+}
+
+fn marks_itself(record: Record, frames: &[u8]) -> Marked {
+    remark(record, frames, |record, _| {
+        record.equivocators | bit(record.own)
+    })
+}
+
+fn marks_by_turns(record: Record, frames: &[u8]) -> Marked {
+    remark(record, frames, |record, first| {
+        record.equivocators ^ bit(frame::signer(first))
+    })
+}
+
+fn marks_the_leader_of_r(record: Record, frames: &[u8]) -> Marked {
+    remark(record, frames, |record, _| {
+        record.equivocators | bit(leader(record.round, record))
+    })
+}
+
+fn marks_nobody(record: Record, frames: &[u8]) -> Marked {
+    remark(record, frames, |record, _| record.equivocators)
+}
+
+fn marks_one_at_most(record: Record, frames: &[u8]) -> Marked {
+    remark(record, frames, |_, first| bit(frame::signer(first)))
+}
+
+/// Says 18 where the model marks a card and the slip finds the frames alike.
+fn alike(record: Record, frames: &[u8], alike: fn(&Record, &[Frame; 2]) -> bool) -> Marked {
+    let marked = model::equivocation(record, frames);
+    match (marked.number, two(frames)) {
+        (0, Some(pair)) if alike(&record, &pair) => refused_pair(18, 0, record),
+        _ => marked,
+    }
+}
+
+fn refuses_standing_marks(record: Record, frames: &[u8]) -> Marked {
+    alike(record, frames, |record, pair| {
+        record.equivocators & bit(frame::signer(&pair[0])) != 0
+    })
+}
+
+/// Takes two blocks of rounds up to R alone.
+fn refuses_rounds_above_r(record: Record, frames: &[u8]) -> Marked {
+    alike(record, frames, |record, pair| {
+        frame::round(&pair[0]) > record.round
+    })
+}
+
+fn compares_rounds_with_r(record: Record, frames: &[u8]) -> Marked {
+    alike(record, frames, |record, pair| {
+        frame::round(&pair[0]) != record.round
+    })
+}
+
+fn compares_heights(record: Record, frames: &[u8]) -> Marked {
+    alike(record, frames, |_, [first, second]| {
+        frame::height(first) != frame::height(second)
+    })
+}
+
+fn compares_parents(record: Record, frames: &[u8]) -> Marked {
+    alike(record, frames, |_, [first, second]| {
+        frame::parent(first) == frame::parent(second)
+    })
+}
+
+fn compares_entries(record: Record, frames: &[u8]) -> Marked {
+    alike(record, frames, |_, [first, second]| {
+        first[frame::ENTRY_AT..480] == second[frame::ENTRY_AT..480]
+    })
+}
+
+fn compares_first_bytes_of_names(record: Record, frames: &[u8]) -> Marked {
+    alike(record, frames, |_, [first, second]| {
+        frame::name(first)[0] == frame::name(second)[0]
+    })
+}
+
+/// Marks the first frame's leader where the model says 18 and the slip passes the frames.
+fn passes_18(record: Record, frames: &[u8], passes: fn(&[Frame; 2]) -> bool) -> Marked {
+    let marked = model::equivocation(record, frames);
+    match (marked.number, two(frames)) {
+        (18, Some(pair)) if passes(&pair) => {
+            let marks = record.equivocators | bit(frame::signer(&pair[0]));
+            taken_with(record, marks)
+        }
+        _ => marked,
+    }
+}
+
+fn takes_equal_names(record: Record, frames: &[u8]) -> Marked {
+    passes_18(record, frames, |[first, second]| first == second)
+}
+
+fn takes_a_pair_of_two_rounds(record: Record, frames: &[u8]) -> Marked {
+    passes_18(record, frames, |[first, second]| first != second)
+}
+
+fn compares_signers_for_rounds(record: Record, frames: &[u8]) -> Marked {
+    passes_18(record, frames, |[first, second]| {
+        first != second && frame::signer(first) == frame::signer(second)
+    })
+}
+
+fn marks_though_refused(record: Record, frames: &[u8]) -> Marked {
+    let taken = passes_18(record, frames, |_| true);
+    match model::equivocation(record, frames).number {
+        18 => refused_pair(18, 0, taken.record),
+        _ => taken,
+    }
+}
+
+/// The model's answer with a field of one frame made right, where it says 8 to that frame.
+fn unjudged(record: Record, frames: &[u8], at: usize, mend: fn(&Record, &mut Frame)) -> Marked {
+    let marked = model::equivocation(record, frames);
+    match ((marked.number, marked.place), two(frames)) {
+        ((8, place), Some(mut pair)) if place as usize == at && frame::round(&pair[at]) > 0 => {
+            mend(&record, &mut pair[at]);
+            frame::seal(&mut pair[at]);
+            model::equivocation(record, pair.as_flattened())
+        }
+        _ => marked,
+    }
+}
+
+fn resign(record: &Record, frame: &mut Frame) {
+    frame[1] = leader(frame::round(frame), record);
+}
+
+/// And marks whoever signed it.
+fn first_signer_unjudged(record: Record, frames: &[u8]) -> Marked {
+    let marked = unjudged(record, frames, 0, resign);
+    match (marked.number, two(frames)) {
+        (0, Some([first, _])) => {
+            let marks = record.equivocators | bit(frame::signer(&first));
+            taken_with(record, marks)
+        }
+        _ => Marked { record, ..marked },
+    }
+}
+
+/// As if the first frame's were enough.
+fn second_signer_unjudged(record: Record, frames: &[u8]) -> Marked {
+    unjudged(record, frames, 1, resign)
+}
+
+fn second_kind_unjudged(record: Record, frames: &[u8]) -> Marked {
+    unjudged(record, frames, 1, |_, frame| frame[0] = frame::BLOCK)
+}
+
+/// Number and place.
+type Told = (u8, u32);
+
+/// Another refusal than the one told, for a record and frames.
+type Other = fn(&Record, &[u8], Told) -> Option<Told>;
+
+/// Gives another refusal where the slip says so.
+fn instead(record: Record, frames: &[u8], other: Other) -> Marked {
+    let marked = model::equivocation(record, frames);
+    match other(&record, frames, (marked.number, marked.place)) {
+        Some((number, place)) => refused_pair(number, place, record),
+        None => marked,
+    }
+}
+
+fn cut_before_record(record: Record, frames: &[u8]) -> Marked {
+    instead(record, frames, |_, frames, (number, _)| {
+        (number == 2 && frames.len() != 2 * SIZE).then_some((6, 0))
+    })
+}
+
+fn over_after_the_term(record: Record, frames: &[u8]) -> Marked {
+    instead(record, frames, |record, _, (number, _)| {
+        (number != 2 && record.round > record.term).then_some((3, 0))
+    })
+}
+
+/// The second frame's fault comes first.
+fn second_before_first(record: Record, frames: &[u8]) -> Marked {
+    instead(record, frames, |record, frames, told| {
+        let (7 | 8, 0) = told else {
+            return None;
+        };
+        let [_, second] = two(frames)?;
+        let judged = model::equivocation(*record, [second, second].as_flattened());
+        matches!(judged.number, 7 | 8).then_some((judged.number, 1))
+    })
+}
+
+/// 7 of both frames, then 8 of both.
+fn checks_before_forms(record: Record, frames: &[u8]) -> Marked {
+    instead(record, frames, |_, frames, told| {
+        match (told, two(frames)) {
+            ((8, 0), Some([_, second])) if !frame::check_is_right(&second) => Some((7, 1)),
+            _ => None,
+        }
+    })
+}
+
+fn form_before_check(record: Record, frames: &[u8]) -> Marked {
+    instead(record, frames, |record, frames, (number, place)| {
+        let mut frame = two(frames)?[place as usize];
+        frame::seal(&mut frame);
+        let judged = model::equivocation(*record, [frame, frame].as_flattened());
+        (number == 7 && judged.number == 8).then_some((8, place))
+    })
+}
+
+/// Whether frames would be 18 as they stand.
+fn is_no_double([first, second]: &[Frame; 2]) -> bool {
+    frame::name(first) == frame::name(second) || frame::round(first) != frame::round(second)
+}
+
+fn no_double_before_form(record: Record, frames: &[u8]) -> Marked {
+    instead(record, frames, |_, frames, told| {
+        (told == (8, 1) && two(frames).is_some_and(|pair| is_no_double(&pair))).then_some((18, 0))
+    })
+}
+
+fn no_double_before_check(record: Record, frames: &[u8]) -> Marked {
+    instead(record, frames, |_, frames, told| {
+        (told == (7, 1) && two(frames).is_some_and(|pair| is_no_double(&pair))).then_some((18, 0))
+    })
+}
+
+/// Of the bytes that the check covers; the check itself is not looked at.
+fn equal_bytes_before_check(record: Record, frames: &[u8]) -> Marked {
+    instead(record, frames, |_, frames, (number, _)| {
+        let [first, second] = two(frames)?;
+        (number == 7 && first[..480] == second[..480]).then_some((18, 0))
+    })
+}
+
+fn first_place_of_a_pair(record: Record, frames: &[u8]) -> Marked {
+    instead(record, frames, |_, _, (number, place)| {
+        (place == 1).then_some((number, 0))
+    })
+}
+
+fn place_of_the_second_for_18(record: Record, frames: &[u8]) -> Marked {
+    instead(record, frames, |_, _, (number, _)| {
+        (number == 18).then_some((18, 1))
+    })
+}
+
+fn one_frame_is_no_double(record: Record, frames: &[u8]) -> Marked {
+    instead(record, frames, |_, frames, (number, _)| {
+        (number == 6 && frames.len() == SIZE).then_some((18, 0))
+    })
+}
+
+/// Takes the first two of more frames.
+fn takes_more_frames(record: Record, frames: &[u8]) -> Marked {
+    match frames.len() {
+        0..=1024 => model::equivocation(record, frames),
+        _ => model::equivocation(record, &frames[..2 * SIZE]),
+    }
+}
+
+/// Looks at f, T, rotation and marks alone.
+fn leaves_out_r_and_ticks(record: Record, frames: &[u8]) -> Marked {
+    let known = (1..=model::MOST_F).contains(&record.f);
+    let led = record.rotation[0];
+    let looked_at = Record {
+        own: if known && led == 0 { 1 } else { 0 },
+        wait: 1,
+        round: 1,
+        left: 1,
+        tip_round: 0,
+        tip_height: 0,
+        committed_round: 0,
+        committed_height: 0,
+        ..record
+    };
+    let marked = model::equivocation(looked_at, frames);
+    Marked {
+        record: Record {
+            equivocators: marked.record.equivocators,
+            ..record
+        },
+        ..marked
+    }
+}
+
+fn gives_back_nothing(record: Record, frames: &[u8]) -> Marked {
+    let marked = model::equivocation(record, frames);
+    match marked.number {
+        0 => marked,
+        number => refused_pair(number, marked.place, Record::default()),
+    }
+}
+
+/// The marks that count, where those from n on do not.
+fn below_n(record: &Record) -> u16 {
+    let known = (1..=model::MOST_F).contains(&record.f);
+    let all = if known { model::all_cards(record.f) } else { 0 };
+    record.equivocators & all
+}
+
+fn pair_with_any_marks(record: Record, frames: &[u8]) -> Marked {
+    let below = below_n(&record);
+    let mut marked = model::equivocation(with_marks(record, below), frames);
+    marked.record.equivocators |= record.equivocators;
+    marked
+}
+
+fn with_marks(record: Record, equivocators: u16) -> Record {
+    Record {
+        equivocators,
+        ..record
+    }
+}
+
+/// Calls the model with other marks. The record comes back with those handed in.
+fn marked_otherwise(ask: &Ask, lent: Lent, marks: fn(&Record) -> u16) -> Answer {
+    let other = |record| with_marks(record, marks(&record));
+    let mut answer = match *ask {
+        Ask::Open(..) => return honest(ask, lent),
+        Ask::Branch(record, frames) => model::branch(other(record), frames, lent),
+        Ask::Blame(record, frame) => model::blame(other(record), frame, lent),
+        Ask::Blames(record, frames) => model::blames(other(record), frames, lent),
+        Ask::Tick(record) => model::tick(other(record), lent),
+    };
+    answer.record.equivocators = ask.record().equivocators;
+    answer
+}
+
+fn branch_with_any_marks(ask: &Ask, lent: Lent) -> Answer {
+    match ask {
+        Ask::Branch(..) => marked_otherwise(ask, lent, below_n),
+        _ => honest(ask, lent),
+    }
+}
+
+fn blame_with_any_marks(ask: &Ask, lent: Lent) -> Answer {
+    match ask {
+        Ask::Blame(..) => marked_otherwise(ask, lent, below_n),
+        _ => honest(ask, lent),
+    }
+}
+
+fn blames_with_any_marks(ask: &Ask, lent: Lent) -> Answer {
+    match ask {
+        Ask::Blames(..) => marked_otherwise(ask, lent, below_n),
+        _ => honest(ask, lent),
+    }
+}
+
+fn tick_with_any_marks(ask: &Ask, lent: Lent) -> Answer {
+    match ask {
+        Ask::Tick(_) => marked_otherwise(ask, lent, below_n),
+        _ => honest(ask, lent),
+    }
+}
+
+fn read_with_any_marks(record: Record, log: &[u8], height: u32) -> Part {
+    model::read(with_marks(record, below_n(&record)), log, height)
+}
+
+fn fetch_with_any_marks(record: Record, log: &[u8], height: u32, out: &mut [u8]) -> Fetched {
+    model::fetch(with_marks(record, below_n(&record)), log, height, out)
+}
+
+/// One bit too far.
+fn lets_bit_n_pass(ask: &Ask, lent: Lent) -> Answer {
+    marked_otherwise(ask, lent, |record| {
+        record.equivocators & !bit(record.f.saturating_mul(2) + 1)
+    })
+}
+
+/// Bits below 15 alone.
+fn lets_bit_15_pass(ask: &Ask, lent: Lent) -> Answer {
+    marked_otherwise(ask, lent, |record| record.equivocators & 0x7fff)
+}
+
+/// Clears the marks in the calls that the slip names.
+fn clears_marks(ask: &Ask, lent: Lent, named: fn(&Ask, &Done) -> bool) -> Answer {
+    amend(ask, lent, |done, _| match named(ask, done) {
+        true => with_marks(done.after, 0),
+        false => done.after,
+    })
+}
+
+fn branch_clears_marks(ask: &Ask, lent: Lent) -> Answer {
+    clears_marks(ask, lent, |ask, _| matches!(ask, Ask::Branch(..)))
+}
+
+fn blame_clears_marks(ask: &Ask, lent: Lent) -> Answer {
+    clears_marks(ask, lent, |ask, _| matches!(ask, Ask::Blame(..)))
+}
+
+fn set_clears_marks(ask: &Ask, lent: Lent) -> Answer {
+    clears_marks(ask, lent, |ask, _| matches!(ask, Ask::Blames(..)))
+}
+
+fn tick_clears_marks(ask: &Ask, lent: Lent) -> Answer {
+    clears_marks(ask, lent, |ask, _| matches!(ask, Ask::Tick(_)))
+}
+
+fn marks_end_with_the_term(ask: &Ask, lent: Lent) -> Answer {
+    clears_marks(ask, lent, |_, done| done.after.round > done.after.term)
+}
+
+/// The leader of a round that was passed over, or whose block was replaced, as if it had equivocated.
+fn marks_the_blamed(ask: &Ask, lent: Lent) -> Answer {
+    amend(ask, lent, |done, _| {
+        let record = done.after;
+        match done.grew() && !done.stored() && done.before.round > 0 {
+            true => {
+                let lead = leader(done.before.round, &record);
+                with_marks(record, record.equivocators | bit(lead))
+            }
+            false => record,
+        }
+    })
+}
+
+fn opens_marked(ask: &Ask, lent: Lent) -> Answer {
+    let mut answer = honest(ask, lent);
+    if let (Ask::Open(..), 0) = (ask, answer.number) {
+        answer.record.equivocators = bit(answer.record.own);
+    }
+    answer
+}
+
+fn refusals_lose_marks(ask: &Ask, lent: Lent) -> Answer {
+    let mut answer = honest(ask, lent);
+    if answer.number != 0 {
+        answer.record.equivocators = 0;
+    }
+    answer
+}
+
+/// Takes no block of a marked leader.
+fn refuses_marked_leaders(ask: &Ask, lent: Lent) -> Answer {
+    let number = trial(ask, &lent, lent.masks).number;
+    if let (Ask::Branch(record, bytes), 0) = (ask, number) {
+        let marked = |frame: &Frame| record.equivocators & bit(frame::signer(frame)) != 0;
+        if slots(bytes).iter().any(marked) {
+            return refusal(8, *record);
+        }
+    }
+    honest(ask, lent)
+}
+
+/// Tells the next leader that is not marked.
+fn passes_over_marked_leaders(ask: &Ask, lent: Lent) -> Answer {
+    let answer = honest(ask, lent);
+    let Record { round, term, .. } = answer.record;
+    let marked = |lead: &u8| answer.record.equivocators & bit(*lead) != 0;
+    if !marked(&answer.leader) {
+        return answer;
+    }
+    let mut leaders = (round..=term).map(|round| leader(round, &answer.record));
+    Answer {
+        leader: leaders.find(|lead| !marked(lead)).unwrap_or(NOBODY),
+        ..answer
+    }
+}
+
+/// Waits for a marked leader one tick.
+fn waits_less_for_marked_leaders(ask: &Ask, lent: Lent) -> Answer {
+    let mut answer = honest(ask, lent);
+    let record = &mut answer.record;
+    if answer.leader != NOBODY && record.equivocators & bit(answer.leader) != 0 {
+        record.left = record.left.min(1);
+    }
+    answer
+}
+
+fn read_without_marks(record: Record, log: &[u8], height: u32) -> Part {
+    let part = model::read(record, log, height);
+    match (part.number, record.equivocators) {
+        (0, 0) => part,
+        (0, _) => read_absent(record, log, height),
+        _ => part,
+    }
+}
+
+/// Leaves out frames of marked signers.
+fn fetch_without_marked(record: Record, log: &[u8], height: u32, out: &mut [u8]) -> Fetched {
+    let marked = |frame: &&Frame| record.equivocators & bit(frame::signer(frame)) != 0;
+    let frames = line_above(log, height).filter(|frame| !marked(frame));
+    give(record, log, out, frames)
+}
+
 /// Slips and worthless cards that the paper names.
 fn named_slips() -> Vec<(&'static str, Replaced)> {
     let machine = Replaced::machine;
@@ -1524,6 +2053,93 @@ fn fetch_slips() -> Vec<(&'static str, Replaced)> {
     slips.map(broken).into()
 }
 
+/// The model with another equivocation for each slip.
+fn pairs(slips: &[(&'static str, Equivocation)]) -> Vec<(&'static str, Replaced)> {
+    let broken = |&(name, slip)| (name, Replaced::equivocation(slip));
+    slips.iter().map(broken).collect()
+}
+
+/// Slips of equivocation: who is marked, and what is compared.
+fn pair_slips() -> Vec<(&'static str, Replaced)> {
+    pairs(&[
+        ("seat marked", marks_the_seat),
+        ("leader of R marked", marks_the_leader_of_r),
+        ("own number marked", marks_itself),
+        ("mark taken back", marks_by_turns),
+        ("nobody marked", marks_nobody),
+        ("one mark at most", marks_one_at_most),
+        ("marked though refused", marks_though_refused),
+        ("marked already, refused", refuses_standing_marks),
+        ("rounds above R refused", refuses_rounds_above_r),
+        ("rounds compared with R", compares_rounds_with_r),
+        ("heights compared", compares_heights),
+        ("parents compared", compares_parents),
+        ("entries compared", compares_entries),
+        ("first bytes of names", compares_first_bytes_of_names),
+        ("signers for rounds", compares_signers_for_rounds),
+        ("equal names, taken", takes_equal_names),
+        ("pair of two rounds, taken", takes_a_pair_of_two_rounds),
+        ("first signer unjudged", first_signer_unjudged),
+        ("second signer unjudged", second_signer_unjudged),
+        ("second kind unjudged", second_kind_unjudged),
+        ("R and ticks unjudged", leaves_out_r_and_ticks),
+        ("any marks, equivocation", pair_with_any_marks),
+    ])
+}
+
+/// Slips of equivocation: its refusals, their order and their places.
+fn pair_order_slips() -> Vec<(&'static str, Replaced)> {
+    pairs(&[
+        ("6 before 2", cut_before_record),
+        ("3 at R = T + 1", over_after_the_term),
+        ("second before first", second_before_first),
+        ("7 of both before 8", checks_before_forms),
+        ("8 before 7", form_before_check),
+        ("18 before 8 of the second", no_double_before_form),
+        ("18 before 7 of the second", no_double_before_check),
+        ("equal bytes before 7", equal_bytes_before_check),
+        ("place of the second 0", first_place_of_a_pair),
+        ("18 with place 1", place_of_the_second_for_18),
+        ("one frame, 18", one_frame_is_no_double),
+        ("more frames, taken", takes_more_frames),
+        ("record not given back", gives_back_nothing),
+    ])
+}
+
+/// Slips of marks in the other calls.
+fn mark_slips() -> Vec<(&'static str, Replaced)> {
+    let slips: [(&str, Machine); 17] = [
+        ("any marks, branch", branch_with_any_marks),
+        ("any marks, blame", blame_with_any_marks),
+        ("any marks, blames", blames_with_any_marks),
+        ("any marks, tick", tick_with_any_marks),
+        ("bit n let pass", lets_bit_n_pass),
+        ("bit 15 let pass", lets_bit_15_pass),
+        ("cleared by a branch", branch_clears_marks),
+        ("cleared by a blame", blame_clears_marks),
+        ("cleared by a set", set_clears_marks),
+        ("cleared by a tick", tick_clears_marks),
+        ("cleared at R = T + 1", marks_end_with_the_term),
+        ("leaders passed over marked", marks_the_blamed),
+        ("opened with a mark", opens_marked),
+        ("lost by refusals", refusals_lose_marks),
+        ("marked leaders refused", refuses_marked_leaders),
+        ("marked leaders passed over", passes_over_marked_leaders),
+        ("shorter wait for the marked", waits_less_for_marked_leaders),
+    ];
+    let mut slips = machines(&slips);
+    slips.extend([
+        ("any marks, read", Replaced::read(read_with_any_marks)),
+        ("any marks, fetch", Replaced::fetch(fetch_with_any_marks)),
+        ("no read with marks", Replaced::read(read_without_marks)),
+        (
+            "no fetch of the marked",
+            Replaced::fetch(fetch_without_marked),
+        ),
+    ]);
+    slips
+}
+
 /// A slip of the search: its name, a limit, and what it gives for that in the book of `told_by`.
 type SearchSlip = (&'static str, Find, u32, (u32, u32));
 
@@ -1605,6 +2221,8 @@ fn every_slip_is_found_and_shrunk() {
     let slips = named_slips().into_iter().chain(other_slips());
     let slips = slips.chain(set_slips()).chain(commit_slips());
     let slips = slips.chain(rotation_slips()).chain(fetch_slips());
+    let slips = slips.chain(pair_slips()).chain(pair_order_slips());
+    let slips = slips.chain(mark_slips());
     let slips = slips.map(|(name, library)| (name, library, ""));
     let searches =
         SEARCH_SLIPS.map(|(name, search, ..)| (name, Replaced::search(search), "search in "));
@@ -1623,7 +2241,7 @@ fn every_slip_is_found_and_shrunk() {
         );
         let (last, message) = replay(&library, &short.list).expect_err(name);
         assert_eq!((last + 1, &message), (steps, &short.message), "{name}");
-        let most = 8 + usize::from(short.list.head.f.max(2));
+        let most = 10 + usize::from(short.list.head.f.max(2));
         assert!(steps <= most, "{name}: still {steps} steps\n{}", short.list);
         assert!(!short.list.to_string().is_empty());
     }
@@ -1641,13 +2259,14 @@ fn failures(library: &Replaced, rules: bool) -> impl Iterator<Item = Box<Failure
     })
 }
 
-/// The claims find a slip, with a part of what they say in the first list that fails.
+/// The claims find a slip, with a part of what they say in one of the first lists that fail.
 fn claims_find(name: &str, library: &Replaced, rules: bool, part: &str) {
-    let found = failures(library, rules).next();
-    let failure = found.unwrap_or_else(|| panic!("not found: {name}"));
-    println!("{name}: {}", failure.message);
-    assert!(failure.message.starts_with("claim:"), "{}", failure.message);
-    assert!(failure.message.contains(part), "{}", failure.message);
+    let found = failures(library, rules).take(8).any(|failure| {
+        println!("{name}: {}", failure.message);
+        assert!(failure.message.starts_with("claim:"), "{}", failure.message);
+        failure.message.contains(part)
+    });
+    assert!(found, "not found: {name}");
 }
 
 #[test]
@@ -1781,4 +2400,60 @@ fn runs_on_shared_blocks_find_slips_by_themselves() {
     let library = Replaced::machine(loose_above_the_committed_block);
     claims_find("11", &library, true, "above the shared block of round");
     assert!(failures(&library, false).next().is_none());
+}
+
+/// Whoever is sound, and with no claim about every card.
+#[test]
+fn marks_of_sound_cards_are_found_on_both_sides() {
+    let slips: [(&str, Equivocation); 6] = [
+        ("equal names, taken", takes_equal_names),
+        ("two rounds, taken", takes_a_pair_of_two_rounds),
+        ("signers for rounds", compares_signers_for_rounds),
+        ("seat marked", marks_the_seat),
+        ("leader of R marked", marks_the_leader_of_r),
+        ("own number marked", marks_itself),
+    ];
+    for (name, slip) in slips {
+        let library = Replaced::equivocation(slip);
+        claims_find(name, &library, false, "claim: sound card ");
+    }
+}
+
+#[test]
+fn marks_that_calls_change_are_found_on_both_sides() {
+    let pairs: [(&str, Equivocation); 2] = [
+        ("mark taken back", marks_by_turns),
+        ("one mark at most", marks_one_at_most),
+    ];
+    for (name, slip) in pairs {
+        let library = Replaced::equivocation(slip);
+        claims_find(name, &library, false, "equivocation made the marks");
+    }
+    let machines: [(&str, Machine, &str); 6] = [
+        ("opened with a mark", opens_marked, "open made"),
+        ("cleared by a branch", branch_clears_marks, "branch made"),
+        ("cleared by a blame", blame_clears_marks, "blame made"),
+        ("cleared by a tick", tick_clears_marks, "tick made"),
+        ("leaders passed over marked", marks_the_blamed, " made"),
+        ("lost by refusals", refusals_lose_marks, " made"),
+    ];
+    for (name, slip, part) in machines {
+        claims_find(name, &Replaced::machine(slip), false, part);
+    }
+}
+
+#[test]
+fn what_else_marks_change_is_found_on_both_sides() {
+    let machine = Replaced::machine;
+    let slips = [
+        ("refused", Replaced::equivocation(refuses_standing_marks)),
+        ("leaders refused", machine(refuses_marked_leaders)),
+        ("leaders passed over", machine(passes_over_marked_leaders)),
+        ("shorter wait", machine(waits_less_for_marked_leaders)),
+        ("no read", Replaced::read(read_without_marks)),
+        ("no fetch", Replaced::fetch(fetch_without_marked)),
+    ];
+    for (name, library) in slips {
+        claims_find(name, &library, false, "differs in more than marks");
+    }
 }

@@ -1,15 +1,14 @@
 //! Which frames the premises of the claims count: those of a buffer that is not cut, whatever the call answers. Which rotations
-//! they allow. When the claims about leaders and about the search are due. And a card that comes back.
+//! they allow. When the claims about leaders and about the search are due. A card that comes back. And who may be marked.
 
 use beside::call::{Call, Head, State, Step, What};
 use beside::catch_up::{Card, CatchUp, Reply};
 use beside::coverage::Coverage;
 use beside::frame::{blame, block, name, round, signer, Frame, GENESIS, SIZE};
 use beside::library::{Library, Model};
-use beside::model::{
-    self, in_turn, line_above, seats, slots, Answer, Lent, Record, Rotation, Search, Setup,
-};
-use beside::replaced::{again, honest, Ask, Find, Machine, Replaced};
+use beside::model::{self, in_turn, line_above, seats, slots};
+use beside::model::{Answer, Lent, Marked, Record, Rotation, Search, Setup};
+use beside::replaced::{again, honest, Ask, Equivocation, Find, Machine, Replaced};
 use beside::runner::{Runner, Side};
 
 fn three_sound() -> Head {
@@ -89,6 +88,48 @@ fn a_wrong_check_forges_nothing() {
     let mut frames = [blame(2, 1), blame(3, 1)];
     frames[0][511] ^= 1;
     assert_eq!(hand_in(set(&frames, 2 * SIZE), 1024), (None, 7));
+}
+
+fn pair(frames: [Frame; 2]) -> What {
+    What::Equivocation(frames.as_flattened().to_vec())
+}
+
+/// Two blocks that name a signer, on the genesis.
+fn double(signer: u8, round: u32) -> [Frame; 2] {
+    [b"1", b"2"].map(|entry| block(signer, round, 1, &GENESIS, entry))
+}
+
+#[test]
+fn forged_blocks_of_a_pair_count_whatever_is_answered() {
+    let [one, other] = double(0, 1);
+    let mut damaged = other;
+    damaged[511] ^= 1;
+    let expected = [
+        (0, [one, other]),
+        (18, [one, one]),
+        (18, [one, double(1, 2)[0]]),
+        (7, [one, damaged]),
+        (7, [damaged, one]),
+        (8, double(0, 2)),
+        (8, double(2, 1)),
+        (8, [blame(0, 1), blame(2, 1)]),
+        (8, [blame(3, 1), one]),
+    ];
+    for (number, frames) in expected {
+        assert_eq!(hand_in(pair(frames), 1024), (FORGED, number));
+    }
+    assert_eq!(hand_in(pair([damaged, damaged]), 1024), (None, 7));
+    assert_eq!(hand_in(pair(double(3, 1)), 1024), (None, 8), "nobody's");
+}
+
+/// A whole frame before other bytes counts for a branch or a set, never for a pair.
+#[test]
+fn a_pair_of_another_length_hands_in_nothing() {
+    let forged = double(0, 1).as_flattened().repeat(2);
+    for length in [0, 1, 511, 512, 513, 1023, 1025, 1536, 2048] {
+        let cut = What::Equivocation(forged[..length].to_vec());
+        assert_eq!(hand_in(cut, 1024), (None, 6), "{length} bytes");
+    }
 }
 
 /// Cards 0 and 1 are opened, each with a rotation: the premise that breaks, and card 1's number.
@@ -352,10 +393,33 @@ impl<'l> Cards<'l> {
 
     /// Makes a call; its number.
     fn step(&mut self, card: usize, what: What) -> u8 {
+        let told = self.told(card, what);
+        told.expect("one library on both sides")
+    }
+
+    /// Makes a call; its number, or the claim that failed.
+    fn told(&mut self, card: usize, what: What) -> Result<u8, String> {
         let step = Step::Call(Call::new(&self.head, card, what));
-        let outcome = self.runner.step(&step, &mut Coverage::new());
-        let outcome = outcome.expect("one library on both sides");
-        outcome.number().expect("a number")
+        let outcome = self.runner.step(&step, &mut Coverage::new())?;
+        Ok(outcome.number().expect("a number"))
+    }
+
+    /// A card's host writes its state as it is.
+    fn write(&mut self, card: usize) {
+        let side = &self.runner.sides()[card];
+        let state = State {
+            record: side.record,
+            log: side.log.part(SIZE * 8).to_vec(),
+            masks: side.masks.part(8).to_vec(),
+        };
+        let written = self
+            .runner
+            .step(&Step::Write(card, state), &mut Coverage::new());
+        assert!(written.is_ok());
+    }
+
+    fn marks(&self, card: usize) -> u16 {
+        self.runner.sides()[card].record.equivocators
     }
 
     fn branch(&mut self, card: usize, frames: &[Frame]) -> u8 {
@@ -623,4 +687,194 @@ fn where_blocks_are_forged_a_run_may_be_loose() {
     let told = cards.hand_in(0, 2, 2).expect_err("loose");
     assert!(told.ends_with("answered (11, 0), not (0, 0)"), "{told}");
     assert_eq!(cards.end(), (FORGED, Ok(())));
+}
+
+/// Takes one block twice, and marks its signer.
+fn takes_equal_blocks(record: Record, frames: &[u8]) -> Marked {
+    let marked = model::equivocation(record, frames);
+    match marked.number {
+        18 => Marked {
+            number: 0,
+            record: Record {
+                equivocators: record.equivocators | 1 << frames[1],
+                ..record
+            },
+            ..marked
+        },
+        _ => marked,
+    }
+}
+
+/// What is told when the block of round 1, by card 0, is handed in twice to card 1, after what a list did before.
+fn handed_twice(sound: u16, before: fn(&mut Cards)) -> Result<u8, String> {
+    let library = Replaced::equivocation(takes_equal_blocks);
+    let mut cards = Cards::open(1, &[0, 1, 2], sound, &library);
+    let first = cards.line(0, 0)[0];
+    before(&mut cards);
+    cards.told(1, pair([first, first]))
+}
+
+/// No other premise is needed: neither the count of sound cards, nor that sound leaders are not blamed, nor that other frames are not
+/// forged; and the marked record may be that of a card that is not sound.
+#[test]
+fn no_sound_card_is_marked_whatever_other_premise_fails() {
+    let message = "claim: sound card 0 is marked in the record of card 1";
+    for sound in [0b111, 0b011, 0b001, 0b101] {
+        let told = handed_twice(sound, |_| ());
+        assert_eq!(told, Err(message.into()), "{sound:#b}");
+    }
+    let blamed = |cards: &mut Cards| {
+        assert_eq!(cards.step(1, What::Tick), 0);
+        let broken = Some("a sound card blamed a sound leader's round");
+        assert_eq!(cards.runner.claims.broken(), broken);
+    };
+    assert_eq!(handed_twice(0b111, blamed), Err(message.into()));
+    let forged = |cards: &mut Cards| {
+        let other = block(0, 1, 1, &GENESIS, b"forged");
+        assert_eq!(cards.branch(1, &[other]), 0);
+        assert_eq!(cards.step(2, pair(double(0, 1))), 0);
+        assert_eq!(cards.step(1, pair(double(1, 2))), 0);
+        assert_eq!(cards.runner.claims.broken(), FORGED);
+        assert_eq!((cards.marks(1), cards.marks(2)), (0b10, 0b1));
+    };
+    assert_eq!(handed_twice(0b111, forged), Err(message.into()));
+}
+
+/// A card of that number which is not sound, or a record that calls did not make.
+#[test]
+fn marks_of_cards_that_are_not_sound_are_not_told() {
+    let opened_again = |cards: &mut Cards| {
+        let setup = Setup {
+            own: 0,
+            f: 1,
+            wait: 1,
+            term: 8,
+        };
+        let seats = cards.head.seats().to_vec();
+        assert_eq!(cards.step(0, What::Open(setup, seats)), 0);
+    };
+    assert_eq!(handed_twice(0b110, |_| ()), Ok(0));
+    assert_eq!(handed_twice(0b111, opened_again), Ok(0));
+    assert_eq!(handed_twice(0b111, |cards| cards.write(0)), Ok(0));
+    assert_eq!(handed_twice(0b111, |cards| cards.write(1)), Ok(0));
+}
+
+/// With two blocks forged in its name a sound card is marked, and nothing is told; nor is it later, when its real block comes.
+#[test]
+fn forged_blocks_mark_a_sound_card() {
+    let mut cards = Cards::open(1, &[0, 1, 2], 0b111, &Model);
+    let first = cards.line(0, 0)[0];
+    let forged = block(0, 1, 1, &GENESIS, b"forged");
+    assert_eq!(cards.step(1, pair([first, forged])), 0);
+    assert_eq!(cards.step(1, What::Tick), 0);
+    assert_eq!((cards.marks(1), cards.end()), (0b1, (FORGED, Ok(()))));
+}
+
+/// f = 1: cards 0 and 2 are sound and mark card 1 by its own two blocks, each time it is told of them.
+#[test]
+fn marks_stand_while_the_premises_hold() {
+    let mut cards = Cards::open(1, &[0, 2], 0b101, &Model);
+    let first = cards.line(0, 0);
+    let two = [b"1", b"2"].map(|entry| block(1, 2, 2, name(&first[0]), entry));
+    for card in [0, 2] {
+        assert_eq!(cards.step(card, pair(two)), 0);
+        assert_eq!(cards.step(card, pair([two[1], two[0]])), 0);
+    }
+    assert_eq!(cards.branch(2, &first), 0);
+    assert_eq!(
+        (cards.branch(0, &two[..1]), cards.branch(2, &two[1..])),
+        (0, 0)
+    );
+    let third = cards.line(2, 2);
+    assert_eq!(cards.branch(0, &[two[1], third[0]]), 0);
+    assert_eq!([cards.marks(0), cards.marks(2)], [0b10; 2]);
+    assert_eq!(cards.step(0, pair([third[0], third[0]])), 18);
+    assert_eq!(cards.end(), HOLDS);
+}
+
+/// Calls that change marks, and what is told of each after card 1 was marked at card 2.
+fn changed_by(machine: Machine, what: What) -> String {
+    let library = Replaced::machine(machine);
+    let mut cards = Cards::open(1, &[0, 2], 0, &library);
+    assert_eq!(cards.step(2, pair(double(1, 2))), 0);
+    assert_eq!(cards.marks(2), 0b10);
+    cards.told(2, what).expect_err("a claim")
+}
+
+fn with_marks(answer: Answer, equivocators: u16) -> Answer {
+    let record = Record {
+        equivocators,
+        ..answer.record
+    };
+    Answer { record, ..answer }
+}
+
+#[test]
+fn marks_that_calls_change_are_told() {
+    let clears: Machine = |ask, lent| with_marks(honest(ask, lent), 0);
+    let sets: Machine = |ask, lent| {
+        let answer = honest(ask, lent);
+        let marks = answer.record.equivocators;
+        match ask {
+            Ask::Open(..) => answer,
+            _ => with_marks(answer, marks | 0b1),
+        }
+    };
+    let first = block(0, 1, 1, &GENESIS, b"");
+    let calls = [
+        ("branch", What::Branch(first.to_vec())),
+        ("blame", What::Blame(blame(1, 1).to_vec())),
+        ("blames", What::Blames(blame(1, 1).repeat(2))),
+        ("tick", What::Tick),
+    ];
+    for (word, call) in calls {
+        let cleared = format!("claim: {word} made the marks 0b0 of 0b10");
+        assert_eq!(changed_by(clears, call.clone()), cleared);
+        let set = format!("claim: {word} made the marks 0b11 of 0b10");
+        assert_eq!(changed_by(sets, call), set);
+    }
+    let opens: Machine = |ask, lent| match ask {
+        Ask::Open(..) => with_marks(honest(ask, lent), 0b100),
+        _ => honest(ask, lent),
+    };
+    let library = Replaced::machine(opens);
+    let mut runner = Runner::beside(&library, &library, &head(0));
+    let open = Step::Call(beside_a_dead_card()[0].clone());
+    let told = runner.step(&open, &mut Coverage::new()).err();
+    assert_eq!(
+        told.as_deref(),
+        Some("claim: open made the marks 0b100 of 0b0")
+    );
+}
+
+/// Marks a second card, too.
+fn marks_two(record: Record, frames: &[u8]) -> Marked {
+    let mut marked = model::equivocation(record, frames);
+    if marked.number == 0 {
+        marked.record.equivocators |= 0b101;
+    }
+    marked
+}
+
+/// Leaves no mark but the new one.
+fn marks_anew(mut record: Record, frames: &[u8]) -> Marked {
+    record.equivocators = 0;
+    model::equivocation(record, frames)
+}
+
+#[test]
+fn equivocation_sets_one_mark_and_clears_none() {
+    let slips: [(Equivocation, u8, &str); 2] = [
+        (marks_two, 18, "0b111 of 0b0"),
+        (marks_anew, 0, "0b10 of 0b1"),
+    ];
+    for (slip, number, part) in slips {
+        let library = Replaced::equivocation(slip);
+        let mut cards = Cards::open(1, &[1], 0, &library);
+        let [one, other] = double(0, 1);
+        let second = if number == 18 { one } else { other };
+        assert_eq!(cards.step(1, pair([one, second])), number);
+        let message = format!("claim: equivocation made the marks {part}");
+        assert_eq!(cards.told(1, pair(double(1, 2))), Err(message));
+    }
 }

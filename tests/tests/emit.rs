@@ -2,7 +2,7 @@
 
 use std::sync::OnceLock;
 
-use beside::coverage::{Coverage, Row};
+use beside::coverage::{Coverage, Row, OTHER_MARKS};
 use beside::emit::{emit, Emitted};
 use beside::frame::SIZE;
 use beside::model::{self, Answer, Lent, Record, Setup};
@@ -57,6 +57,7 @@ impl Words<'_> {
             committed_round: self.number(),
             committed_height: self.number(),
             rotation: self.bytes().try_into().expect("15 bytes"),
+            equivocators: self.number().try_into().expect("16 bits"),
         }
     }
 }
@@ -100,6 +101,7 @@ impl Program {
             }
             "g" => self.given = Some(words.record()),
             "o" | "b" | "v" | "a" | "t" => self.machine(letter, &mut words),
+            "e" => self.equivocation(&mut words),
             "q" => self.read(&mut words),
             "f" => self.fetch(&mut words),
             "h" => self.printed += &(hex(&sha256::digest(&words.bytes())) + "\n"),
@@ -151,19 +153,29 @@ impl Program {
     }
 
     fn print_answer(&mut self, answer: &Answer) {
-        let r = answer.record;
-        let numbers = [u32::from(answer.number), answer.place, answer.frames.into()];
-        self.print(&numbers);
-        self.print(&[
-            answer.leader.into(),
-            r.own.into(),
-            r.f.into(),
-            r.wait,
-            r.term,
-        ]);
+        self.print(&[answer.number.into(), answer.place]);
+        self.print(&[answer.frames.into(), answer.leader.into()]);
+        self.print_record(&answer.record);
+        self.printed.push(' ');
+    }
+
+    fn print_record(&mut self, r: &Record) {
+        self.print(&[r.own.into(), r.f.into(), r.wait, r.term]);
         self.print(&[r.round, r.left, r.tip_round, r.tip_height]);
         self.print(&[r.committed_round, r.committed_height]);
-        self.printed += &(hex(&r.rotation) + " ");
+        self.printed += &format!("{} {}", hex(&r.rotation), r.equivocators);
+    }
+
+    fn equivocation(&mut self, words: &mut Words) {
+        let card = &mut self.cards[words.size()];
+        let record = self.given.take().unwrap_or(card.record);
+        let marked = model::equivocation(record, &words.bytes());
+        if marked.number == 0 {
+            card.record = marked.record;
+        }
+        self.print(&[marked.number.into(), marked.place]);
+        self.print_record(&marked.record);
+        self.printed.push('\n');
     }
 
     fn read(&mut self, words: &mut Words) {
@@ -209,7 +221,7 @@ fn hex(bytes: &[u8]) -> String {
 
 #[test]
 fn an_emitted_list_reads_back() {
-    let emitted = emit(1, 6_000, &mut Coverage::new());
+    let (emitted, _) = list();
     let mut program = Program::new();
     emitted.input.lines().for_each(|line| program.line(line));
     for (number, (got, wanted)) in program
@@ -220,8 +232,8 @@ fn an_emitted_list_reads_back() {
     {
         assert_eq!(got, wanted, "result {number}");
     }
-    assert_eq!(program.printed.lines().count(), 6_000);
-    assert_eq!(emitted.output.lines().count(), 6_000);
+    assert_eq!(program.printed.lines().count(), 2_000);
+    assert_eq!(emitted.output.lines().count(), 2_000);
 }
 
 /// The list of 2,000 calls and what it reaches.
@@ -236,7 +248,7 @@ fn list() -> &'static (Emitted, Coverage) {
 #[test]
 fn an_emitted_list_makes_every_call_often() {
     let (emitted, _) = list();
-    for letter in "obvatqf".chars() {
+    for letter in "obvateqf".chars() {
         let made = emitted
             .input
             .lines()
@@ -273,7 +285,7 @@ fn an_emitted_list_refuses_rotations_in_every_way() {
     let of_a_record = |row: &Row| row.1.contains(" seat") || row.1.contains(" byte n");
     let refused = |row: &&Row| of_open(row) || row.1.starts_with("refused  2") && of_a_record(row);
     let rows: Vec<_> = coverage.rows().iter().filter(refused).collect();
-    assert_eq!(rows.len(), 23 + 3 * 6);
+    assert_eq!(rows.len(), 23 + 3 * 7);
     for row in rows {
         assert!(coverage.count(row) > 0, "{row:?}");
     }
@@ -287,6 +299,19 @@ fn an_emitted_list_fills_trays_in_every_way() {
     for row in fetches.filter(|row| !row.1.contains("over 15 frames")) {
         assert!(coverage.count(row) > 0, "{row:?}");
     }
+}
+
+/// Each way of equivocation with small n is there, and of marks in the records of all calls.
+#[test]
+fn an_emitted_list_marks_in_every_way() {
+    let (_, coverage) = list();
+    let small = |row: &Row| row.1.ends_with(" 3") || row.1.ends_with(" 5");
+    let large = |row: &Row| row.1.starts_with("taken, n = ") && !small(row);
+    let marks = |row: &Row| row.1.contains("mark") && row.0 != OTHER_MARKS;
+    let of = |row: &&Row| (row.0.ends_with("equivocation") || marks(row)) && !large(row);
+    let rows = coverage.rows().iter().filter(of);
+    let missed: Vec<_> = rows.filter(|row| coverage.count(row) == 0).collect();
+    assert!(missed.is_empty(), "{missed:?}");
 }
 
 /// The list beside the program that reads it: a change of the rules or of the lists shows here first.

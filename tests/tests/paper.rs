@@ -1,12 +1,13 @@
 //! The library under test against the papers: published digests, the bench sheet, the rehearsal, every refusal, sets of blames,
-//! committing by R, the search, the rotation, filling the tray. That is the model, or the archives where APOLLO_LIB names their folder.
+//! committing by R, the search, the rotation, filling the tray, two blocks of one round. That is the model, or the archives where
+//! APOLLO_LIB names their folder.
 
 use std::collections::VecDeque;
 
 use beside::frame::{self, blame, block, Frame, GENESIS, SIZE};
 use beside::library::under_test;
 use beside::model::{in_turn, leader, limit, shown, slots, walk_up};
-use beside::model::{Answer, Fetched, Lent, Part, Record, Rotation, Search, Setup};
+use beside::model::{Answer, Fetched, Lent, Marked, Part, Record, Rotation, Search, Setup};
 use beside::rng::Rng;
 use beside::sha256::K;
 
@@ -138,6 +139,20 @@ impl Card {
         let record = self.record;
         let answer = under_test().tick(record, self.lend());
         self.keep(answer)
+    }
+
+    fn equivocation(&mut self, pair: &[Frame; 2]) -> Marked {
+        let marked = under_test().equivocation(self.record, pair.as_flattened());
+        self.record = marked.record;
+        marked
+    }
+
+    /// Hands in frames that are no equivocation: number and place. The record comes back as it was.
+    fn refused_pair(&self, frames: &[u8]) -> (u8, u32) {
+        let marked = under_test().equivocation(self.record, frames);
+        assert_ne!(marked.number, 0);
+        assert_eq!(marked.record, self.record);
+        (marked.number, marked.place)
     }
 
     fn read(&self, height: u32) -> Part {
@@ -454,11 +469,18 @@ fn refusal_2_record() {
         assert_eq!(told(card.tick()), (2, 0));
         assert_eq!((card.read(1).number, card.fetch(0).number), (2, 2));
         assert_eq!(card.record, handed, "a refusal gives the record back");
+        let number = card.equivocation(&double(0, 1)).number;
+        let expected = if handed.term == 7 { 0 } else { 2 };
+        assert_eq!(number, expected, "equivocation is lent no log");
     }
     let mut card = Card::made(2, 1, 6, &[], 1);
     card.masks.pop();
     assert_eq!(told(card.tick()), (2, 0));
     assert_eq!(card.read(1).number, 15, "read is lent no masks");
+    for term in [0, 4_097, u32::MAX] {
+        card.record.term = term;
+        assert_eq!(card.refused_pair(double(0, 1).as_flattened()), (2, 0));
+    }
 }
 
 /// A rotation by its definition: each card below n, once.
@@ -592,11 +614,16 @@ fn refusal_17_in_its_place() {
     assert_eq!(told(card.try_seats(0, 1, 1, 2, &[2, 0, 1])), (5, 0));
 }
 
-/// The numbers that every call gives to a rotation in a record whose term is over, so that nobody leads: 3 and 15 if it is fine.
-fn numbers(f: u8, rotation: Rotation) -> [u8; 6] {
+/// The numbers that every call gives to a rotation and marks in a record whose term is over, so that nobody leads: 3, 15 and 0 if
+/// they are fine.
+fn numbers(f: u8, rotation: Rotation, marks: u16) -> [u8; 7] {
     let mut card = Card::made(0, f, 1, &[], 2);
-    card.record.rotation = rotation;
+    (card.record.rotation, card.record.equivocators) = (rotation, marks);
     let record = card.record;
+    let marked = under_test().equivocation(record, double(rotation[0], 1).as_flattened());
+    if marked.number != 0 {
+        assert_eq!(marked.record, record);
+    }
     let answers = [
         card.branch(&chain(f, &[1])),
         card.blame(&blame(0, 1)),
@@ -612,10 +639,11 @@ fn numbers(f: u8, rotation: Rotation) -> [u8; 6] {
         tick,
         card.read(1).number,
         card.fetch(0).number,
+        marked.number,
     ]
 }
 
-const FINE: [u8; 6] = [3, 3, 3, 3, 15, 15];
+const FINE: [u8; 7] = [3, 3, 3, 3, 15, 15, 0];
 
 /// f = 1 and 2: every list of numbers below n + 2 and n + 1.
 #[test]
@@ -624,8 +652,8 @@ fn refusal_2_of_every_rotation_that_is_none() {
     let of_two = lists(6, 5).into_iter().map(|seats| (2, 5, seats));
     for (f, n, seats) in of_one.chain(of_two) {
         if seats.len() == n {
-            let expected = if seats_all(&seats, f) { FINE } else { [2; 6] };
-            assert_eq!(numbers(f, padded(&seats)), expected, "{seats:?}");
+            let expected = if seats_all(&seats, f) { FINE } else { [2; 7] };
+            assert_eq!(numbers(f, padded(&seats), 0), expected, "{seats:?}");
         }
     }
 }
@@ -635,11 +663,11 @@ fn refusal_2_of_a_rotation_in_every_way() {
     for f in 1..=7 {
         let good = padded(&shuffled(f, 3));
         let n = 2 * usize::from(f) + 1;
-        assert_eq!(numbers(f, good), FINE);
+        assert_eq!(numbers(f, good, 0), FINE);
         let refused = |seat: usize, number: u8| {
             let mut rotation = good;
             rotation[seat] = number;
-            assert_eq!(numbers(f, rotation), [2; 6], "{rotation:?}");
+            assert_eq!(numbers(f, rotation, 0), [2; 7], "{rotation:?}");
         };
         for seat in 0..n {
             let alike = (0..n).filter(|&other| other != seat);
@@ -680,11 +708,13 @@ fn refusal_2_where_the_card_leads_by_its_seat() {
             let mut card = Card::made(own, f, last, &[], round);
             card.record.rotation = padded(&seats);
             let expected = if seat(&seats, round) == own {
-                (2, 2)
+                (2, 2, 2)
             } else {
-                (0, 15)
+                (0, 15, 0)
             };
-            assert_eq!((card.tick().number, card.read(1).number), expected);
+            let (tick, read) = (card.tick().number, card.read(1).number);
+            let marked = card.equivocation(&double(seats[0], 1));
+            assert_eq!((tick, read, marked.number), expected);
         }
     }
 }
@@ -1540,6 +1570,7 @@ fn a_slot_above_the_tip_is_committed() {
         assert_eq!(card.refused_set(set(5, &[0, 1]).as_flattened()), (2, 0));
         assert_eq!(told(card.tick()), (2, 0));
         assert_eq!((card.read(1).number, card.fetch(0).number), (2, 2));
+        assert_eq!(card.refused_pair(double(0, 1).as_flattened()), (2, 0));
     }
 }
 
@@ -1677,4 +1708,413 @@ fn the_search_finds_what_the_walk_up_does() {
             assert_eq!(read, limit + u32::from(round > 0) - round);
         }
     }
+}
+
+/// Two blocks of a round, with different entries.
+fn double(signer: u8, round: u32) -> [Frame; 2] {
+    [b"1", b"2"].map(|entry| block(signer, round, 1, &GENESIS, entry))
+}
+
+/// What equivocation gives when it marks a card in a record.
+fn marked(record: Record, card: u8) -> Marked {
+    Marked {
+        number: 0,
+        place: 0,
+        record: Record {
+            equivocators: record.equivocators | 1 << card,
+            ..record
+        },
+    }
+}
+
+/// A card in a state made by hand with these seats, that leads neither R nor round 1.
+fn made_with(seats: &[u8], term: u32, round: u32) -> Card {
+    let f = seats.len() as u8 / 2;
+    let leads = |own: &u8| *own == seat(seats, round) || *own == seats[0];
+    let own = turn(f).into_iter().find(|own| !leads(own));
+    let mut card = Card::made(own.expect("three cards"), f, term, &[], round);
+    card.record.rotation = padded(seats);
+    card
+}
+
+/// Each round of two turns, each n: the card on the round's seat is marked by its number, and nothing else changes.
+#[test]
+fn two_blocks_of_a_round_mark_its_leader() {
+    for (f, seed) in (1..=7).flat_map(|f| [(f, 12), (f, 13), (f, 14)]) {
+        let (seats, last) = (shuffled(f, seed), 4 * u32::from(f) + 2);
+        for (round, at) in (1..=last).flat_map(|round| [(round, 1), (round, last + 1)]) {
+            let mut card = made_with(&seats, last, at);
+            let (record, lead) = (card.record, seat(&seats, round));
+            let [one, other] = double(lead, round);
+            assert_eq!(card.equivocation(&[one, other]), marked(record, lead));
+            card.record = record;
+            assert_eq!(card.equivocation(&[other, one]), marked(record, lead));
+        }
+    }
+}
+
+/// A leader that is marked is marked again, and others beside it, until all are.
+#[test]
+fn marks_stay_and_grow() {
+    for f in 1..=7 {
+        let seats = shuffled(f, 15);
+        let n = seats.len() as u32;
+        let mut card = made_with(&seats, 2 * n, 1);
+        let mut marks = 0;
+        for round in 1..=2 * n {
+            let lead = seat(&seats, round);
+            let record = card.record;
+            assert_eq!(record.equivocators, marks);
+            for _ in 0..2 {
+                assert_eq!(
+                    card.equivocation(&double(lead, round)),
+                    marked(record, lead)
+                );
+            }
+            marks |= 1 << lead;
+        }
+        assert_eq!(u32::from(marks), (1 << n) - 1);
+    }
+}
+
+#[test]
+fn a_card_is_opened_without_marks() {
+    for f in 1..=7 {
+        for own in turn(f) {
+            let card = Card::seated(own, f, 1, 2, &shuffled(f, 16));
+            assert_eq!(card.record.equivocators, 0);
+        }
+    }
+    let mut card = Card::open(1, 1, 1, 6);
+    card.equivocation(&double(0, 1));
+    assert_eq!(card.record.equivocators, 1);
+    let answer = card.try_open(1, 1, 1, 6);
+    assert_eq!((answer.number, answer.record.equivocators), (0, 0));
+}
+
+/// Every bit from n on, by itself and beside marks, in every call; every set of marks below n for f = 1 and 2.
+#[test]
+fn refusal_2_of_a_mark_from_n_on() {
+    for f in 1..=7 {
+        let rotation = padded(&shuffled(f, 17));
+        let all = ((1u32 << (2 * f + 1)) - 1) as u16;
+        for bit in 2 * f + 1..=15 {
+            for below in [0, 1, all, all >> 1] {
+                let marks = 1 << bit | below;
+                assert_eq!(numbers(f, rotation, marks), [2; 7], "{marks:#b}");
+            }
+        }
+        assert_eq!(numbers(f, rotation, !all), [2; 7]);
+        assert_eq!(numbers(f, rotation, u16::MAX), [2; 7]);
+        for marks in [all, all - 1, all >> 1].into_iter().chain(0..=all.min(31)) {
+            assert_eq!(numbers(f, rotation, marks), FINE, "{marks:#b}");
+        }
+    }
+}
+
+/// Lengths other than 1,024, also some that are 1,024 in 16 bits.
+const LENGTHS: [usize; 16] = [
+    0, 1, 480, 511, 512, 513, 1022, 1023, 1025, 1535, 1536, 1537, 2048, 65_535, 66_560, 132_096,
+];
+
+/// 6 comes after 2 and before 7.
+#[test]
+fn a_pair_of_another_length_is_cut() {
+    let mut card = Card::made(1, 1, 6, &[], 1);
+    let frames = double(0, 1).as_flattened().repeat(129);
+    for length in LENGTHS {
+        card.record.own = 1;
+        assert_eq!(card.refused_pair(&frames[..length]), (6, 0), "{length}");
+        assert_eq!(card.refused_pair(&vec![9; length]), (6, 0), "{length}");
+        card.record.own = 0;
+        assert_eq!(card.refused_pair(&frames[..length]), (2, 0), "{length}");
+    }
+    assert_eq!(card.refused_pair(&frames[..1024]), (2, 0));
+    card.record.own = 1;
+    assert_eq!(card.refused_pair(&[9; 1024]), (7, 0));
+    let record = card.record;
+    let taken = under_test().equivocation(record, &frames[..1024]);
+    assert_eq!(taken, marked(record, 0));
+}
+
+/// 7 and 8 of the first frame, then of the second; 18 after both.
+#[test]
+fn refusals_7_and_8_of_a_pair_frame_by_frame() {
+    let card = Card::made(1, 1, 6, &[], 1);
+    let [good, other] = double(0, 1);
+    let (mut check, mut form) = (other, other);
+    check[100] ^= 1;
+    form[100] ^= 1;
+    frame::seal(&mut form);
+    let expected = [
+        ([check, good], (7, 0)),
+        ([good, check], (7, 1)),
+        ([check, check], (7, 0)),
+        ([form, good], (8, 0)),
+        ([good, form], (8, 1)),
+        ([form, form], (8, 0)),
+        ([check, form], (7, 0)),
+        ([form, check], (8, 0)),
+        ([good, good], (18, 0)),
+    ];
+    for (pair, told) in expected {
+        assert_eq!(card.refused_pair(pair.as_flattened()), told);
+    }
+}
+
+#[test]
+fn refusal_8_at_every_field_of_a_pair() {
+    let harms: [fn(&mut Frame); 14] = [
+        |frame| frame[0] = 0,
+        |frame| frame[0] = 2,
+        |frame| frame[0] = 3,
+        |frame| frame[1] = 1,
+        |frame| frame[1] = 16,
+        |frame| frame::set_length(frame, 401),
+        |frame| frame::set_length(frame, 0),
+        |frame| frame::set_round(frame, 0),
+        |frame| frame::set_round(frame, 7),
+        |frame| frame::set_height(frame, 0),
+        |frame| frame::set_height(frame, 5),
+        |frame| frame[45] = 1,
+        |frame| frame[443] = 1,
+        |frame| frame[479] = 1,
+    ];
+    let card = Card::made(1, 1, 6, &[], 1);
+    for (harm, index) in harms.iter().flat_map(|harm| [(harm, 0), (harm, 1)]) {
+        let mut pair = double(0, 4);
+        harm(&mut pair[index]);
+        assert_eq!(card.refused_pair(pair.as_flattened()), (7, index as u32));
+        frame::seal(&mut pair[index]);
+        assert_eq!(card.refused_pair(pair.as_flattened()), (8, index as u32));
+    }
+}
+
+#[test]
+fn blames_are_no_pair() {
+    let card = Card::made(1, 1, 6, &[], 1);
+    let (one, blame) = (double(0, 1)[0], blame(0, 1));
+    let expected = [
+        ([one, blame], (8, 1)),
+        ([blame, one], (8, 0)),
+        ([blame, blame], (8, 0)),
+    ];
+    for (pair, told) in expected {
+        assert_eq!(card.refused_pair(pair.as_flattened()), told);
+    }
+}
+
+/// Each round of two turns, each signer but the leader, in the first frame, in the second and in both.
+#[test]
+fn both_signers_of_a_pair_are_the_leader() {
+    for f in [1, 2, 7] {
+        let (seats, last) = (shuffled(f, 18), 4 * u32::from(f) + 2);
+        for round in 1..=last {
+            let card = made_with(&seats, last, 1);
+            let lead = seat(&seats, round);
+            let good = double(lead, round);
+            let aliens = [15, 16, 255, lead | 16, lead | 32, lead | 128];
+            let signers = (0..seats.len() as u8).chain(aliens);
+            for signer in signers.filter(|&signer| signer != lead) {
+                let bad = double(signer, round);
+                let pairs = [([bad[0], good[1]], 0), ([good[0], bad[1]], 1), (bad, 0)];
+                for (pair, place) in pairs {
+                    assert_eq!(card.refused_pair(pair.as_flattened()), (8, place));
+                }
+            }
+        }
+    }
+}
+
+/// Equal frames; two rounds, of one leader and of two; whatever is marked already.
+#[test]
+fn refusal_18_equal_names_or_two_rounds() {
+    let seats = [2, 0, 1];
+    for (at, marks) in [(1, 0), (7, 0), (1, 0b100), (7, 0b111)] {
+        let mut card = made_with(&seats, 6, at);
+        card.record.equivocators = marks;
+        for (one, other) in (1..=6).flat_map(|one| (1..=6).map(move |other| (one, other))) {
+            let first = double(seat(&seats, one), one)[0];
+            let index = usize::from(one != other && (one + other) % 2 == 0);
+            let second = double(seat(&seats, other), other)[index];
+            let pair = [first, second];
+            assert_eq!(card.refused_pair(pair.as_flattened()), (18, 0));
+        }
+    }
+}
+
+/// A name is the check as it stands; one that is not its bytes' is 7.
+#[test]
+fn refusal_7_before_equal_names() {
+    let card = Card::made(1, 1, 6, &[], 1);
+    let [one, other] = double(0, 1);
+    let (mut namesake, mut renamed) = (other, one);
+    namesake[480..].copy_from_slice(frame::name(&one));
+    renamed[480..].copy_from_slice(frame::name(&other));
+    let expected = [
+        ([one, namesake], (7, 1)),
+        ([namesake, one], (7, 0)),
+        ([one, renamed], (7, 1)),
+        ([renamed, one], (7, 0)),
+        ([namesake, namesake], (7, 0)),
+    ];
+    for (pair, told) in expected {
+        assert_eq!(card.refused_pair(pair.as_flattened()), told);
+    }
+}
+
+#[test]
+fn refusal_18_after_8_of_the_second() {
+    let card = Card::made(1, 1, 6, &[], 1);
+    let first = double(0, 1)[0];
+    for signer in [0, 2] {
+        let mut pair = [first, double(signer, 2)[1]];
+        assert_eq!(
+            card.refused_pair(pair.as_flattened()),
+            (8, 1),
+            "round 2's is 1"
+        );
+        pair[1][200] = 1;
+        assert_eq!(card.refused_pair(pair.as_flattened()), (7, 1));
+    }
+    let beyond = [double(2, 6)[0], double(0, 7)[0]];
+    assert_eq!(card.refused_pair(beyond.as_flattened()), (8, 1));
+}
+
+/// Rounds 1 and T are a round of the term, 0 and T + 1 are none.
+#[test]
+fn the_rounds_of_a_pair_are_the_terms() {
+    for term in [1, 2, 4, 4_096] {
+        let mut card = Card::made(1, 1, term, &[], 1);
+        let (record, last) = (card.record, leader(term, 1, &in_turn(1)));
+        assert_eq!(card.equivocation(&double(last, term)), marked(record, last));
+        for (round, signer) in [(0, 0), (0, 2), (term + 1, leader(term + 1, 1, &in_turn(1)))] {
+            let pair = double(signer, round);
+            assert_eq!(card.refused_pair(pair.as_flattened()), (8, 0), "{round}");
+        }
+    }
+}
+
+/// The term is over: nothing is refused for that.
+#[test]
+fn a_pair_is_judged_after_the_term() {
+    let mut card = Card::open(0, 1, 1, 1);
+    assert_eq!((card.record.round, card.tick().number), (2, 3));
+    let [own, other] = [*card.out_frame(0), block(0, 1, 1, &GENESIS, b"other")];
+    assert_eq!(card.refused_pair(&own), (6, 0));
+    let mut bad = other;
+    bad[511] ^= 1;
+    assert_eq!(card.refused_pair([own, bad].as_flattened()), (7, 1));
+    let foreign = double(1, 1)[0];
+    assert_eq!(card.refused_pair([own, foreign].as_flattened()), (8, 1));
+    assert_eq!(card.refused_pair([own, own].as_flattened()), (18, 0));
+    let record = card.record;
+    assert_eq!(card.equivocation(&[own, other]), marked(record, 0));
+    assert_eq!(card.equivocation(&[other, own]), marked(record, 0));
+    assert_eq!((card.tick().number, card.record.equivocators), (3, 1));
+}
+
+/// Heights, parents and entries may differ or not, the frames be held, committed, passed over or far above R.
+#[test]
+fn a_pair_need_not_be_linked() {
+    let frames = chain(1, &[1, 2, 3]);
+    let mut card = Card::made(1, 1, 9, &frames, 4);
+    card.commit(2, 2);
+    let far = [9; 32];
+    let pairs = [
+        [frames[0], block(0, 1, 1, &far, b"x")],
+        [frames[2], block(2, 3, 1, &GENESIS, b"")],
+        [block(0, 4, 4, &far, b""), block(0, 4, 2, &far, b"")],
+        [
+            block(2, 9, 9, &far, b""),
+            block(2, 9, 1, &GENESIS, &[7; 400]),
+        ],
+        [block(2, 9, 9, &far, b"a"), block(2, 9, 9, &far, b"b")],
+    ];
+    for pair in pairs {
+        let record = card.record;
+        let expected = marked(record, frame::signer(&pair[0]));
+        assert_eq!(card.equivocation(&pair), expected);
+    }
+    assert_eq!(card.record.equivocators, 0b101);
+}
+
+/// Calls of every kind, taken and refused, on a card with a line.
+fn some_calls(card: &mut Card) -> Vec<Answer> {
+    let round = card.record.round;
+    let next = block(0, 4, 4, frame::name(&slots(&card.log)[2]), b"next");
+    let mut answers = vec![
+        card.branch(&[next, next]),
+        card.blame(&blame(2, 2)),
+        card.blame(&blame(2, 2)),
+        card.tick(),
+        card.branch(&[next]),
+        card.blames(&set(round + 2, &[0, 2])),
+        card.blames(&set(round + 9, &[0, 2])),
+    ];
+    while answers.last().is_none_or(|answer| answer.number != 3) {
+        answers.push(card.blame(&blame(0, card.record.round.min(9))));
+        answers.push(card.tick());
+    }
+    answers
+}
+
+/// Whatever cards are marked, each call answers and leaves the same, and keeps the marks.
+#[test]
+fn marks_change_nothing_else() {
+    let made = |marks| {
+        let mut card = Card::made(1, 1, 9, &chain(1, &[1, 2, 3]), 4);
+        card.commit(2, 2);
+        card.record.equivocators = marks;
+        card
+    };
+    let mut plain = made(0);
+    let expected = some_calls(&mut plain);
+    let out = plain.out.clone();
+    assert!(expected.iter().any(|answer| answer.frames == 2));
+    for marks in 1..8 {
+        let mut card = made(marks);
+        let answers = some_calls(&mut card);
+        for (answer, mut expected) in answers.into_iter().zip(expected.clone()) {
+            expected.record.equivocators = marks;
+            assert_eq!(answer, expected);
+        }
+        assert!(card.log == plain.log && card.masks == plain.masks && card.out == out);
+        for height in 0..8 {
+            assert_eq!(card.read(height), plain.read(height));
+            assert_eq!(card.fetch(height), plain.fetch(height));
+            assert!(card.out == plain.out);
+        }
+    }
+}
+
+/// f = 1: card 1 signs two blocks for round 2, and each of the others takes one. Handed both, they mark it, go on as before and blame
+/// nobody for it.
+#[test]
+fn two_cards_mark_a_third() {
+    let [mut zero, mut two] = [0, 2].map(|own| Card::open(own, 1, 1, 6));
+    let first = *zero.out_frame(0);
+    assert_eq!(told(two.branch(&[first])), (0, 0));
+    let pair = [b"1", b"2"].map(|entry| block(1, 2, 2, frame::name(&first), entry));
+    assert_eq!(told(zero.branch(&pair[..1])), (0, 0));
+    assert_eq!(told(two.branch(&pair[1..])), (0, 0));
+    for card in [&mut zero, &mut two] {
+        let record = card.record;
+        let (log, masks) = (card.log.clone(), card.masks.clone());
+        assert_eq!(card.equivocation(&pair), marked(record, 1));
+        assert!(card.log == log && card.masks == masks);
+    }
+    let third = *two.out_frame(0);
+    assert_eq!(told(zero.branch(&[third])), (11, 0), "on the other block");
+    assert_eq!(told(zero.branch(&[pair[1], third])), (0, 0));
+    assert_eq!(
+        (zero.line(), zero.record.equivocators),
+        (vec![1, 2, 3, 4], 0b10)
+    );
+    let own = [first, *zero.out_frame(0)];
+    assert_eq!(
+        zero.refused_pair(own.as_flattened()),
+        (18, 0),
+        "its own two"
+    );
 }
