@@ -3,7 +3,7 @@ use Prim.Native.Nat.{ℕ, _≤_, _<_}
 use mathlib.Core.Path.{_≡_, refl, sym, ap, _∙_, subst}
 use mathlib.Core.Logic.{_⊎_, inl, inr, ⊎-elim}
 use mathlib.Core.Option.{Option, none, some}
-use mathlib.Core.List.{List, [], _∷_, _++_, append-assoc, append-nil}
+use mathlib.Core.List.{List, [], _∷_, _++_}
 use mathlib.Core.Bool.{Bool, true, false}
 use native.Mathlib.Omega.{arith}
 use lib.Dec.{leb, eqb}
@@ -22,7 +22,7 @@ use Rattle.agreement.specs.Claim.{committed, Begins, Agreement, Beginnin
 use Rattle.agreement.proofs.Tests.{and-true, by-cond}
 use Rattle.agreement.proofs.Slots.{chain-slots, chain-more, highest-le, highest-grows}
 use Rattle.agreement.proofs.Past.{Grows, seen-grows, hand-grows, Given, hand-back}
-use Rattle.agreement.proofs.Good.{Renewed, committed-low, Extends, limit-grows}
+use Rattle.agreement.proofs.Good.{Renewed, committed-low, Extends, extends-refl, extends-trans, limit-grows}
 use Rattle.agreement.proofs.Valid.{valid}
 use Rattle.agreement.proofs.World.{Inv, Stepped, note-grows, note-handed, step-stepped, start-inv, run-inv}
 use Rattle.agreement.proofs.Honest.{Honest, same-limit, committed-near, no-revert, emitted-stands}
@@ -35,9 +35,6 @@ begins c d l e =
     let n : ℕ = c .replica .«committed_round» .0 in
     let r : Begins (chain (d .log) n) (chain (d .log) (d .replica .«committed_round» .0)) = chain-more (d .log) n _ l in
     (r .0, r .1 ∙ ap (λ xs. xs ++ r .0) (sym (chain-slots (c .log) (d .log) n e)))
-
-begins-trans : (xs ys zs : List (List ℕ)) → Begins xs ys → Begins ys zs → Begins xs zs
-begins-trans xs ys zs p q = (p .0 ++ q .0, q .1 ∙ ap (λ us. us ++ q .0) (p .1) ∙ append-assoc xs (p .0) (q .0))
 
 -- the past grew
 step-grows : (w : World) (i : ℕ) (d : Call) → Grows (w .past) (step w i d .past)
@@ -72,24 +69,21 @@ step-handed w i (act a) x = go (w .states i) refl
         (hand-back (framesIn c a) (w .past) (handed x) (note-handed i (answer c a) (hand (framesIn c a) (w .past)) x p))
 
 module _ (s : Setup) where
-  run-grown : (es : List (ℕ × Call)) (w : World) → Each (Lawful s) w es → Inv s w → (i : ℕ) (c : State) → w .states i ≡ some c
-      → (d : State) × (run w es .states i ≡ some d) × Begins (committed c) (committed d)
+  -- each state stays, and is extended
+  run-extends : (es : List (ℕ × Call)) (w : World) → Each (Lawful s) w es → Inv s w → (i : ℕ) (c : State) → w .states i ≡ some c
+      → (d : State) × (run w es .states i ≡ some d) × Extends c d
   unfolding run
-  run-grown [] w l v i c e = (c, e, ([], sym (append-nil (committed c))))
-  run-grown (a ∷ bs) w l v i c e =
+  run-extends [] w l v i c e = (c, e, extends-refl c)
+  run-extends (a ∷ bs) w l v i c e =
       let t : Stepped s w (step w (a .0) (a .1)) = step-stepped s w (a .0) (a .1) v (l .0) in
       let m : (d : State) × (step w (a .0) (a .1) .states i ≡ some d) × Extends c d = t .grown i c e in
-      let r : (d : State) × (run (step w (a .0) (a .1)) bs .states i ≡ some d) × Begins (committed (m .0)) (committed d) =
-      run-grown bs (step w (a .0) (a .1)) (l .1) (t .inv) i (m .0) (m .1) in (
-        r .0,
-        r .1,
-        begins-trans (committed c) (committed (m .0)) (committed (r .0))
-            (begins c (m .0) (m .2 .further) (λ q o n. sym (m .2 .same-slots q o n))) (r .2),
-      )
+      let r : (d : State) × (run (step w (a .0) (a .1)) bs .states i ≡ some d) × Extends (m .0) d =
+      run-extends bs (step w (a .0) (a .1)) (l .1) (t .inv) i (m .0) (m .1) in
+      (r .0, r .1, extends-trans c (m .0) (r .0) (m .2) (r .2))
 
   -- no frame is forged, so a frame seen that names a correct signer was emitted by it
   module _ (correct : ℕ → Bool) where
-    abbrev Authentic : World → Type 0
+    abbrev pub Authentic : World → Type 0
     Authentic w =
         (x : List ℕ) → Seen x (w .past) → signer x < replicas s → correct (signer x) ≡ true → In (emitted (signer x) x) (w .past)
 
@@ -106,7 +100,7 @@ module _ (s : Setup) where
             let e : q .2 .0 ≡ x = cc (q .2 .3) in
             u (q .0) x (q .1) (subst (λ z. In z (framesIn (q .0) a)) e (q .2 .1)) (ap (checked sha256) (sym e) ∙ q .2 .2) l c
 
-    run-authentic : (es : List (ℕ × Call)) (w : World) → Each (Lawful s) w es → Each (Unforged s correct) w es → Inv s w → Authentic w
+    pub run-authentic : (es : List (ℕ × Call)) (w : World) → Each (Lawful s) w es → Each (Unforged s correct) w es → Inv s w → Authentic w
         → Authentic (run w es)
     unfolding run
     run-authentic [] w l u v h = h
@@ -114,7 +108,7 @@ module _ (s : Setup) where
         let t : Inv s (step w (a .0) (a .1)) = step-stepped s w (a .0) (a .1) v (l .0) .inv in
         run-authentic bs (step w (a .0) (a .1)) (l .1) (u .1) t (step-authentic w (a .0) (a .1) t (u .0) h)
 
-    start-authentic : Authentic start
+    pub start-authentic : Authentic start
     unfolding start
     start-authentic x (inl p) = absurd p
     start-authentic x (inr p) = absurd (p .1)
@@ -230,12 +224,19 @@ each-append P (e ∷ es) bs w l =
     let r : Each P (step w (e .0) (e .1)) es × Each P (run (step w (e .0) (e .1)) es) bs = each-append P es bs (step w (e .0) (e .1)) (l .1) in
     ((l .0, r .0), r .1)
 
+-- a state after some calls, and after more
+pub later : (s : Setup) (calls more : List (ℕ × Call)) → Each (Lawful s) start (calls ++ more) → (i : ℕ) (c : State)
+    → run start calls .states i ≡ some c → (d : State) × (run start (calls ++ more) .states i ≡ some d) × Extends c d
+later s calls more l i c e =
+    let p : Each (Lawful s) start calls × Each (Lawful s) (run start calls) more = each-append (Lawful s) calls more start l in
+    let r : (d : State) × (run (run start calls) more .states i ≡ some d) × Extends c d =
+    run-extends s more (run start calls) (p .1) (run-inv s calls start (p .0) (start-inv s)) i c e in
+    (r .0, ap (λ (u : World). u .states i) (run-append calls more start) ∙ r .1, r .2)
+
 pub only-grows : OnlyGrows
 only-grows s calls more l i c e =
-    let p : Each (Lawful s) start calls × Each (Lawful s) (run start calls) more = each-append (Lawful s) calls more start l in
-    let r : (d : State) × (run (run start calls) more .states i ≡ some d) × Begins (committed c) (committed d) =
-    run-grown s more (run start calls) (p .1) (run-inv s calls start (p .0) (start-inv s)) i c e in
-    (r .0, ap (λ (u : World). u .states i) (run-append calls more start) ∙ r .1, r .2)
+    let r : (d : State) × (run start (calls ++ more) .states i ≡ some d) × Extends c d = later s calls more l i c e in
+    (r .0, r .1, begins c (r .0) (r .2 .further) (λ q o n. sym (r .2 .same-slots q o n)))
 
 run-grows : (es : List (ℕ × Call)) (w : World) → Grows (w .past) (run w es .past)
 unfolding run

@@ -10,9 +10,9 @@ use Rattle.apollo.specs.Rotation.{padded}
 use Rattle.apollo.specs.Setup.{setupOf, replicas, leader, validRotation}
 use Rattle.apollo.specs.Masks.{setBit}
 
--- the record with these in place of R, ticks left, tip and committed
-abbrev pub updated : Replica → (round timer tipRound tipHeight committedRound committedHeight : ℕ) → Replica
-updated r round timer tipRound tipHeight committedRound committedHeight =
+-- the record with these in place of R, ticks left, tip, committed and marks
+abbrev pub updated : Replica → (round timer tipRound tipHeight committedRound committedHeight marks : ℕ) → Replica
+updated r round timer tipRound tipHeight committedRound committedHeight marks =
     record {
       id = r .id;
       f = r .f;
@@ -25,46 +25,36 @@ updated r round timer tipRound tipHeight committedRound committedHeight =
       «committed_round» = record { 0 = committedRound };
       «committed_height» = record { 0 = committedHeight };
       rotation = r .rotation;
-      equivocators = r .equivocators;
+      equivocators = marks;
     }
 
 -- with another R
 abbrev pub withRound : Replica → (round : ℕ) → Replica
 withRound r round =
     updated r round (r .timer .0) (r .«tip_round» .0) (r .«tip_height» .0) (r .«committed_round» .0) (r .«committed_height» .0)
+    (r .equivocators)
 
 -- with other ticks left
 abbrev pub withTimer : Replica → (timer : ℕ) → Replica
 withTimer r timer =
     updated r (r .round .0) timer (r .«tip_round» .0) (r .«tip_height» .0) (r .«committed_round» .0) (r .«committed_height» .0)
+    (r .equivocators)
 
 -- with another tip
 abbrev pub withTip : Replica → (round height : ℕ) → Replica
 withTip r round height =
-    updated r (r .round .0) (r .timer .0) round height (r .«committed_round» .0) (r .«committed_height» .0)
+    updated r (r .round .0) (r .timer .0) round height (r .«committed_round» .0) (r .«committed_height» .0) (r .equivocators)
 
 -- with another committed round and height
 abbrev pub withCommitted : Replica → (round height : ℕ) → Replica
 withCommitted r round height =
-    updated r (r .round .0) (r .timer .0) (r .«tip_round» .0) (r .«tip_height» .0) round height
+    updated r (r .round .0) (r .timer .0) (r .«tip_round» .0) (r .«tip_height» .0) round height (r .equivocators)
 
 -- with other marks
 abbrev pub withEquivocators : Replica → (marks : ℕ) → Replica
 withEquivocators r marks =
-    record {
-      id = r .id;
-      f = r .f;
-      timeout = r .timeout;
-      «last_round» = r .«last_round»;
-      round = r .round;
-      timer = r .timer;
-      «tip_round» = r .«tip_round»;
-      «tip_height» = r .«tip_height»;
-      «committed_round» = r .«committed_round»;
-      «committed_height» = r .«committed_height»;
-      rotation = r .rotation;
-      equivocators = marks;
-    }
+    updated r (r .round .0) (r .timer .0) (r .«tip_round» .0) (r .«tip_height» .0) (r .«committed_round» .0)
+    (r .«committed_height» .0) marks
 
 -- with card i "marked"
 abbrev pub withMark : Replica → (i : ℕ) → Replica

@@ -16,7 +16,7 @@ fn no_frames(number: u8) -> Fetched
 pub fn fetch(replica: Replica, log: &[u8], height: Height, out: &mut [u8]) -> Fetched
     ensures { λ a. ⌜ fetched a (now (out .exit)) ≡ fetchCall replica (now (log .entry)) (height .0) (now (out .entry)) ⌝ }
 {
-    if !record_ranges::valid_replica(replica, log) {
+    if !(record_ranges::valid_record(replica) & record_ranges::valid_log(replica, log)) {
         return no_frames(apollo::refusal::BAD_REPLICA);
     }
     if out.len() < 1024 {

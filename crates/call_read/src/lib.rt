@@ -34,7 +34,7 @@ fn entry_part(log: &[u8], r: u32) -> Part
 pub fn read_part(replica: Replica, log: &[u8], height: Height) -> Part
     ensures { λ p. ⌜ p ≡ readCall replica (now (log .entry)) (height .0) .answer ⌝ }
 {
-    if !record_ranges::valid_replica(replica, log) {
+    if !(record_ranges::valid_record(replica) & record_ranges::valid_log(replica, log)) {
         return no_part(apollo::refusal::BAD_REPLICA);
     }
     let r = log_heights::lowest(log, height.0, replica.committed_round.0);

@@ -15,7 +15,7 @@ pub fn tick(
     ensures { λ a. ⌜ outcome a (now (log .exit)) (now (masks .exit)) (now (out .exit))
         ≡ tickCall (state replica (now (log .entry)) (now (masks .entry))) (now (entry .entry)) (now (out .entry)) ⌝ }
 {
-    let is_valid = record_ranges::valid_replica(replica, log);
+    let is_valid = record_ranges::valid_record(replica);
     let number = refusals::of_tick(is_valid, replica, log, masks, entry.len(), out.len());
     if number != 0 {
         return calls::refused(replica, number, 0);

@@ -48,6 +48,7 @@ pub fn zero_replica() -> Replica
     ensures { λ q. ⌜ q ≡ zeroReplica ⌝ }
 {
     let rotation = [0u8; 15];
+    let equivocators = 0;
     Replica {
         id: 0,
         f: 0,
@@ -60,7 +61,7 @@ pub fn zero_replica() -> Replica
         committed_round: Round(0),
         committed_height: Height(0),
         rotation,
-        equivocators: 0,
+        equivocators,
     }
 }
 

@@ -1,6 +1,7 @@
 -- The definitions that the code's tests make. Assumes nothing.
 use mathlib.Core.Path.{_≡_}
 use mathlib.Core.Bool.{Bool, _&&_, not}
+use mathlib.Core.List.{List}
 use Prim.Native.Nat.{ℕ}
 use lib.Dec.{eqb, leb}
 use lib.ListN.{take}
@@ -9,7 +10,7 @@ use Rattle.apollo.specs.declared.Setup.{Setup}
 use Rattle.apollo.specs.Bytes.{blank}
 use Rattle.apollo.specs.Rotation.{isRotation}
 use Rattle.apollo.specs.Setup.{setupOf, replicas, leader, validRotation}
-use Rattle.apollo.specs.Replica.{leads, validNumbers, validRounds, validMarks, validRecord}
+use Rattle.apollo.specs.Replica.{leads, validNumbers, validRounds, validMarks, validRecord, validLog, validReplica}
 
 -- the test of a leader, from what the code found it to be
 pub leads-test : (r : Replica) (s : Setup) (l : ℕ) → s ≡ setupOf r → l ≡ leader s (r .round .0)
@@ -23,3 +24,8 @@ pub record-test : (r : Replica) {s t v m l : Bool} → s ≡ validNumbers r
     → v ≡ validRounds r → m ≡ validMarks r → l ≡ leads r → s && t && v && m && not l ≡ validRecord r
 unfolding validRecord validRotation
 record-test r a b c d e = rw (a, b, c, d, e)
+
+-- and with its log
+pub replica-test : (r : Replica) (log : List ℕ) {v l : Bool} → v ≡ validRecord r → l ≡ validLog r log → v && l ≡ validReplica r log
+unfolding validReplica
+replica-test r log a b = rw (a, b)

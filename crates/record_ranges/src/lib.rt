@@ -1,7 +1,7 @@
 // The tests of a record, for any numbers in it: who leads R, and the ranges of the fields and of what is lent beside them.
 use apollo::Replica;
 ghost use mathlib.Core.Path.{_≡_};
-ghost use Rattle.apollo.specs.Replica.{leads, validNumbers, validRounds, validMarks, validRecord, validLog, validMasks, validSetup, validReplica};
+ghost use Rattle.apollo.specs.Replica.{leads, validNumbers, validRounds, validMarks, validRecord, validLog, validMasks, validSetup};
 
 // R ≤ T, and this replica leads R.
 pub fn leads(r: Replica) -> bool
@@ -26,7 +26,7 @@ fn valid_numbers(r: Replica) -> bool
 }
 
 // There is one slot a round.
-fn valid_log(r: Replica, log: &[u8]) -> bool
+pub fn valid_log(r: Replica, log: &[u8]) -> bool
     ensures { λ b. ⌜ b ≡ validLog r (now (log .entry)) ⌝ }
 {
     let size = 512 * (r.last_round.0 as usize);
@@ -79,13 +79,6 @@ pub fn valid_record(r: Replica) -> bool
         & valid_rounds(r)
         & valid_marks(r)
         & !leads(r)
-}
-
-// The record with its log.
-pub fn valid_replica(r: Replica, log: &[u8]) -> bool
-    ensures { λ b. ⌜ b ≡ validReplica r (now (log .entry)) ⌝ }
-{
-    valid_record(r) & valid_log(r, log)
 }
 
 // There is one mask a round.

@@ -12,7 +12,7 @@ use Rattle.apollo.specs.Judging.{verdict}
 use Rattle.apollo.specs.Bytes.{blank}
 use Rattle.apollo.specs.Rotation.{isRotation}
 use Rattle.apollo.specs.Setup.{setupOf, replicas, validRotation}
-use Rattle.apollo.specs.Replica.{validSetup, validReplica, validMasks}
+use Rattle.apollo.specs.Replica.{validRecord, validLog, validSetup, validReplica, validMasks}
 use Rattle.branch.specs.declared.Judged.{Judged}
 use Rattle.branch.specs.Judge.{refusal, judgedBranch}
 use Rattle.blame_set.specs.Set.{judgedSet}
@@ -54,19 +54,19 @@ module _ (r : Replica) (log masks : List ℕ) (entry out : ℕ) where
       open-room n u e = rw (← ea, ← eb, ← ec, not-false (a && b) t, not-false (eqb size (replicas (setupOf r)) && c) u) e
 
   -- 2 and 3
-  module _ (a b : Bool) (ea : a ≡ validReplica r log) (eb : b ≡ validMasks r masks) where
-    pub guard-record : not (a && b) ≡ true → 2 ≡ guardNumber r log masks entry out
-    unfolding guardNumber
-    guard-record t = rw (← ea, ← eb, not-true (a && b) t)
+  module _ (a l b : Bool) (ea : a ≡ validRecord r) (el : l ≡ validLog r log) (eb : b ≡ validMasks r masks) where
+    pub guard-record : not (a && l && b) ≡ true → 2 ≡ guardNumber r log masks entry out
+    unfolding guardNumber validReplica
+    guard-record t = rw (← ea, ← el, ← eb, not-true (a && l && b) t)
 
-    pub guard-over : not (a && b) ≡ false → r .round .0 ≡ r .«last_round» .0 + 1 → 3 ≡ guardNumber r log masks entry out
-    unfolding guardNumber
-    guard-over t e = rw (← ea, ← eb, not-false (a && b) t, eq-eqb (r .round .0) (r .«last_round» .0 + 1) e)
+    pub guard-over : not (a && l && b) ≡ false → r .round .0 ≡ r .«last_round» .0 + 1 → 3 ≡ guardNumber r log masks entry out
+    unfolding guardNumber validReplica
+    guard-over t e = rw (← ea, ← el, ← eb, not-false (a && l && b) t, eq-eqb (r .round .0) (r .«last_round» .0 + 1) e)
 
-    pub guard-room : (n : ℕ) → not (a && b) ≡ false → (r .round .0 ≡ r .«last_round» .0 + 1 → ⊥) → n ≡ roomNumber entry out
+    pub guard-room : (n : ℕ) → not (a && l && b) ≡ false → (r .round .0 ≡ r .«last_round» .0 + 1 → ⊥) → n ≡ roomNumber entry out
         → n ≡ guardNumber r log masks entry out
-    unfolding guardNumber
-    guard-room n t h e = rw (← ea, ← eb, not-false (a && b) t, ne-eqb (r .round .0) (r .«last_round» .0 + 1) h) e
+    unfolding guardNumber validReplica
+    guard-room n t h e = rw (← ea, ← el, ← eb, not-false (a && l && b) t, ne-eqb (r .round .0) (r .«last_round» .0 + 1) h) e
 
   -- blames and a branch behind 2 to 5
   module _ (n : ℕ) (e : n ≡ guardNumber r log masks entry out) where

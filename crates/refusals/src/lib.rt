@@ -1,12 +1,12 @@
 // What refuses a call: the number of the first refusal, 0 if there is none, and for a branch and for blames its place. Of the entry
 // and the out buffer the length is enough. Every public function takes any record, and slices of any length and content; `of_tick` is told
-// whether the record is valid.
+// whether the record, by itself, is valid.
 use apollo::Replica;
 use apollo::Verdict;
 use branch::Judged;
 ghost use mathlib.Core.Path.{_≡_};
 ghost use Prim.Native.Nat.{_≤_};
-ghost use Rattle.apollo.specs.Replica.{validReplica};
+ghost use Rattle.apollo.specs.Replica.{validRecord};
 ghost use Rattle.refusals.specs.Number.{roomNumber, openNumber, guardNumber};
 ghost use Rattle.refusals.specs.Blames.{guardedSet};
 ghost use Rattle.refusals.specs.Branch.{guardedBranch};
@@ -39,7 +39,7 @@ pub fn of_open(r: Replica, length: usize, log: &[u8], masks: &[u16], entry: usiz
     judge_room(entry, out)
 }
 
-// Tick, and first in branch, blame and blames: 2 to 5. The caller tests the record, from its own copy: the compiler then makes no
+// Tick, and first in branch, blame and blames: 2 to 5. The caller tests the record by itself, from its own copy: the compiler then makes no
 // other.
 pub fn of_tick(
     is_valid: bool,
@@ -49,10 +49,10 @@ pub fn of_tick(
     entry: usize,
     out: usize,
 ) -> u8
-    requires { ⌜ «is_valid» ≡ validReplica r (now log) ⌝ }
+    requires { ⌜ «is_valid» ≡ validRecord r ⌝ }
     ensures { λ n. ⌜ n ≡ guardNumber r (now (log .entry)) (now (masks .entry)) entry out ⌝ }
 {
-    if !(is_valid & record_ranges::valid_masks(r, masks)) {
+    if !(is_valid & record_ranges::valid_log(r, log) & record_ranges::valid_masks(r, masks)) {
         return apollo::refusal::BAD_REPLICA;
     }
     let round = r.round.0 as u64;
@@ -76,7 +76,7 @@ pub fn of_blames(
     requires { ⌜ most ≤ 15 ⌝ }
     ensures { λ v. ⌜ v ≡ guardedSet most r (now (log .entry)) (now (masks .entry)) (now (frames .entry)) entry out ⌝ }
 {
-    let is_valid = record_ranges::valid_replica(r, log);
+    let is_valid = record_ranges::valid_record(r);
     let number = of_tick(is_valid, r, log, masks, entry, out);
     if number != 0 {
         return Verdict { number, place: 0 };
@@ -95,7 +95,7 @@ pub fn of_branch(
 ) -> Judged
     ensures { λ j. ⌜ j ≡ guardedBranch r (now (log .entry)) (now (masks .entry)) (now (frames .entry)) entry out ⌝ }
 {
-    let is_valid = record_ranges::valid_replica(r, log);
+    let is_valid = record_ranges::valid_record(r);
     let number = of_tick(is_valid, r, log, masks, entry, out);
     if number != 0 {
         return Judged {

@@ -112,7 +112,7 @@ worlds = tt
 unfoldable pub setup : Setup
 setup = record { f = 1; «last_round» = record { 0 = 4 }; rotation = padded rotation }
 
-pub correct : ℕ → Bool
+unfoldable pub correct : ℕ → Bool
 correct i = not (eqb i 1)
 
 -- a frame was emitted by the replica that it names

@@ -13,7 +13,7 @@ returns : tie.Need-returns
 returns c =
     let i = c .before in
     let g = i .before in
-    let s = g .before .before .before .before .before .before .before .before .before in
+    let s = g .before .before .before .before .before .before .before .before in
     let a = s .args in
     tick-refused (a .replica) (a .log .now) (a .masks .now) (a .entry .now) (a .out .now) _ (g .of-tick .ensures) _ (i .if1 .taken) (c .refused .ensures)
 
@@ -22,7 +22,7 @@ returns-2 c =
     let k = c .before in
     let i = k .before .before in
     let g = i .before in
-    let s = g .before .before .before .before .before .before .before .before .before in
+    let s = g .before .before .before .before .before .before .before .before in
     let a = s .args in
     tick-down (a .replica) (a .log .now) (a .masks .now) (a .entry .now) (a .out .now) _ (g .of-tick .ensures) (i .if1 .left) _ (k .if2 .taken) (c .count-down .ensures)
 
@@ -30,7 +30,7 @@ put-blame-requires : tie.Need-put-blame-requires
 put-blame-requires c κs =
     let i = c .before .before .before in
     let g = i .before in
-    let s = g .before .before .before .before .before .before .before .before .before in
+    let s = g .before .before .before .before .before .before .before .before in
     let a = s .args in
     omega (arith, tick-passed (a .replica) (a .log .now) (a .masks .now) (a .entry .now) (a .out .now) _ (g .of-tick .ensures) (i .if1 .left) .out-least)
 
@@ -39,7 +39,7 @@ sub-hear c =
     let u = c .before .before .before .before .before in
     let i = u .before .before .before .before in
     let g = i .before in
-    let s = g .before .before .before .before .before .before .before .before .before in
+    let s = g .before .before .before .before .before .before .before .before in
     let a = s .args in
     omega (arith, u .put-blame .kept .0, tick-passed (a .replica) (a .log .now) (a .masks .now) (a .entry .now) (a .out .now) _ (g .of-tick .ensures) (i .if1 .left) .out-least)
 
@@ -48,7 +48,7 @@ part-hear-start c =
     let u = c .before .before .before .before .before in
     let i = u .before .before .before .before in
     let g = i .before in
-    let s = g .before .before .before .before .before .before .before .before .before in
+    let s = g .before .before .before .before .before .before .before .before in
     let a = s .args in
     omega (arith, u .put-blame .kept .0, tick-passed (a .replica) (a .log .now) (a .masks .now) (a .entry .now) (a .out .now) _ (g .of-tick .ensures) (i .if1 .left) .out-least)
 
@@ -58,7 +58,7 @@ hear-requires c κs =
     let u = w .before .before .before in
     let i = u .before .before .before .before in
     let g = i .before in
-    let s = g .before .before .before .before .before .before .before .before .before in
+    let s = g .before .before .before .before .before .before .before .before in
     let a = s .args in
     tick-asks (a .replica) (a .log .now) (a .masks .now) (a .entry .now) (a .out .now) _ (g .of-tick .ensures) (i .if1 .left) _ (u .put-blame .ensures) _ (w .with-timer .ensures)
 
@@ -91,7 +91,7 @@ returns-3 c =
     let k = u .before .before in
     let i = k .before .before in
     let g = i .before in
-    let s = g .before .before .before .before .before .before .before .before .before in
+    let s = g .before .before .before .before .before .before .before .before in
     let a = s .args in
     tick-out (a .replica) (a .log .now) (a .masks .now) (a .entry .now) (a .out .now) _ (g .of-tick .ensures) (i .if1 .left) _ (u .put-blame .ensures) _ _ _ _ _ (k .if2 .left) (w .with-timer .ensures) (e .hear .ensures)
 
@@ -100,7 +100,7 @@ tick-spec =
     tie.close
     (tie.spec
     (λ c κs. tt)
-    (λ c κs. c .before .before .valid-replica .ensures)
+    (λ c κs. c .before .before .valid-record .ensures)
     (λ c κs. tt)
     (λ c. refl)
     (λ c. refl)

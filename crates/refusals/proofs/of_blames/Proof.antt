@@ -26,4 +26,4 @@ returns-2 c =
     set-judged (a .r) (a .log .now) (a .masks .now) (a .entry) (a .out) _ (g .of-tick .ensures) (a .most) (a .frames .now) _ (i .if1 .left) (c .judge-set .ensures)
 
 pub of-blames-spec : {M : Type 1} → statement M
-of-blames-spec = tie.close (tie.spec (λ c κs. tt) (λ c κs. c .valid-replica .ensures) returns judge-set-requires returns-2)
+of-blames-spec = tie.close (tie.spec (λ c κs. tt) (λ c κs. c .valid-record .ensures) returns judge-set-requires returns-2)

@@ -17,4 +17,4 @@ returns-2 c =
     branch-judged (a .r) (a .log .now) (a .masks .now) (a .entry) (a .out) _ (g .of-tick .ensures) (a .frames .now) _ (i .if1 .left) (c .judge-branch .ensures)
 
 pub of-branch-spec : {M : Type 1} → statement M
-of-branch-spec = tie.close (tie.spec (λ c κs. tt) (λ c κs. c .valid-replica .ensures) returns (λ c κs. tt) returns-2)
+of-branch-spec = tie.close (tie.spec (λ c κs. tt) (λ c κs. c .valid-record .ensures) returns (λ c κs. tt) returns-2)
