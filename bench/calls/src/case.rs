@@ -1,10 +1,11 @@
-//! What is timed: calls that are taken. Each leaves a state on which the same call, with the record as it was, does the same
-//! work again, but for the mask of the round blamed, which is set back before each call.
+//! What is timed: calls that are taken, and equivocations that are refused after both digests. Each leaves a state on which the
+//! same call, with the record as it was, does the same work again, but for the mask of the round blamed, which is set back before
+//! each call.
 
 use crate::book::{book, entry};
 use crate::card::rotation;
 use crate::placed::Placed;
-use beside::frame::{self, SIZE};
+use beside::frame::{self, Frame, CHECK_AT, GENESIS, SIZE};
 use beside::model::{self, Record, LEAST_OUT, MOST_F};
 
 /// f of every case that does not say it: five cards. That of the sets of blames is 7: fifteen cards.
@@ -28,6 +29,7 @@ pub enum Call {
     /// The same frames by as many calls of blame, each with the record as it was.
     BlameEach,
     Tick,
+    Equivocation,
     Read {
         height: u32,
     },
@@ -53,6 +55,8 @@ pub struct Case {
     /// What is handed in; where nothing is, frames for the digests beside the call.
     pub frames: Placed,
     pub entry: Vec<u8>,
+    /// The number that the call gives: 0 where it is taken.
+    pub number: u8,
     /// How many digests the call makes.
     pub digests: usize,
     /// How many slots stand below the first that the call zeroes; none for a call that zeroes no slot.
@@ -64,11 +68,11 @@ pub struct Case {
 impl Case {
     /// Whether the time beyond the digests is worth a figure of its own.
     pub fn has_rest(&self) -> bool {
-        let blames = matches!(
+        let judges = matches!(
             self.call,
-            Call::Blame { .. } | Call::Blames | Call::BlameEach
+            Call::Blame { .. } | Call::Blames | Call::BlameEach | Call::Equivocation
         );
-        self.zeroed.is_some() || blames
+        self.zeroed.is_some() || judges
     }
 }
 
@@ -106,6 +110,7 @@ fn record(f: u8, term: u32, tip: u32) -> Record {
         committed_round: committed,
         committed_height: committed,
         rotation: rotation(f),
+        equivocators: 0,
     }
 }
 
@@ -127,6 +132,7 @@ fn case_of(f: u8, name: &'static str, call: Call, term: u32, tip: u32) -> Case {
         },
         frames: handed(&chain(f, 1)),
         entry: entry(0),
+        number: 0,
         digests: 0,
         zeroed: None,
         frames_out: 0,
@@ -205,6 +211,47 @@ fn set(name: &'static str, call: Call, term: u32) -> Case {
     case
 }
 
+/// A block of a round by its leader; blocks of one round and leader differ in their entries.
+fn block(f: u8, round: u32, nth: u32) -> Frame {
+    frame::block(leader(round, f), round, round, &GENESIS, &entry(nth))
+}
+
+/// Two blocks of the tip's round; no card is marked before.
+fn equivocation(f: u8, name: &'static str, term: u32) -> Case {
+    let mut case = case_of(f, name, Call::Equivocation, term, term / 2);
+    let round = case.record.tip_round;
+    case.frames = handed([block(f, round, 1), block(f, round, 2)].as_flattened());
+    case.digests = 2;
+    case
+}
+
+/// The leader has its mark already.
+fn equivocation_again(term: u32) -> Case {
+    let mut case = equivocation(F, "equivocation, marked already", term);
+    case.record.equivocators = 1 << leader(case.record.tip_round, F);
+    case
+}
+
+/// The same frame twice, the last thing that is tried.
+fn equal_frames(term: u32) -> Case {
+    let mut case = equivocation(F, "equivocation refused: equal frames", term);
+    case.frames.copy_within(..SIZE, SIZE);
+    case.number = 18;
+    case
+}
+
+/// A byte behind the second entry is not zero, which is tried last of its form.
+fn second_out_of_form(term: u32) -> Case {
+    let mut case = equivocation(F, "equivocation refused: second's form", term);
+    let [_, second] = case.frames.as_chunks_mut().0 else {
+        unreachable!("two frames")
+    };
+    second[CHECK_AT - 1] = 1;
+    frame::seal(second);
+    case.number = 8;
+    case
+}
+
 /// The frames of rounds tip + 1 up to last, on the tip.
 fn branch(name: &'static str, term: u32, tip: u32, last: u32) -> Case {
     let mut case = case(name, Call::Branch, term, tip);
@@ -236,6 +283,11 @@ pub fn cases(term: u32) -> Vec<Case> {
         blame_that_certifies(term),
         set("blames of f + 1, f = 7", Call::Blames, term),
         set("the same by blame, one by one", Call::BlameEach, term),
+        equivocation(F, "equivocation", term),
+        equivocation(MOST_F, "equivocation, f = 7", term),
+        equivocation_again(term),
+        equal_frames(term),
+        second_out_of_form(term),
         branch("branch of 1 on round 0", term, 0, 1),
         branch("branch of 1 on round T / 2", term, term / 2, term / 2 + 1),
         branch("branch of T on round 0", term, 0, term),

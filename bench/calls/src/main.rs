@@ -27,7 +27,7 @@ const PASSES: usize = 101;
 /// About how long one batch of calls takes, in seconds.
 const BATCH: f64 = 0.0003;
 
-/// The calls of a case are taken, and agree on both sides; or the program ends. What they give.
+/// The calls of a case give the number that it names, and agree on both sides; or the program ends. What they give.
 fn compare(case: &Case) -> Outcome {
     side::compare_digests(case);
     let (mut left, mut right) = (case.clone(), case.clone());
@@ -42,10 +42,12 @@ fn compare(case: &Case) -> Outcome {
     assert_eq!(first, calls(1), "{}: repeated", case.name);
     let (number, frames) = match first {
         Outcome::Answer(a) => (a.number, usize::from(a.frames)),
+        Outcome::Marked(m) => (m.number, 0),
         Outcome::Part(p) => (p.number, 0),
         Outcome::Fetched(f) => (f.number, f.count),
     };
-    assert_eq!((number, frames), (0, case.frames_out), "{}", case.name);
+    let expected = (case.number, case.frames_out);
+    assert_eq!((number, frames), expected, "{}", case.name);
     first
 }
 
@@ -200,6 +202,7 @@ fn calls() {
     rows.extend(measured.iter().map(|(case, times)| row(case, times)));
     print(&rows);
     one_by_one(&measured);
+    equivocations(&measured);
 }
 
 /// How long f + 1 calls of blame take, over one of blames in the same passes, on either side.
@@ -214,6 +217,23 @@ fn one_by_one(measured: &[(Case, Times)]) {
         let term = case.record.term;
         println!("f + 1 blames one by one over the set, T = {term}: ours {ours}, Rust {rust}");
     }
+}
+
+/// What every row of equivocation stays within; the aims decide nothing.
+fn equivocations(measured: &[(Case, Times)]) {
+    let each = |figure: fn(&Times) -> Option<f64>| {
+        let rows = measured.iter();
+        let rows = rows.filter(|(case, _)| matches!(case.call, Call::Equivocation));
+        rows.filter_map(move |(_, times)| figure(times))
+    };
+    let beside = |times: &Times| Some(median(&times.rust)? / median(&times.ours)?);
+    let most = each(|times| median(&times.our_rest)).max_by(f64::total_cmp);
+    let least = each(beside).min_by(f64::total_cmp);
+    println!(
+        "every equivocation: at most {} beyond its two digests (aim: 100 ns), at least {} beside Rust (aim: 1.00)",
+        time(most),
+        ratio(least, Some(1.0))
+    );
 }
 
 fn searches() {

@@ -1,9 +1,10 @@
 //! A case on either side: the library through its C interface, and the Rust implementation.
 
 use crate::case::{Call, Case, Lent};
-use beside::ffi::{self, ApolloAnswer, ApolloFetched, ApolloHeight, ApolloPart, ApolloReplica};
+use beside::ffi::{self, ApolloAnswer, ApolloFetched, ApolloHeight};
+use beside::ffi::{ApolloMarked, ApolloPart, ApolloReplica};
 use beside::frame::{CHECK_AT, SIZE};
-use beside::model::{self, seats, Answer, Fetched, Part, Setup};
+use beside::model::{self, seats, Answer, Fetched, Marked, Part, Setup};
 use beside::sha256;
 use std::hint::black_box;
 use std::time::Instant;
@@ -12,6 +13,7 @@ use std::time::Instant;
 #[derive(Clone, Copy, Debug, PartialEq, Eq)]
 pub enum Outcome {
     Answer(Answer),
+    Marked(Marked),
     Part(Part),
     Fetched(Fetched),
 }
@@ -29,6 +31,17 @@ pub fn timed<T>(times: usize, mut run: impl FnMut() -> T) -> (f64, T) {
 
 fn answer((seconds, a): (f64, ApolloAnswer)) -> (f64, Outcome) {
     (seconds, Outcome::Answer(a.into()))
+}
+
+fn marked((seconds, m): (f64, ApolloMarked)) -> (f64, Outcome) {
+    (
+        seconds,
+        Outcome::Marked(Marked {
+            number: m.number,
+            place: m.place,
+            record: m.replica.into(),
+        }),
+    )
 }
 
 fn part((seconds, p): (f64, ApolloPart)) -> (f64, Outcome) {
@@ -58,17 +71,45 @@ fn each_frame<T>(frames: &[u8], call: impl FnMut(&[u8]) -> T) -> T {
     answers.reduce(|_, last| last).expect("a frame")
 }
 
+/// What a case lends and hands in, as C takes it.
+struct Raw {
+    log: *mut u8,
+    log_len: usize,
+    masks: *mut u16,
+    masks_len: usize,
+    frames: *const u8,
+    frames_len: usize,
+    entry: *const u8,
+    entry_len: usize,
+    out: *mut u8,
+    out_len: usize,
+}
+
+impl Raw {
+    fn of(case: &mut Case) -> Raw {
+        let Lent { log, masks, out } = &mut case.lent;
+        Raw {
+            log: log.as_mut_ptr(),
+            log_len: log.len(),
+            masks: masks.as_mut_ptr(),
+            masks_len: masks.len(),
+            frames: case.frames.as_ptr(),
+            frames_len: case.frames.len(),
+            entry: case.entry.as_ptr(),
+            entry_len: case.entry.len(),
+            out: out.as_mut_ptr(),
+            out_len: out.len(),
+        }
+    }
+}
+
 /// Calls of the library.
-// Safety of each: a pointer comes from a buffer with its length, no two overlap, and the round waited for has a mask.
+// Safety of each, here and below: a pointer comes from a buffer with its length, no two overlap, and the round waited for has a
+// mask.
 #[rustfmt::skip]
 pub fn ours(case: &mut Case, times: usize) -> (f64, Outcome) {
     let replica = ApolloReplica::from(case.record);
-    let waited_for = case.record.round as usize - 1;
-    let (log, log_len) = (case.lent.log.as_mut_ptr(), case.lent.log.len());
-    let (masks, masks_len) = (case.lent.masks.as_mut_ptr(), case.lent.masks.len());
-    let (out, out_len) = (case.lent.out.as_mut_ptr(), case.lent.out.len());
-    let (entry, entry_len) = (case.entry.as_ptr(), case.entry.len());
-    let (frames, frames_len) = (case.frames.as_ptr(), case.frames.len());
+    let Raw { log, log_len, masks, masks_len, frames, frames_len, entry, entry_len, out, out_len } = Raw::of(case);
     let rotation = seats(&case.record.rotation, case.record.f);
     match case.call {
         Call::Open => answer(timed(times, || {
@@ -80,39 +121,13 @@ pub fn ours(case: &mut Case, times: usize) -> (f64, Outcome) {
                 )
             }
         })),
-        Call::Branch => answer(timed(times, || {
-            let r = *black_box(&replica);
-            unsafe {
-                ffi::apollo_branch(r, log, log_len, masks, masks_len, frames, frames_len, entry, entry_len, out, out_len)
-            }
-        })),
-        Call::Blame { mask } => answer(timed(times, || {
-            let r = *black_box(&replica);
-            unsafe {
-                *masks.add(waited_for) = mask;
-                ffi::apollo_blame(r, log, log_len, masks, masks_len, frames, frames_len, entry, entry_len, out, out_len)
-            }
-        })),
-        Call::Blames => answer(timed(times, || {
-            let r = *black_box(&replica);
-            unsafe {
-                *masks.add(waited_for) = 0;
-                ffi::apollo_blames(r, log, log_len, masks, masks_len, frames, frames_len, entry, entry_len, out, out_len)
-            }
-        })),
-        Call::BlameEach => answer(timed(times, || {
-            let each = |frame: &[u8]| {
-                let r = *black_box(&replica);
-                unsafe {
-                    ffi::apollo_blame(r, log, log_len, masks, masks_len, frame.as_ptr(), SIZE, entry, entry_len, out, out_len)
-                }
-            };
-            unsafe { *masks.add(waited_for) = 0 };
-            each_frame(&case.frames, each)
-        })),
         Call::Tick => answer(timed(times, || {
             let r = *black_box(&replica);
             unsafe { ffi::apollo_tick(r, log, log_len, masks, masks_len, entry, entry_len, out, out_len) }
+        })),
+        Call::Equivocation => marked(timed(times, || {
+            let r = *black_box(&replica);
+            unsafe { ffi::apollo_equivocation(r, frames, frames_len) }
         })),
         Call::Read { height } => part(timed(times, || {
             let (r, height) = (*black_box(&replica), ApolloHeight { value: *black_box(&height) });
@@ -122,7 +137,65 @@ pub fn ours(case: &mut Case, times: usize) -> (f64, Outcome) {
             let (r, height) = (*black_box(&replica), ApolloHeight { value: *black_box(&height) });
             unsafe { ffi::apollo_fetch(r, log, log_len, height, out, out_len) }
         })),
+        Call::Branch => our_branch(case, times),
+        Call::Blame { mask } => our_blame(case, mask, times),
+        Call::Blames => our_blames(case, times),
+        Call::BlameEach => our_blame_each(case, times),
     }
+}
+
+#[rustfmt::skip]
+fn our_branch(case: &mut Case, times: usize) -> (f64, Outcome) {
+    let replica = ApolloReplica::from(case.record);
+    let Raw { log, log_len, masks, masks_len, frames, frames_len, entry, entry_len, out, out_len } = Raw::of(case);
+    answer(timed(times, || {
+        let r = *black_box(&replica);
+        unsafe {
+            ffi::apollo_branch(r, log, log_len, masks, masks_len, frames, frames_len, entry, entry_len, out, out_len)
+        }
+    }))
+}
+
+#[rustfmt::skip]
+fn our_blame(case: &mut Case, mask: u16, times: usize) -> (f64, Outcome) {
+    let (replica, waited_for) = (ApolloReplica::from(case.record), case.record.round as usize - 1);
+    let Raw { log, log_len, masks, masks_len, frames, frames_len, entry, entry_len, out, out_len } = Raw::of(case);
+    answer(timed(times, || {
+        let r = *black_box(&replica);
+        unsafe {
+            *masks.add(waited_for) = mask;
+            ffi::apollo_blame(r, log, log_len, masks, masks_len, frames, frames_len, entry, entry_len, out, out_len)
+        }
+    }))
+}
+
+#[rustfmt::skip]
+fn our_blames(case: &mut Case, times: usize) -> (f64, Outcome) {
+    let (replica, waited_for) = (ApolloReplica::from(case.record), case.record.round as usize - 1);
+    let Raw { log, log_len, masks, masks_len, frames, frames_len, entry, entry_len, out, out_len } = Raw::of(case);
+    answer(timed(times, || {
+        let r = *black_box(&replica);
+        unsafe {
+            *masks.add(waited_for) = 0;
+            ffi::apollo_blames(r, log, log_len, masks, masks_len, frames, frames_len, entry, entry_len, out, out_len)
+        }
+    }))
+}
+
+#[rustfmt::skip]
+fn our_blame_each(case: &mut Case, times: usize) -> (f64, Outcome) {
+    let (replica, waited_for) = (ApolloReplica::from(case.record), case.record.round as usize - 1);
+    let Raw { log, log_len, masks, masks_len, entry, entry_len, out, out_len, .. } = Raw::of(case);
+    answer(timed(times, || {
+        let each = |frame: &[u8]| {
+            let r = *black_box(&replica);
+            unsafe {
+                ffi::apollo_blame(r, log, log_len, masks, masks_len, frame.as_ptr(), SIZE, entry, entry_len, out, out_len)
+            }
+        };
+        unsafe { *masks.add(waited_for) = 0 };
+        each_frame(&case.frames, each)
+    }))
 }
 
 fn lend<'a>(lent: &'a mut Lent, entry: &'a [u8]) -> model::Lent<'a> {
@@ -159,6 +232,10 @@ pub fn rust(case: &mut Case, times: usize) -> (f64, Outcome) {
             each_frame(frames, |frame| model::blame(*black_box(&record), frame, lend(lent, entry)))
         })),
         Call::Tick => answer(timed(times, || model::tick(*black_box(&record), lend(lent, entry)))),
+        Call::Equivocation => {
+            let (seconds, m) = timed(times, || model::equivocation(*black_box(&record), frames));
+            (seconds, Outcome::Marked(m))
+        }
         Call::Read { height } => {
             let (seconds, p) = timed(times, || model::read(*black_box(&record), &lent.log, *black_box(&height)));
             (seconds, Outcome::Part(p))
