@@ -1,9 +1,9 @@
 -- Equivocation: the state stays good, and no refusal 2 or 12 is met. Assumes nothing.
 use Prim.Native.Nat.{ℕ, _/_, _<_}
-use mathlib.Core.Path.{_≡_, refl, sym, ap, _∙_, subst, subst⁻¹}
-use mathlib.Core.Logic.{inl, inr, _≢_}
+use mathlib.Core.Path.{_≡_, refl, sym, ap, _∙_, subst}
+use mathlib.Core.Logic.{inl, inr}
 use mathlib.Core.List.{List, [], _∷_}
-use mathlib.Core.Bool.{Bool, true, false, _&&_, not}
+use mathlib.Core.Bool.{Bool, true, false, not}
 use native.Mathlib.Omega.{arith}
 use lib.ListN.{length}
 use lib.Dec.{eqb}
@@ -15,7 +15,6 @@ use Rattle.apollo.specs.Bytes.{same}
 use Rattle.apollo.specs.Setup.{setupOf, replicas, leader}
 use Rattle.apollo.specs.Frame.{round, digest, frames, framesOf, blockForm}
 use Rattle.apollo.specs.Replica.{withMark, validRecord}
-use Rattle.apollo.specs.BenchSheet.{block}
 use Rattle.apollo.specs.Enter.{State}
 use Rattle.apollo.specs.Judging.{judgedEach}
 use Rattle.apollo.specs.Outcome.{refused}
@@ -24,11 +23,11 @@ use Rattle.apollo.proofs.Fault.{Passes}
 use Rattle.apollo.proofs.Rotation.{leader-low}
 use Rattle.apollo.proofs.Judging.{block-of}
 use Rattle.apollo.proofs.Frames.{pair-frames}
-use Rattle.agreement.specs.Run.{Event, In, emit, emittedBy, recordOnly}
+use Rattle.agreement.specs.Run.{Event, emit, emittedBy, recordOnly}
 use Rattle.agreement.specs.Marks.{Doubled}
 use Rattle.agreement.proofs.Tests.{clash, and-true, same-of, by-cond}
 use Rattle.agreement.proofs.Frames.{Whole, frames-whole}
-use Rattle.agreement.proofs.Good.{Rested, marking, mark-extends, mark-rested, setup-is, mark-good}
+use Rattle.agreement.proofs.Good.{Rested, mark-extends, mark-rested, setup-is, mark-good}
 use Rattle.agreement.proofs.Effects.{Standing}
 use Rattle.agreement.proofs.Judged.{Low, each-low, each-none}
 use Rattle.agreement.proofs.Adopt.{Known}

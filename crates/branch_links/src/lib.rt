@@ -5,7 +5,6 @@ ghost use mathlib.Core.Path.{_≡_};
 ghost use Prim.Native.Nat.{_-_, _*_, _≤_, _<_};
 ghost use lib.ListN.{length};
 ghost use mathlib.Core.Bool.{_&&_};
-ghost use Rattle.sha256.specs.Fips.{sha256};
 ghost use Rattle.apollo.specs.Frame as Frame;
 ghost use Rattle.apollo.specs.Frame.{framesOf};
 ghost use Rattle.apollo.specs.Log as Log;

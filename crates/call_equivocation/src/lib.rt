@@ -6,8 +6,6 @@ use apollo::Verdict;
 ghost use mathlib.Core.Path.{_≡_};
 ghost use mathlib.Core.List.{[], _∷_};
 ghost use Rattle.sha256.specs.Fips.{sha256};
-ghost use Rattle.apollo.specs.Setup.{setupOf, leader, validRotation};
-ghost use Rattle.apollo.specs.Frame as Frame;
 ghost use Rattle.apollo.specs.Frame.{blockForm};
 ghost use Rattle.apollo.specs.Judging.{judgedEach};
 ghost use Rattle.apollo.specs.Equivocation.{marked, doubles};

@@ -1,11 +1,11 @@
 -- Marks change nothing but themselves: each step of a call commutes with other marks. Assumes nothing.
 use Prim.Native.Nat.{ℕ, _+_, _-_, _*_}
-use mathlib.Core.Path.{_≡_, refl, sym, ap, ap₂, _∙_, subst}
+use mathlib.Core.Path.{_≡_, refl, ap, _∙_}
 use mathlib.Core.Option.{Option, none, some}
 use mathlib.Core.List.{List, [], _∷_}
 use mathlib.Core.Bool.{Bool, true, false, _&&_, not, cond}
 use lib.ListN.{length, take}
-use lib.Dec.{eqb, leb, ltb}
+use lib.Dec.{eqb, ltb}
 use Rattle.sha256.specs.Fips.{sha256}
 use Rattle.apollo.specs.declared.Replica.{Replica}
 use Rattle.apollo.specs.declared.Marked.{Marked}
@@ -13,8 +13,8 @@ use Rattle.apollo.specs.Bytes.{same}
 use Rattle.apollo.specs.Setup.{setupOf, leader}
 use Rattle.apollo.specs.Frame.{round, height, framesOf, wholeFrames, blockForm, blameForm, makeBlame}
 use Rattle.apollo.specs.Log.{attach}
-use Rattle.apollo.specs.Masks.{bit, setBit, certified}
-use Rattle.apollo.specs.Replica.{withEquivocators, withMark, leads, validNumbers, validRounds, validMarks, validRecord, validLog, validReplica, validMasks}
+use Rattle.apollo.specs.Masks.{bit, certified}
+use Rattle.apollo.specs.Replica.{withEquivocators, leads, validNumbers, validRounds, validMarks, validRecord, validLog, validReplica, validMasks}
 use Rattle.apollo.specs.Enter.{State, state, Effect, commitLimit, commit, tipped, waiting, hearing, holding, entered, ownBlock, proposing, enterRound, settle}
 use Rattle.apollo.specs.Judging.{judgedEach}
 use Rattle.apollo.specs.Outcome.{Outcome, refused, nextLeader, taken, guarded}
@@ -27,7 +27,7 @@ use Rattle.apollo.specs.Fetch.{fetchCall}
 use Rattle.apollo.proofs.Masks.{bit-kept}
 use Rattle.apollo.proofs.Tests.{by-cond}
 use Rattle.agreement.specs.Run.{Act, branch, blame, blames, tick, equivocation, recordOnly, answer}
-use Rattle.equivocators.specs.Marks.{Kept, remarked, remarkedOutcome, SameButMarks, Aside, MarksAside}
+use Rattle.equivocators.specs.Marks.{Kept, remarked, remarkedOutcome, SameButMarks, MarksAside}
 
 -- a choice between images, and between values with equal images
 across : {A B : Type 0} (f : A → B) (b : Bool) {x y : A} {x′ y′ : B} → x′ ≡ f x → y′ ≡ f y → cond b x′ y′ ≡ f (cond b x y)
