@@ -16,11 +16,12 @@ enum {
   IDLE = 2,       /* ticks that a leader with nothing to propose waits */
   SKEW = 100,     /* the cards start at random within so many ticks */
   GRACE = 200,    /* ticks that a card waits at the start for the others */
-  CUT_FROM = 250, /* when deaf and mute cards fall so and lost ones lose their state; and for how long the former are cut off */
+  CUT_FROM = 250, /* when deaf and mute cards fall so and others lose their state; and for how long the former are cut off */
   CUT_FOR = 900,
   DEAF_LATER = 300, /* so long a cut card still hears, though it is not heard */
   ENTRIES = 30,     /* most entries that each card is given, one every */
   EVERY = 40,       /* so many ticks */
+  SPREAD = 50,      /* retries after the term in which evidence still comes to every card */
   TEXT = 64,
   TERM = 2,         /* this term's number; frames of term 1 are among the junk */
   LEAST_ROUNDS = 30 /* so that entries can come on the list with 15 cards too */
@@ -28,10 +29,11 @@ enum {
 
 /* How a card fails. A deaf one hears nothing for a while, a mute one is not heard, a cut one is mute and later deaf too, with a last
  * block that nobody else has. A lost one loses its state, is opened afresh and only follows: it asks, and sends no frame any more. One
- * that is set apart goes by another rotation. From TWO on a card lies. MIXED and MISLED are several of these. */
-typedef enum { NONE, DEAD, DEAF, MUTE, CUT, LOST, APART, TWO, BLAMES, JUNK, HIDE, ALL, MASK, MIXED, MISLED, FAULTS } fault;
-static const char *const fault_names[FAULTS] = {"none",   "dead", "deaf", "mute", "cut",  "lost",  "apart", "two",
-                                                "blames", "junk", "hide", "all",  "mask", "mixed", "misled"};
+ * that is set apart goes by another rotation. One that begins again loses its state too, and sends as if nothing had been. A worn one
+ * signs a second block for an old round and shows it to one card. From TWO on a card lies. MIXED and MISLED are several of these. */
+typedef enum { NONE, DEAD, DEAF, MUTE, CUT, LOST, APART, AGAIN, WORN, TWO, BLAMES, JUNK, HIDE, ALL, MASK, MIXED, MISLED, FAULTS } fault;
+static const char *const fault_names[FAULTS] = {"none", "dead",   "deaf", "mute", "cut", "lost", "apart", "again", "worn",
+                                                "two",  "blames", "junk", "hide", "all", "mask", "mixed", "misled"};
 
 typedef struct {
   packet *p; /* as many bytes of it as travel */
@@ -42,6 +44,11 @@ typedef struct {
   message *list;
   size_t count, room;
 } cable; /* packets under way to one card */
+
+typedef struct {
+  uint16_t at[APOLLO_MAX_REPLICAS];
+  uint32_t count;
+} mark_list; /* at card i the marks of cards j, and how many in all */
 
 static struct {
   int n, f, show_list;
@@ -60,6 +67,13 @@ static struct {
   uint32_t *acts[APOLLO_MAX_REPLICAS], acted[APOLLO_MAX_REPLICAS]; /* the rounds whose entries a card acted on */
   uint32_t alarms[ALARM_KINDS], lies;                              /* lies: packets made up, changed or withheld */
   uint32_t missed;                                                 /* turns that a card left empty though an entry waited */
+  uint8_t (*stories[APOLLO_MAX_REPLICAS])[APOLLO_DIGEST]; /* of each round the first good block that came to a card; zeros for none */
+  uint16_t doubled;                                       /* leaders of whom different blocks of a round came to correct cards, */
+  uint16_t caught[APOLLO_MAX_REPLICAS];                   /* and to this card */
+  uint16_t told[APOLLO_MAX_REPLICAS];                     /* whom a card has named to the repairer for it, */
+  uint32_t doubles[APOLLO_MAX_REPLICAS];                  /* and the round for which it was named first */
+  mark_list wrong, lacking;                               /* marks that are not as they must be */
+  uint32_t ended;                                         /* the tick at which the term was over for all */
 } cabinet;
 
 static _Noreturn void stop(const char *why) {
@@ -83,6 +97,8 @@ static int is_cut_now(int i, fault how) {
 }
 static int was_away(int i) { return cabinet.faults[i] == DEAF || cabinet.faults[i] == CUT || cabinet.faults[i] == LOST; }
 static int lies(int i) { return cabinet.faults[i] >= TWO; }
+/* May it be marked? Every other card signs one block a round. */
+static int may_double(int i) { return lies(i) || cabinet.faults[i] == AGAIN || cabinet.faults[i] == WORN; }
 static int follows(int i) { return cabinet.faults[i] == LOST && cabinet.now >= CUT_FROM; }
 /* Deaf, mute, cut and lost cards do, though they are counted among the f that fail: they catch up. */
 static int catches_up(int i) { return cabinet.faults[i] == NONE || cabinet.faults[i] == LOST || is_cut(i); }
@@ -90,6 +106,7 @@ static int catches_up(int i) { return cabinet.faults[i] == NONE || cabinet.fault
 static int keeps_rules(int i) { return catches_up(i) || cabinet.faults[i] == APART; }
 static int leader_of(uint32_t round) { return cabinet.rotation[(round - 1) % (uint32_t)cabinet.n]; }
 static const uint8_t *slot(int i, uint32_t round) { return cabinet.cards[i].log + (size_t)(round - 1) * APOLLO_FRAME; }
+static uint16_t bit(int i) { return (uint16_t)(1u << i); }
 static uint32_t get32(const uint8_t *p) { return (uint32_t)p[0] << 24 | (uint32_t)p[1] << 16 | (uint32_t)p[2] << 8 | p[3]; }
 
 /* ---- turns */
@@ -138,6 +155,65 @@ int host_verify(const card_setup *setup, const uint8_t frame[APOLLO_FRAME], cons
   return memcmp(signature, right, SIGNATURE) == 0;
 }
 
+/* ---- two blocks of one round */
+
+/* Is it a block of its round's leader, with all that the frame table asks for and its signature? */
+static int is_good_block(const card_setup *shared, const signed_block *b) {
+  const uint8_t *frame = b->frame;
+  uint32_t len = (uint32_t)frame[2] << 8 | frame[3], round = get32(frame + 4), height = get32(frame + 8), rest = 0;
+  uint8_t digest[APOLLO_DIGEST];
+  if (frame[0] != APOLLO_BLOCK || len > APOLLO_ENTRY || frame[1] != leader_of(round) || height < 1 || height > round) return 0;
+  for (uint32_t k = 44 + len; k < 480; k++) rest |= frame[k];
+  apollo_digest(frame, 480, digest);
+  return rest == 0 && memcmp(digest, frame + 480, APOLLO_DIGEST) == 0 && host_verify(shared, frame, b->signature);
+}
+
+/* Notes the stories that correct cards are told. Whoever tells one of them two is to be marked there at once; whoever tells two of them
+ * one each, by all in the end. */
+static void note_story(int to, const packet *p) {
+  static const uint8_t none[APOLLO_DIGEST];
+  if (p->kind != PACKET_BLOCK || cabinet.faults[to] != NONE) return;
+  const uint8_t *digest = p->block.frame + 480;
+  uint32_t round = get32(p->block.frame + 4);
+  if (round < 1 || round > cabinet.rounds) return;
+  uint8_t *own = cabinet.stories[to][round - 1];
+  if (memcmp(own, digest, APOLLO_DIGEST) == 0 || !is_good_block(&cabinet.cards[to].setup, &p->block)) return;
+  for (int j = 0; j < cabinet.n; j++) {
+    const uint8_t *other = cabinet.stories[j][round - 1];
+    if (memcmp(other, none, APOLLO_DIGEST) && memcmp(other, digest, APOLLO_DIGEST)) cabinet.doubled |= bit(leader_of(round));
+  }
+  if (memcmp(own, none, APOLLO_DIGEST)) cabinet.caught[to] |= bit(leader_of(round));
+  else memcpy(own, digest, APOLLO_DIGEST);
+}
+
+/* Says once what is wrong with card j's mark at card i. */
+static void note_mark(mark_list *list, int i, int j, const char *what) {
+  if (list->at[i] >> j & 1) return;
+  list->at[i] |= bit(j);
+  list->count++;
+  printf("tick %u: card %d %s at card %d\n", cabinet.now, j, what, i);
+}
+
+/* After each tick a card has marked all that it caught or named to the repairer, no other, and none that signs one block a round. */
+static void watch_marks(int i) {
+  uint16_t marks = cabinet.cards[i].record.equivocators;
+  for (int j = 0; j < cabinet.n && keeps_rules(i); j++) {
+    int marked = marks >> j & 1, told = cabinet.told[i] >> j & 1;
+    if (marked && !may_double(j)) note_mark(&cabinet.wrong, i, j, "WRONGLY MARKED");
+    if (marked != told) note_mark(&cabinet.wrong, i, j, marked ? "MARKED AND NOT TOLD" : "TOLD AND NOT MARKED");
+    if (cabinet.caught[i] >> j & 1 && !marked) note_mark(&cabinet.lacking, i, j, "CAUGHT AND NOT MARKED");
+  }
+}
+
+/* Whom a card that catches up is still to mark. */
+static int unmarked(int i) { return catches_up(i) ? cabinet.doubled & ~cabinet.cards[i].record.equivocators : 0; }
+
+static int have_spread(void) {
+  for (int i = 0; i < cabinet.n; i++)
+    if (unmarked(i)) return 0;
+  return 1;
+}
+
 /* ---- cables */
 
 static void put(cable *to, const packet *p) {
@@ -181,7 +257,10 @@ static void deliver(int to) {
       continue;
     }
     in->list[i] = in->list[--in->count]; /* packets overtake each other here */
-    if (cabinet.is_open[to] && !is_cut_now(to, DEAF)) card_hear(&cabinet.cards[to], m.p);
+    if (cabinet.is_open[to] && !is_cut_now(to, DEAF)) {
+      note_story(to, m.p);
+      card_hear(&cabinet.cards[to], m.p);
+    }
     free(m.p);
   }
 }
@@ -193,13 +272,18 @@ void host_act(int id, uint32_t round, const uint8_t *entry, size_t len) {
   cabinet.acts[id][cabinet.acted[id]++] = round;
 }
 
-/* The first alarm of each kind is printed, all are counted. */
+/* The first alarm of each kind is printed, of two blocks the first about each card; all are counted. */
 void host_alarm(int id, alarm_kind kind, int other, uint32_t round) {
-  if (!keeps_rules(id)) return;
-  if (cabinet.alarms[kind]++ > 0) return;
   static const char *const what[ALARM_KINDS] = {"its record, log or masks were changed (2)",
                                                 "a block would undo what is committed (12)",
-                                                "another block is committed there, or this card lies"};
+                                                "another block is committed there, or this card lies",
+                                                "it signed two blocks for this round"};
+  if (!keeps_rules(id)) return;
+  int known = kind == ALARM_DOUBLE ? cabinet.doubles[other] > 0 : cabinet.alarms[kind] > 0;
+  cabinet.alarms[kind]++;
+  if (kind == ALARM_DOUBLE) cabinet.told[id] |= bit(other);
+  if (known) return;
+  if (kind == ALARM_DOUBLE) cabinet.doubles[other] = round;
   printf("tick %u: alarm of card %d: round %u, card %d: %s\n", cabinet.now, id, round, other, what[kind]);
 }
 
@@ -266,14 +350,17 @@ static int twist_tray(int liar, int to, card_tray *t) {
   return way > 0;
 }
 
-/* The liar's own blocks: one for the odd cards and another for the even ones, or hidden from all but one card. 0: not sent. */
+/* The liar's own blocks: one for its next neighbour, another for the one after that, and so on in turn; or hidden from all but one card.
+ * Evidence it keeps for itself. 0: not sent. */
 static int twist(int from, int to, packet *p) {
   fault kind = cabinet.faults[from];
   if (p->kind == PACKET_TRAY) return twist_tray(from, to, &p->tray);
+  if (p->kind == PACKET_EVIDENCE) return 0;
   if (p->kind != PACKET_BLOCK || p->block.frame[1] != from) return 1;
   uint32_t round = get32(p->block.frame + 4);
   if (kind == ALL) kind = round / (uint32_t)cabinet.n % 2 ? TWO : HIDE;
-  int hidden = kind == HIDE && to != leader_of(round + 1 + round % 3), doubled = kind == TWO && to % 2;
+  int hidden = kind == HIDE && to != leader_of(round + 1 + round % 3);
+  int doubled = kind == TWO && (cabinet.n + to - from) % cabinet.n % 2;
   if (doubled) make_twin(from, &p->block);
   cabinet.lies += (uint32_t)(hidden || doubled);
   return !hidden;
@@ -289,7 +376,7 @@ static void blame_all(int from) {
       put32(frame + 4, r);
       apollo_digest(frame, 480, frame + 480);
       p.blames.round = r;
-      p.blames.signers = (uint16_t)(1u << from);
+      p.blames.signers = bit(from);
       host_sign(&cabinet.cards[from].setup, frame, p.blames.signature[from]);
       if (to == from) continue;
       host_send(from, to, &p);
@@ -297,11 +384,16 @@ static void blame_all(int from) {
     }
 }
 
-/* A block of the liar's next round, wrong in one of several ways, with its signature; or one of the round that all wait for, in its
- * leader's name, for which the liar has no signature. */
+/* A block of the liar's next round, wrong in one of several ways, with its signature; or one of the round that all wait for, or of the
+ * newest block's, in its leader's name, for which the liar has no signature. */
 static void junk_block(int from, signed_block *b) {
   const apollo_replica *record = &cabinet.cards[from].record;
-  uint32_t way = chance(7), round = record->round.value;
+  uint32_t way = chance(8), round = record->round.value;
+  if (way == 7 && record->tip_round.value > 0) {
+    memcpy(b->frame, slot(from, record->tip_round.value), APOLLO_FRAME);
+    make_twin(from, b);
+    return;
+  }
   while (way != 1 && leader_of(round) != from) round++;
   memset(b->frame, 0, APOLLO_FRAME);
   b->frame[0] = APOLLO_BLOCK;
@@ -316,6 +408,19 @@ static void junk_block(int from, signed_block *b) {
   sign_in_term(&cabinet.cards[from].setup, from, way == 0 ? TERM - 1 : TERM, b->frame, b->signature);
 }
 
+/* As evidence the newest block and a twin that its leader did not sign, or the same block, or that leader's block of a turn before. */
+static void junk_evidence(int from, card_evidence *e) {
+  const card *c = &cabinet.cards[from];
+  uint32_t newest = c->record.tip_round.value, way = chance(3), n = (uint32_t)cabinet.n;
+  uint32_t other = way == 2 && newest > n && slot(from, newest - n)[0] == APOLLO_BLOCK ? newest - n : newest;
+  if (newest == 0) return;
+  memcpy(e->blocks[0].frame, slot(from, newest), APOLLO_FRAME);
+  memcpy(e->blocks[0].signature, c->signature[newest - 1], SIGNATURE);
+  memcpy(e->blocks[1].frame, slot(from, other), APOLLO_FRAME);
+  memcpy(e->blocks[1].signature, c->signature[other - 1], SIGNATURE);
+  if (way == 0) make_twin(from, &e->blocks[1]);
+}
+
 static void send_junk(int from, int to) {
   packet p;
   memset(&p, 0, sizeof p);
@@ -324,13 +429,15 @@ static void send_junk(int from, int to) {
   p.from = (uint8_t)from;
   if (p.kind == PACKET_BLOCK && chance(4)) junk_block(from, &p.block);
   if (p.kind == PACKET_BLAMES) p.blames.round = cabinet.cards[from].record.round.value; /* in others' names */
-  if (p.kind == PACKET_STATUS && chance(2)) p.status = (card_status){.round = 1};       /* asks for all, always */
-  if (p.kind == PACKET_FETCH && chance(2)) p.fetch = (card_fetch){.room = TRAY};        /* the same */
-  if (p.kind == PACKET_TRAY && chance(4)) {                                             /* as if it had been asked */
+  if (p.kind == PACKET_STATUS && chance(2)) /* asks for all, always, and says that it has marked some */
+    p.status = (card_status){.round = 1, .equivocators = (uint16_t)chance(1u << cabinet.n)};
+  if (p.kind == PACKET_FETCH && chance(2)) p.fetch = (card_fetch){.room = TRAY}; /* asks for all too */
+  if (p.kind == PACKET_TRAY && chance(4)) {                                      /* as if it had been asked */
     p.tray.height = cabinet.cards[to].record.committed_height.value;
     p.tray.room = cabinet.tray;
     p.tray.count = chance(cabinet.tray);
   }
+  if (p.kind == PACKET_EVIDENCE) junk_evidence(from, &p.evidence);
   carry(from, to, &p);
   cabinet.lies++;
 }
@@ -350,6 +457,20 @@ static void mask_as_newest(int from) {
   host_sign(&cabinet.cards[from].setup, p.block.frame, p.block.signature);
   for (int to = 0; to < cabinet.n; to++)
     if (to != from) carry(from, to, &p);
+  cabinet.lies++;
+}
+
+/* Late in the term a twin of the first block that the card proposed, to the next correct card alone; often, since cables lose it. */
+static void slip(int from) {
+  packet p = {.kind = PACKET_BLOCK, .from = (uint8_t)from};
+  uint32_t round = 1, late = cabinet.cards[from].record.round.value + 2 * (uint32_t)cabinet.n;
+  int to = from;
+  while (leader_of(round) != from) round++;
+  if (late <= cabinet.rounds || slot(from, round)[0] != APOLLO_BLOCK) return;
+  while (cabinet.faults[to] != NONE) to = (to + 1) % cabinet.n;
+  memcpy(p.block.frame, slot(from, round), APOLLO_FRAME);
+  make_twin(from, &p.block);
+  carry(from, to, &p);
   cabinet.lies++;
 }
 
@@ -411,25 +532,30 @@ static void lose_state(int i) {
   card_close(&cabinet.cards[i]);
   open_card(i);
   cabinet.acted[i] = 0;
+  cabinet.told[i] = 0;
   note_lag(i);
 }
 
 static void turn(int i) {
   if (cabinet.faults[i] == DEAD) return;
   if (cabinet.now == cabinet.start[i]) open_card(i);
-  if (cabinet.faults[i] == LOST && cabinet.now == CUT_FROM) lose_state(i);
+  if ((cabinet.faults[i] == LOST || cabinet.faults[i] == AGAIN) && cabinet.now == CUT_FROM) lose_state(i);
   if (is_cut(i) && cabinet.now == CUT_FROM + CUT_FOR) note_lag(i);
   deliver(i);
   if (!cabinet.is_open[i]) return;
   if (cabinet.now % EVERY == cabinet.start[i] % EVERY && cabinet.given[i] < ENTRIES && !follows(i)) give_entry(i);
   card_tick(&cabinet.cards[i]);
+  watch_marks(i);
+  if (cabinet.faults[i] == WORN) slip(i);
   if (lies(i)) lie(i);
 }
 
 static int is_over(void) {
   for (int i = 0; i < cabinet.n; i++)
     if (catches_up(i) && !(cabinet.is_open[i] && card_is_over(&cabinet.cards[i]))) return 0;
-  return cabinet.now > SKEW;
+  if (cabinet.now <= SKEW) return 0;
+  if (!cabinet.ended) cabinet.ended = cabinet.now;
+  return have_spread() || cabinet.now > cabinet.ended + SPREAD * retry();
 }
 
 static void run(void) {
@@ -439,7 +565,8 @@ static void run(void) {
     for (int k = 0; k < APOLLO_DIGEST; k++) cabinet.key[i][k] = (uint8_t)chance(256);
     cabinet.start[i] = chance(SKEW);
     cabinet.acts[i] = calloc(cabinet.rounds, sizeof *cabinet.acts[i]);
-    if (!cabinet.acts[i]) stop("no memory");
+    cabinet.stories[i] = calloc(cabinet.rounds, sizeof *cabinet.stories[i]);
+    if (!cabinet.acts[i] || !cabinet.stories[i]) stop("no memory");
   }
   for (cabinet.now = 0; cabinet.now < most && !is_over(); cabinet.now++)
     for (int i = 0; i < cabinet.n; i++) turn(i);
@@ -571,15 +698,41 @@ static int report_blames(void) {
   return count == 0;
 }
 
-/* How the library answered the cards that keep the rules. */
-static void report_answers(void) {
+/* How the library answered the cards that keep the rules. Some answers mean that the host made a mistake, whatever others sent. */
+static int report_answers(void) {
+  const uint32_t own = 1u << APOLLO_BAD_SETUP | 1u << APOLLO_OUT_TOO_SHORT | 1u << APOLLO_ENTRY_TOO_LONG | 1u << APOLLO_BAD_LENGTH |
+                       1u << APOLLO_NOT_A_SET | 1u << APOLLO_BAD_ROTATION | 1u << APOLLO_NOT_EQUIVOCATION;
+  int good = 1;
   printf("answers");
   for (int k = 0; k < NUMBERS; k++) {
     uint32_t count = 0;
     for (int i = 0; i < cabinet.n; i++) count += keeps_rules(i) ? cabinet.cards[i].answers[k] : 0;
     if (count > 0) printf("  %d: %u", k, count);
+    if (count > 0 && own >> k & 1) good = 0;
   }
-  putchar('\n');
+  puts(good ? "" : "  A MISTAKE OF THE HOST");
+  return good;
+}
+
+/* Whom the repairer is to replace, and which cards that keep the rules have marked it. */
+static void print_marks(void) {
+  for (int j = 0; j < cabinet.n; j++) {
+    if (cabinet.doubles[j] == 0) continue;
+    printf("card %d (%s) signed two blocks for round %u: marked at", j, fault_names[cabinet.faults[j]], cabinet.doubles[j]);
+    for (int i = 0; i < cabinet.n; i++)
+      if (keeps_rules(i) && cabinet.cards[i].record.equivocators >> j & 1) printf(" %d", i);
+    putchar('\n');
+  }
+}
+
+/* In the end every card that catches up has marked whoever told correct ones different blocks of a round. */
+static int report_marks(void) {
+  print_marks();
+  for (int i = 0; i < cabinet.n; i++)
+    for (int j = 0; j < cabinet.n; j++)
+      if (unmarked(i) >> j & 1) note_mark(&cabinet.lacking, i, j, "NOT MARKED");
+  printf("marks: %u told, %u wrong, %u lacking\n", cabinet.alarms[ALARM_DOUBLE], cabinet.wrong.count, cabinet.lacking.count);
+  return cabinet.wrong.count == 0 && cabinet.lacking.count == 0;
 }
 
 static void print_list(int i) {
@@ -596,9 +749,9 @@ static int report(void) {
   for (int i = 0; i < cabinet.n; i++)
     if (catches_up(i) && (!catches_up(best) || cabinet.acted[i] > cabinet.acted[best])) best = i;
   if (cabinet.show_list) print_list(best);
-  report_answers();
-  int lists = report_lists(best), entries = report_entries(best), patient = report_blames();
-  int good = lists && entries && patient && !cabinet.alarms[ALARM_STATE] && !cabinet.alarms[ALARM_UNDONE];
+  int answers = report_answers(), lists = report_lists(best), entries = report_entries(best), patient = report_blames();
+  int marks = report_marks();
+  int good = answers && lists && entries && patient && marks && !cabinet.alarms[ALARM_STATE] && !cabinet.alarms[ALARM_UNDONE];
   printf("%d cards, fault %s, %u lies, timeout %u, %u ticks: %s, %s\n", cabinet.n, fault_names[cabinet.kind], cabinet.lies,
          cabinet.timeout, cabinet.now, lists ? "all lists agree" : "the lists do NOT agree", good ? "all in order" : "NOT in order");
   return good;
@@ -613,8 +766,9 @@ static const char usage[] =
     "  --rounds T     of the term, 30 to 4096 (120)\n"
     "  --rotation R   who leads: the number of every card, in turn, as in 2,0,1; or shuffled, by the seed (0,1,2 and so on)\n"
     "  --fault KIND   how f = (N - 1) / 2 cards fail (dead): none, dead, deaf or mute (for 900 ticks, then back), cut (mute, later\n"
-    "                 deaf too), lost (the state: they follow), apart (set up with another rotation: they stand still), two (blocks\n"
-    "                 for one round), blames (of everybody), junk, hide (a block shown to one card only), all (these four lies), mask\n"
+    "                 deaf too), lost (the state: they follow), apart (set up with another rotation: they stand still), again (they\n"
+    "                 lose their state and send all the same), worn (a second block for an old round, shown to one card), two (blocks\n"
+    "                 for every round), blames (of everybody), junk, hide (a block shown to one card only), all (these four lies), mask\n"
     "                 (blocks with another's check), mixed (several of these), misled (cut, deaf and lost cards among liars)\n"
     "  --tray N       frames that a card asks for at once when it comes back, 2 to 16 (16)\n"
     "  --delay D      packets come after 1 to D ticks (6)\n"
@@ -622,8 +776,8 @@ static const char usage[] =
     "  --timeout W    ticks until a leader is blamed (by the rule of docs/HOSTS.md)\n"
     "  --impatient    no fault but a timeout of 2 ticks: correct cards blame each other, and the lists part\n"
     "  --list         print the committed list\n"
-    "Ends with 0 if all lists agree, no entry is lost or misses a turn and every premise was kept; with 1 if not; with 2 if it cannot\n"
-    "run: a wrong option, say.\n";
+    "Ends with 0 if all lists agree, no entry is lost or misses a turn, every premise was kept and all cards that signed two blocks for\n"
+    "a round, and no other, are marked; with 1 if not; with 2 if it cannot run: a wrong option, say.\n";
 
 static _Noreturn void wrong_usage(void) {
   fputs(usage, stderr);
@@ -759,6 +913,7 @@ int main(int argc, char **argv) {
     while (cabinet.in[i].count > 0) free(cabinet.in[i].list[--cabinet.in[i].count].p);
     free(cabinet.in[i].list);
     free(cabinet.acts[i]);
+    free(cabinet.stories[i]);
   }
   return good ? 0 : 1;
 }

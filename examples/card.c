@@ -55,13 +55,19 @@ size_t packet_size(const packet *p) {
   if (p->kind == PACKET_FETCH) size += sizeof p->fetch;
   if (p->kind == PACKET_TRAY) size += offsetof(card_tray, blocks);
   if (p->kind == PACKET_TRAY) size += sizeof *p->tray.blocks * (p->tray.count < TRAY ? p->tray.count : TRAY);
+  if (p->kind == PACKET_EVIDENCE) size += sizeof p->evidence;
   return size;
 }
 
+static signed_block block_in(const card *c, uint32_t round) {
+  signed_block b;
+  memcpy(b.frame, slot(c, round), APOLLO_FRAME);
+  memcpy(b.signature, c->signature[round - 1], SIGNATURE);
+  return b;
+}
+
 static void send_block(const card *c, int to, uint32_t round) {
-  packet p = {.kind = PACKET_BLOCK, .from = c->setup.id};
-  memcpy(p.block.frame, slot(c, round), APOLLO_FRAME);
-  memcpy(p.block.signature, c->signature[round - 1], SIGNATURE);
+  packet p = {.kind = PACKET_BLOCK, .from = c->setup.id, .block = block_in(c, round)};
   host_send(c->setup.id, to, &p);
 }
 
@@ -102,6 +108,7 @@ static void send_status(const card *c, int to) {
   packet p = {.kind = PACKET_STATUS, .from = c->setup.id};
   p.status.round = waited(c);
   p.status.signers = card_is_over(c) ? 0 : c->blames[waited(c) - 1].signers;
+  p.status.equivocators = c->record.equivocators;
   p.status.committed = committed(c);
   if (committed(c) > 0) memcpy(p.status.digest, digest_of(slot(c, committed(c))), APOLLO_DIGEST);
   host_send(c->setup.id, to, &p);
@@ -353,15 +360,78 @@ static void settle(card *c) {
 
 /* ---- what a block must be: the cheap checks, and those that one that is known does not need */
 
+/* By the frame table of apollo.h. The library judges all this too; but what is no block must not take a block's place here. */
 static int is_block(const card *c, const uint8_t *frame) {
-  uint32_t r = round_of(frame);
-  return frame[0] == APOLLO_BLOCK && r >= 1 && r <= c->setup.rounds && frame[1] == leader_of(c, r);
+  uint32_t r = round_of(frame), len = (uint32_t)frame[2] << 8 | frame[3];
+  uint8_t rest = 0;
+  if (frame[0] != APOLLO_BLOCK || len > APOLLO_ENTRY || r < 1 || r > c->setup.rounds || frame[1] != leader_of(c, r)) return 0;
+  for (uint32_t k = 44 + len; k < 480; k++) rest |= frame[k];
+  return rest == 0 && height_of(frame) >= 1 && height_of(frame) <= r;
 }
 
 static int is_genuine(const card *c, const signed_block *b) {
   uint8_t digest[APOLLO_DIGEST];
   apollo_digest(b->frame, 480, digest);
   return same(digest, digest_of(b->frame)) && host_verify(&c->setup, b->frame, b->signature);
+}
+
+/* ---- two blocks of one round: their leader is marked, and goes on leading: what it sends is judged as ever */
+
+static int is_marked(const card *c, int i) { return c->record.equivocators >> i & 1; }
+
+static void send_evidence(const card *c, int to, int against) {
+  packet p = {.kind = PACKET_EVIDENCE, .from = c->setup.id, .evidence = c->evidence[against]};
+  host_send(c->setup.id, to, &p);
+}
+
+/* Hands in two genuine blocks of one round if they differ. Taken, their leader is marked: keeps both as evidence, tells the repairer
+ * and passes it on. Once for each leader. */
+static void hand_in_pair(card *c, const signed_block *a, const signed_block *b) {
+  uint8_t pair[2 * APOLLO_FRAME];
+  int leader = b->frame[1];
+  if (is_marked(c, leader) || same(digest_of(a->frame), digest_of(b->frame))) return;
+  memcpy(pair, a->frame, APOLLO_FRAME);
+  memcpy(pair + APOLLO_FRAME, b->frame, APOLLO_FRAME);
+  apollo_marked m = apollo_equivocation(c->record, pair, sizeof pair);
+  if (m.number < NUMBERS) c->answers[m.number]++;
+  if (m.number == APOLLO_BAD_REPLICA) host_alarm(c->setup.id, ALARM_STATE, c->setup.id, 0);
+  if (m.number != APOLLO_TAKEN) return;
+  c->record = m.replica; /* to disk, with the evidence, as after any other call */
+  c->evidence[leader] = (card_evidence){{*a, *b}};
+  host_alarm(c->setup.id, ALARM_DOUBLE, leader, round_of(b->frame));
+  for (int to = 0; to < cards(c); to++)
+    if (to != c->setup.id) send_evidence(c, to, leader);
+}
+
+/* A genuine block against those of its round that are there: the one in the log, and what each sender sent, also where it is no longer
+ * of use. Not a block of the card's own: one that differs from the log's is from before a loss of its state. */
+static void compare(card *c, const signed_block *b) {
+  uint32_t r = round_of(b->frame);
+  if (b->frame[1] == c->setup.id) return;
+  signed_block held = block_in(c, r);
+  if (filled(c, r)) hand_in_pair(c, &held, b);
+  for (int i = 0; i < cards(c); i++) {
+    const signed_block *kept = &c->kept[i][r % WINDOW].block;
+    if (round_of(kept->frame) == r) hand_in_pair(c, kept, b);
+  }
+}
+
+/* What another card found out: its word counts for nothing, the two blocks are checked as every block that is heard. */
+static void hear_evidence(card *c, const card_evidence *e) {
+  const signed_block *a = &e->blocks[0], *b = &e->blocks[1];
+  if (!is_block(c, a->frame) || !is_block(c, b->frame) || round_of(a->frame) != round_of(b->frame)) return;
+  if (is_marked(c, a->frame[1]) || same(digest_of(a->frame), digest_of(b->frame))) return;
+  if (is_genuine(c, a) && is_genuine(c, b)) hand_in_pair(c, a, b);
+}
+
+/* Sends a card that asks evidence against one that it has not marked, since the first may be lost. Not more often than a card asks by
+ * itself. */
+static void show_evidence(card *c, int to, uint16_t marked) {
+  int lacks = c->record.equivocators & ~marked, against = 0;
+  if (!lacks || c->now < c->shown[to]) return;
+  c->shown[to] = c->now + c->setup.retry;
+  while (!(lacks >> against & 1)) against++;
+  send_evidence(c, to, against);
 }
 
 /* ---- coming back by the recipe of docs/HOSTS.md: the chain of one card above the own committed height is fetched and handed in */
@@ -433,6 +503,7 @@ static int collect(card *c, const signed_block *b) {
   uint32_t last = run->count > 0 ? round_of(collected(c, run->count - 1)) : 0;
   if (!is_block(c, b->frame) || round_of(b->frame) <= last || height_of(b->frame) != reached(c) + 1) return 0;
   if (!is_genuine(c, b)) return 0;
+  compare(c, b);
   memcpy(run->frames + (size_t)run->count * APOLLO_FRAME, b->frame, APOLLO_FRAME);
   memcpy(run->signature[run->count++], b->signature, SIGNATURE);
   return 1;
@@ -456,7 +527,6 @@ static void hear_tray(card *c, int from, const card_tray *t) {
  * does not answer is left after some tries. */
 static void come_back(card *c) {
   card_run *run = &c->run;
-  int stands = (c->now - c->moved) % (STILL * c->setup.retry) == 0 && passed_by(c, next_led(c)) > 0;
   if (run->active && run->lacks && (certified(c, run->lacks) || run->lacks <= committed(c))) {
     c->blames_got += (uint32_t)certified(c, run->lacks);
     hand_in_run(c);
@@ -466,6 +536,7 @@ static void come_back(card *c) {
     c->asked_again += (uint32_t)run->active;
     if (run->active) send_fetch(c);
   }
+  int stands = (c->now - c->moved) % (STILL * c->setup.retry) == 0 && passed_by(c, next_led(c)) > 0; /* by now: R may have moved */
   if (!run->active && (was_away(c) || stands)) begin_run(c);
 }
 
@@ -485,13 +556,15 @@ static void see(card *c, int signer, uint32_t round) {
 }
 
 /* Keeps a block until its round is committed, also one below R: it may be the parent that a later block needs. Blocks are found by
- * their checks, so the check is looked at here already. */
+ * their checks, so the check is looked at here already. One of a committed round may show that its leader signed two. */
 static void hear_block(card *c, int from, const signed_block *b) {
   uint32_t r = round_of(b->frame);
-  if (!is_block(c, b->frame) || r <= committed(c)) return;
+  if (!is_block(c, b->frame) || (r <= committed(c) && is_marked(c, b->frame[1]))) return;
   kept_block *k = &c->kept[from][r % WINDOW];
   if (memcmp(slot(c, r), b->frame, APOLLO_FRAME) == 0 || (k->used && memcmp(k->block.frame, b->frame, APOLLO_FRAME) == 0)) return;
   if (!is_genuine(c, b)) return;
+  compare(c, b);
+  if (r <= committed(c)) return;
   see(c, b->frame[1], r);
   if (r > committed(c) + WINDOW) c->ask |= bit(from); /* too far ahead: what comes before it is needed first */
   else *k = (kept_block){.block = *b, .used = 1};
@@ -519,6 +592,7 @@ static void hear_status(card *c, int from, const card_status *s) {
   if (s->committed > 0 && s->committed <= committed(c) &&
       !(filled(c, s->committed) && same(digest_of(slot(c, s->committed)), s->digest)))
     host_alarm(c->setup.id, ALARM_PARTED, from, s->committed);
+  show_evidence(c, from, s->equivocators);
   if (c->seen[from] < s->round - 1) c->seen[from] = s->round - 1;
   if (s->round > waited(c)) c->ask |= bit(from);
   if (s->round > waited(c) || c->now < c->closed[from]) return;
@@ -537,6 +611,7 @@ void card_hear(card *c, const packet *p) {
   if (p->kind == PACKET_STATUS) hear_status(c, p->from, &p->status);
   if (p->kind == PACKET_FETCH) hear_fetch(c, p->from, &p->fetch);
   if (p->kind == PACKET_TRAY) hear_tray(c, p->from, &p->tray);
+  if (p->kind == PACKET_EVIDENCE) hear_evidence(c, &p->evidence);
   if (c->progress != before) settle(c);
 }
 

@@ -7,8 +7,8 @@
 #include "apollo.h"
 
 enum {
-  NUMBERS = APOLLO_BAD_ROTATION + 1, /* that the library answers: 0 and the refusals */
-  SIGNATURE = 32,                    /* bytes of a signature: 64 for Ed25519 */
+  NUMBERS = APOLLO_NOT_EQUIVOCATION + 1, /* that the library answers: 0 and the refusals */
+  SIGNATURE = 32,                        /* bytes of a signature: 64 for Ed25519 */
   WINDOW = 32, /* rounds above the committed one whose blocks are kept, and that an answer has: 2 f + 1 at least (docs/HOSTS.md) */
   TRAY = 16,   /* most frames of an answer to a card that fetches, up to WINDOW */
   LINE = 64    /* entries that wait to be proposed */
@@ -16,7 +16,7 @@ enum {
 
 /* ---- what travels between hosts */
 
-enum { PACKET_BLOCK = 1, PACKET_BLAMES, PACKET_STATUS, PACKET_FETCH, PACKET_TRAY, PACKET_KINDS };
+enum { PACKET_BLOCK = 1, PACKET_BLAMES, PACKET_STATUS, PACKET_FETCH, PACKET_TRAY, PACKET_EVIDENCE, PACKET_KINDS };
 
 /* A block with its signer's signature (byte 1 of the frame says whose), whoever passes it on. */
 typedef struct {
@@ -33,9 +33,10 @@ typedef struct {
 
 /* Where a card stands. It asks a card that is ahead for what is missing, and shows whether two lists have parted. */
 typedef struct {
-  uint32_t round;     /* waited for */
-  uint16_t signers;   /* of the blames held for that round */
-  uint32_t committed; /* the committed round, and its block's digest */
+  uint32_t round;        /* waited for */
+  uint16_t signers;      /* of the blames held for that round */
+  uint16_t equivocators; /* the cards that it has marked: it is sent evidence against others */
+  uint32_t committed;    /* the committed round, and its block's digest */
   uint8_t digest[APOLLO_DIGEST];
 } card_status;
 
@@ -52,6 +53,11 @@ typedef struct {
   signed_block blocks[TRAY];
 } card_tray;
 
+/* Two different blocks of one round: with their leader's signature under each they prove to every card that it signed both. */
+typedef struct {
+  signed_block blocks[2];
+} card_evidence;
+
 /* A packet of one term, from a card that is known to have sent it: real cables carry bytes, and size, term and the sender's own
  * signature are looked at before card_hear. Blocks are kept and questions answered by sender. */
 typedef struct {
@@ -62,6 +68,7 @@ typedef struct {
     card_status status;
     card_fetch fetch;
     card_tray tray;
+    card_evidence evidence;
   };
 } packet;
 
@@ -119,12 +126,14 @@ typedef struct {
   uint8_t (*signature)[SIGNATURE];              /* of the block in each slot */
   signed_blames *blames;                        /* of each round; the masks say which of them the library has */
   kept_block kept[APOLLO_MAX_REPLICAS][WINDOW]; /* by sender and round: no sender pushes out what another sent */
+  card_evidence evidence[APOLLO_MAX_REPLICAS];  /* against each card that the record marks */
   uint8_t frames[WINDOW * APOLLO_FRAME];        /* of the call under way: a branch, the blames of a round, or a tray */
   proposal line[LINE];                          /* entries until they are on the list, oldest first */
   size_t lined;
   uint32_t now, moved;                  /* ticks since the opening, and at the last new round */
   uint32_t closed[APOLLO_MAX_REPLICAS]; /* until when a card's questions are not answered again */
-  uint32_t served[APOLLO_MAX_REPLICAS]; /* the same for one that fetches */
+  uint32_t served[APOLLO_MAX_REPLICAS]; /* the same for one that fetches, */
+  uint32_t shown[APOLLO_MAX_REPLICAS];  /* and for evidence that is sent again */
   uint32_t seen[APOLLO_MAX_REPLICAS];   /* the highest round in a frame that this card signed, or that it says it has passed */
   uint32_t acted;                       /* rounds whose entries were handed to host_act */
   uint16_t heard, ask;                  /* cards that were heard; cards to ask at the end of the tick */
@@ -165,6 +174,7 @@ typedef enum {
   ALARM_STATE,  /* the library answered 2: record, log or masks were changed */
   ALARM_UNDONE, /* the library answered 12: a premise of the agreement is broken */
   ALARM_PARTED, /* card `other` says that it has another block committed there: the lists have parted, or it lies */
+  ALARM_DOUBLE, /* card `other` signed two blocks for that round, and is marked: it is to be replaced. Once for each card */
   ALARM_KINDS
 } alarm_kind;
 void host_alarm(int id, alarm_kind kind, int other, uint32_t round);

@@ -38,11 +38,12 @@
  *     round and signer (table below): on the wire the blames of a round are that round, the signers and their signatures.
  *
  * Hearing: before anything is looked up, kept or handed in
- *   - The datagram's size, term and sender; of each frame the kind (byte 0), a signer below n and a round from 1 to T (of a question R
- *     from 1 to T + 1, and the committed round below it); its digest, apollo_digest of the first 480 bytes against the last 32; its
- *     signer's signature. Drop what fails. Known already is a frame whose 512 bytes all are: it needs no check, and the signature that
- *     was checked stays.
- *   - The digest too, since parents are found by it: a liar signs a frame that bears another block's.
+ *   - The datagram's size, term and sender; of each frame the kind (byte 0), a signer below n and a round from 1 to T, of a block all that
+ *     the frame table asks for (of a question R from 1 to T + 1, and the committed round below it); its digest, apollo_digest of the
+ *     first 480 bytes against the last 32; its signer's signature. Drop what fails. Known already is a frame whose 512 bytes all are: it
+ *     needs no check, and the signature that was checked stays.
+ *   - The digest too, since parents are found by it: a liar signs a frame that bears another block's. The frame table too, since it signs
+ *     what is no block: that would push out a block of it that is kept.
  *
  * Sending
  *   - An emitted blame goes to all cards.
@@ -52,7 +53,7 @@
  *   - Cables lose frames. While the card stays in a round, send all this again every few ticks, and ask f + 1 other cards, so that one
  *     is correct, the next ones each time, and R's leader if it is not among them. All this goes by the host's own clock, from the
  *     opening on, also while apollo_tick is withheld. A question tells R, the committed round and the digest of its block (0 and zeros
- *     for none).
+ *     for none), and the marks (Two blocks of one round).
  *   - Asked by a card in an earlier round, send it, for each round above that card's committed one and below the own R, lowest first,
  *     the block in the slot or, where the slot is empty, f + 1 blames. An answer may end after 2f + 1 rounds, never sooner: R is at
  *     most 2f + 1 above the committed round while the premises hold, and an answer that ends below the asker's R brings nothing alone.
@@ -99,6 +100,28 @@
  *   - Any other answer (for 12 see there), none at all, or a bad frame: that card lies or is out, or its chain changed meanwhile. Drop
  *     the frames and begin again with the next card: of f + 1 one is correct. If it lasts with f + 1 cards: compare lists.
  *
+ * Two blocks of one round: a correct card signs one. Two different ones that bear their leader's signature show whoever sees both that
+ * this card is broken, and the repairer wants its number:
+ *   - A host comes by them where a block is heard, as above and its signature too, of a round whose slot holds another digest, or of
+ *     which a block with another digest is kept, whoever sent it. Compare before the new one takes the other's place or is dropped as
+ *     old: rounds long committed count, and so do the frames of a tray. Leave out the card's own rounds: a block there that differs from
+ *     the log's is from before a loss of its state.
+ *   - Hand both to apollo_equivocation end to end, in any order, as 1,024 bytes, unless the mark stands. Taken, bit i of `equivocators`
+ *     is set for the leader, card i. The record has changed: `marked.replica` is the one for the next call, and goes to disk like any
+ *     other state.
+ *   - Keep the two frames with their signatures as evidence, two frames a card, and pass them on: to all once, and again to a card whose
+ *     question shows that it lacks the mark, since cables lose frames. A mark is in one card's record and is that card's word; the
+ *     signed frames convince every other. They are heard as two blocks, whoever sends them.
+ *   - Tell the repairer the card's number and the round: it is to be replaced. Go on as before. A marked card still leads its rounds,
+ *     and its later frames are judged as ever: a host that drops them comes to blame correct cards, since others take them. Marks are of
+ *     one term: the next open begins with none, and what was found is the host's to keep.
+ *   - Proved: while no frame is forged (signatures are checked, correct cards' keys kept), no correct card is ever marked, in the record
+ *     of any card that is opened and called by the rules of State, whatever else is broken: neither more than f failures nor parted
+ *     lists nor impatient blames matter. A mark is never cleared. Marks change no leader, no list, no commit: each call does the same
+ *     with other marks.
+ *   - A card that lost its state, was opened afresh and sent what it emitted is not correct, and may be marked: it did sign both. Two
+ *     blocks that never come to one card are not found: no mark proves nothing.
+ *
  * Entries
  *   - Lend each of open, branch, blame, blames and tick an entry: the call that brings a card to a round that it leads proposes it at
  *     once, an empty one too. That round is 1 for open, R + 1 for a blame, a set or a tick, the last frame's + 1 for a branch. A host
@@ -144,7 +167,7 @@ extern "C" {
 
 /* Header and archive belong together: a host starts only where apollo_version() == APOLLO_VERSION. The number grows with every change
  * of a declaration here, of what a call does, or of what is promised of it. */
-#define APOLLO_VERSION 5u
+#define APOLLO_VERSION 6u
 uint32_t apollo_version(void);
 
 enum {
@@ -172,16 +195,17 @@ enum {
  *     480 to 511 the frame's digest: SHA-256 of bytes 0 to 479 */
 enum { APOLLO_BLOCK = 1, APOLLO_BLAME = 2 };
 
-/* Refusals. The word in quotes is the one on the repair sheets, which have none for 16 and 17. */
+/* Refusals. The word in quotes is the one on the repair sheets, which have none for 16 to 18. */
 typedef enum {
   APOLLO_TAKEN = 0,
   APOLLO_BAD_SETUP = 1,          /* "set-up": open: a number outside its range, or a log or masks of another length */
   APOLLO_BAD_REPLICA = 2,        /* "record": the other calls: the same, or a field out of range, or a rotation that 17 refuses or that
-                                  * is not zero past n; the record is no card's */
+                                  * is not zero past n, or a mark at bit n or above; the record is no card's */
   APOLLO_ROUNDS_OVER = 3,        /* "term over": branch, blame, blames, tick: every round has been passed */
   APOLLO_OUT_TOO_SHORT = 4,      /* "short tray": the out buffer has less than 1,024 bytes */
   APOLLO_ENTRY_TOO_LONG = 5,     /* "long entry": the entry has more than 400 bytes */
-  APOLLO_BAD_LENGTH = 6,         /* "cut": a branch that is not 1 to T whole frames, a blame not one, a set of blames not 1 to 15 */
+  APOLLO_BAD_LENGTH = 6,         /* "cut": a branch that is not 1 to T whole frames, a blame not one, a set of blames not 1 to 15, an
+                                  * equivocation not two */
   APOLLO_BAD_DIGEST = 7,         /* "check": a frame's digest is wrong; place: the frame's index */
   APOLLO_BAD_FORM = 8,           /* "form": a field outside the frame table, wrong kind or signer; place: the frame's index */
   APOLLO_NOT_CHILD = 9,          /* "parted": a frame is not the child of the one before; place: its index */
@@ -192,7 +216,8 @@ typedef enum {
   APOLLO_EARLY = 14,             /* "early": blames for a round above the one waited for. Again when that has come */
   APOLLO_ABSENT = 15,            /* "absent": read: no such committed height; fetch: no frame above that height */
   APOLLO_NOT_A_SET = 16,         /* blames: frames of two rounds, or a signer twice: the host's own mistake */
-  APOLLO_BAD_ROTATION = 17       /* open: the rotation is not n bytes, lacks a card below n or has one twice */
+  APOLLO_BAD_ROTATION = 17,      /* open: the rotation is not n bytes, lacks a card below n or has one twice */
+  APOLLO_NOT_EQUIVOCATION = 18   /* equivocation: the two digests are equal, or the rounds differ: the host's own mistake */
 } apollo_number;
 
 /* 12 means that a premise of the agreement (docs/AGREEMENT.md) is broken: more than f cards failed in this term (one opened with another
@@ -220,6 +245,8 @@ typedef struct {
                                    * premises hold */
   apollo_height committed_height;
   uint8_t rotation[APOLLO_MAX_REPLICAS]; /* who leads: card rotation[(r - 1) % n] round r. Zeros from rotation[n] on */
+  uint16_t equivocators; /* bit i: card i signed two blocks for one round. Zero at open, never cleared, zeros from bit n on. For the
+                          * repairer: no call goes by it */
 } apollo_replica;
 
 typedef struct {
@@ -240,6 +267,12 @@ typedef struct {
   uint8_t number;
   size_t count; /* frames copied to the start of the out buffer: as many as there are or as it takes; 0 when refused */
 } apollo_fetched;
+
+typedef struct {
+  uint8_t number;
+  uint32_t place;         /* for 7 and 8 the frame's index, 0 or 1; else 0 */
+  apollo_replica replica; /* the record for the next call; after a refusal the one handed in */
+} apollo_marked;
 
 /* Opens a card: zeroes log and masks and waits for round 1, or proposes at once if it leads round 1. Nothing is committed yet.
  * rotation: the numbers of all cards, 0 to n - 1, each once, in the order in which they lead, and rotation_len is n. Its first card
@@ -301,6 +334,15 @@ apollo_part apollo_read(apollo_replica replica, const uint8_t *log, size_t log_l
  * Refuses 2, 4, 15, in this order. */
 apollo_fetched apollo_fetch(apollo_replica replica, const uint8_t *log, size_t log_len, apollo_height height, uint8_t *out,
                             size_t out_len);
+
+/* Hands in two blocks of one round, end to end, in any order: frames_len is 1,024. Taken, the round's leader is marked in the record (its
+ * bit of `equivocators` is set) and nothing else changes; marked already, it is taken again and nothing changes at all. The frames need
+ * not be linked, attached or certified, and may be of any round from 1 to T, also when the term is over: no log, masks, entry or out
+ * buffer is lent. No call checks a signature: handed in unchecked, two frames that anyone wrote mark a correct card for good. The host
+ * keeps the frames with their signatures, and the record.
+ * Refuses 2 (by the record's own fields), 6, then 7, 8 of the first frame, of the second, 18. Where both were heard as above, 7 and 8 do
+ * not come, and 18 is the host's own mistake. */
+apollo_marked apollo_equivocation(apollo_replica replica, const uint8_t *frames, size_t frames_len);
 
 /* The SHA-256 digest of some bytes: the check, and so the name, of a frame is that of its first 480 bytes. */
 void apollo_digest(const uint8_t *bytes, size_t len, uint8_t digest[32]);
