@@ -1,6 +1,7 @@
 /* What the header tells a host's engineer beyond each call is so: slots, masks and leaders; which frames may be needed again; what an
  * old term's frames do; what a blame is, and a set of them; which calls commit, and what; how many frames a fetch gives, and how a card
- * that was away comes back with them; what a rotation is, and what it decides.
+ * that was away comes back with them; what a rotation is, and what it decides; whom two blocks of one round mark, and what a mark
+ * changes.
  * Three cards, f = 1, where nothing else is said. Exits with 0 if all is so. */
 #include "apollo.h"
 #include "expect.h"
@@ -79,7 +80,8 @@ static int same_record(apollo_replica a, apollo_replica b) {
   return a.id == b.id && a.f == b.f && a.timeout.value == b.timeout.value && a.last_round.value == b.last_round.value &&
          a.round.value == b.round.value && a.timer.value == b.timer.value && a.tip_round.value == b.tip_round.value &&
          a.tip_height.value == b.tip_height.value && a.committed_round.value == b.committed_round.value &&
-         a.committed_height.value == b.committed_height.value && memcmp(a.rotation, b.rotation, sizeof a.rotation) == 0;
+         a.committed_height.value == b.committed_height.value && memcmp(a.rotation, b.rotation, sizeof a.rotation) == 0 &&
+         a.equivocators == b.equivocators;
 }
 
 static card zero, other, one, two;
@@ -554,6 +556,7 @@ static void leaders(void) {
 static int is_no_record(apollo_replica r) {
   static uint8_t frame[APOLLO_FRAME];
   apollo_answer a[4];
+  apollo_marked m = apollo_equivocation(r, frame, sizeof frame);
   card c = two;
   a[0] = apollo_branch(r, c.log, LOG, c.masks, T, frame, sizeof frame, NULL, 0, out, sizeof out);
   a[1] = apollo_blame(r, c.log, LOG, c.masks, T, frame, sizeof frame, NULL, 0, out, sizeof out);
@@ -561,6 +564,7 @@ static int is_no_record(apollo_replica r) {
   a[3] = apollo_tick(r, c.log, LOG, c.masks, T, NULL, 0, out, sizeof out);
   for (int k = 0; k < 4; k++)
     if (a[k].number != APOLLO_BAD_REPLICA || !same_record(a[k].replica, r)) return 0;
+  if (m.number != APOLLO_BAD_REPLICA || m.place != 0 || !same_record(m.replica, r)) return 0;
   return apollo_read(r, c.log, LOG, (apollo_height){1}).number == APOLLO_BAD_REPLICA &&
          apollo_fetch(r, c.log, LOG, (apollo_height){0}, out, sizeof out).number == APOLLO_BAD_REPLICA;
 }
@@ -617,6 +621,240 @@ static void parted_by_rotations(void) {
   EXPECT(zero.log[44] == 'A' && one.log[44] == 'B');
 }
 
+static uint8_t pair[3 * APOLLO_FRAME]; /* two frames, and room for a wrong length */
+static uint8_t *const second = pair + APOLLO_FRAME;
+
+/* A block of a round on a parent that nobody has. */
+static void make_block(uint8_t signer, uint8_t round, uint8_t height, uint8_t entry, uint8_t frame[APOLLO_FRAME]) {
+  memset(frame, 0, APOLLO_FRAME);
+  frame[0] = APOLLO_BLOCK;
+  frame[1] = signer;
+  frame[3] = 1;
+  frame[7] = round;
+  frame[11] = height;
+  memset(frame + 12, 9, APOLLO_DIGEST);
+  frame[44] = entry;
+  apollo_digest(frame, 480, frame + 480);
+}
+
+static void make_pair(uint8_t signer, uint8_t round) {
+  make_block(signer, round, 1, 'A', pair);
+  make_block(signer, round, round, 'B', second);
+}
+
+/* Is the pair refused so, with the record as it was? */
+static int unmarked(apollo_replica r, size_t len, int number, uint32_t place) {
+  apollo_marked m = apollo_equivocation(r, pair, len);
+  return m.number == number && m.place == place && same_record(m.replica, r);
+}
+
+/* Is it taken, so that these are all marks and nothing else has changed? Keeps the record. */
+static int marks(card *c, uint16_t all) {
+  apollo_replica want = c->record;
+  apollo_marked m = apollo_equivocation(c->record, pair, 2 * APOLLO_FRAME);
+  want.equivocators = all;
+  c->record = m.replica;
+  return m.number == APOLLO_TAKEN && m.place == 0 && same_record(m.replica, want);
+}
+
+/* What a card emitted that was opened twice in a term marks it, in either order; the second time nothing changes. */
+static void opened_twice(void) {
+  open_card(&zero, 0, "A");
+  memcpy(pair, out, APOLLO_FRAME);
+  open_card(&zero, 0, "B");
+  memcpy(second, out, APOLLO_FRAME);
+  open_card(&two, 2, "");
+  EXPECT(two.record.equivocators == 0 && marks(&two, 1) && marks(&two, 1));
+  memcpy(second + APOLLO_FRAME, pair, APOLLO_FRAME);
+  memmove(pair, second, 2 * APOLLO_FRAME);
+  open_card(&two, 2, "");
+  EXPECT(two.record.equivocators == 0 && marks(&two, 1));
+}
+
+/* By the rotation the card is marked, not the seat: in any round, whatever the card waits for, on no parent and with any heights. A mark
+ * more leaves those that stand; all three may be marked, the card itself too. */
+static void marked_by_rotation(void) {
+  static const uint8_t rotation[3] = {2, 0, 1};
+  uint16_t all = 0;
+  open_in(&one, 1, rotation, "");
+  for (uint8_t round = 1; round <= T; round++) {
+    uint8_t leader = rotation[(round - 1) % 3];
+    make_pair(leader, round);
+    all |= (uint16_t)(1u << leader);
+    EXPECT(marks(&one, all));
+    make_pair((uint8_t)((leader + 1) % 3), round);
+    EXPECT(unmarked(one.record, 2 * APOLLO_FRAME, APOLLO_BAD_FORM, 0));
+  }
+  EXPECT(all == 7 && tick(&one).number == APOLLO_TAKEN && one.record.equivocators == 7);
+}
+
+/* Every length but 1,024 is 6, after 2. Every byte of the first frame counts for the check, and of the second. */
+static void bad_pairs(void) {
+  open_card(&two, 2, "");
+  make_pair(0, 1);
+  for (size_t len = 0; len <= sizeof pair; len++) EXPECT(len == 2 * APOLLO_FRAME || unmarked(two.record, len, APOLLO_BAD_LENGTH, 0));
+  for (uint32_t k = 0; k < 2 * APOLLO_FRAME; k++) {
+    pair[k] ^= 1;
+    EXPECT(unmarked(two.record, 2 * APOLLO_FRAME, APOLLO_BAD_DIGEST, k / APOLLO_FRAME));
+    pair[k] ^= 1;
+  }
+  other = two;
+  other.record.round.value = 0;
+  EXPECT(unmarked(other.record, 0, APOLLO_BAD_REPLICA, 0) && marks(&two, 1));
+}
+
+/* With the check made again all bytes but the entry's, its length's upper one and the parent's still count, for the form. */
+static void bad_forms(void) {
+  open_card(&two, 2, "");
+  for (uint32_t k = 0; k < 2 * APOLLO_FRAME; k++) {
+    uint32_t at = k % APOLLO_FRAME;
+    make_pair(0, 1);
+    if (at >= 480) continue;
+    pair[k] ^= 1;
+    apollo_digest(pair + k - at, 480, pair + k - at + 480);
+    if (at == 2 || (at >= 12 && at <= 44)) EXPECT(apollo_equivocation(two.record, pair, 2 * APOLLO_FRAME).number == APOLLO_TAKEN);
+    else EXPECT(unmarked(two.record, 2 * APOLLO_FRAME, APOLLO_BAD_FORM, k / APOLLO_FRAME));
+  }
+  make_blame(1, 0, pair);
+  make_blame(1, 1, second);
+  EXPECT(unmarked(two.record, 2 * APOLLO_FRAME, APOLLO_BAD_FORM, 0));
+}
+
+/* 7 and 8 of the first frame come before those of the second, and these before 18. */
+static void order_in_pairs(void) {
+  open_card(&two, 2, "");
+  make_blame(1, 0, pair);
+  memcpy(second, pair, APOLLO_FRAME);
+  second[480] ^= 1;
+  EXPECT(unmarked(two.record, 2 * APOLLO_FRAME, APOLLO_BAD_FORM, 0));
+  pair[480] ^= 1;
+  EXPECT(unmarked(two.record, 2 * APOLLO_FRAME, APOLLO_BAD_DIGEST, 0));
+  make_block(0, 1, 1, 'A', pair);
+  EXPECT(unmarked(two.record, 2 * APOLLO_FRAME, APOLLO_BAD_DIGEST, 1));
+  make_block(1, 1, 1, 'A', second);
+  EXPECT(unmarked(two.record, 2 * APOLLO_FRAME, APOLLO_BAD_FORM, 1));
+  memcpy(second, pair, APOLLO_FRAME);
+  EXPECT(unmarked(two.record, 2 * APOLLO_FRAME, APOLLO_NOT_EQUIVOCATION, 0));
+  make_block(0, 4, 1, 'A', second);
+  EXPECT(unmarked(two.record, 2 * APOLLO_FRAME, APOLLO_NOT_EQUIVOCATION, 0));
+  make_block(1, 2, 1, 'A', second);
+  EXPECT(unmarked(two.record, 2 * APOLLO_FRAME, APOLLO_NOT_EQUIVOCATION, 0));
+  make_block(0, 1, 1, 'B', second);
+  EXPECT(marks(&two, 1));
+}
+
+/* A whole term with marks at its cards goes as without; when it is over, marks are still made, and of committed rounds too. */
+static void marks_stay(void) {
+  uint8_t block[APOLLO_FRAME];
+  open_card(&one, 1, "");
+  open_card(&two, 2, "");
+  open_card(&zero, 0, "A");
+  memcpy(block, out, APOLLO_FRAME);
+  make_pair(2, 6);
+  EXPECT(marks(&zero, 4) && marks(&two, 4));
+  make_pair(1, 2);
+  EXPECT(marks(&zero, 6) && marks(&one, 2));
+  for (uint8_t first = 1; first <= T; first += 3) turn_without_two(first, block);
+  EXPECT(stands(&zero, T + 1, 8, 8) && zero.record.equivocators == 6 && one.record.equivocators == 2 && two.record.equivocators == 4);
+  EXPECT(tick(&zero).number == APOLLO_ROUNDS_OVER && zero.record.equivocators == 6 && marks(&zero, 6));
+  make_pair(0, 1);
+  EXPECT(marks(&zero, 7) && marks(&one, 3));
+  make_pair(2, T);
+  EXPECT(marks(&one, 7) && marks(&two, 4));
+}
+
+/* One of the four calls that change a record. */
+static apollo_answer call(int which, card *c, const uint8_t *lent, size_t len, uint8_t tray[APOLLO_OUT]) {
+  memset(tray, 5, APOLLO_OUT);
+  if (which == 0) return apollo_branch(c->record, c->log, LOG, c->masks, T, lent, len, NULL, 0, tray, APOLLO_OUT);
+  if (which == 1) return apollo_blame(c->record, c->log, LOG, c->masks, T, lent, len, NULL, 0, tray, APOLLO_OUT);
+  if (which == 2) return apollo_blames(c->record, c->log, LOG, c->masks, T, lent, len, NULL, 0, tray, APOLLO_OUT);
+  return apollo_tick(c->record, c->log, LOG, c->masks, T, NULL, 0, tray, APOLLO_OUT);
+}
+
+/* A call with these marks and with none, on a state each and lent the same: the marks stay, and all else is alike. How it is answered. */
+static uint8_t alike_but_marks(int which, const card *c, const uint8_t *lent, size_t len, uint16_t all) {
+  static uint8_t tray[APOLLO_OUT];
+  card x = *c, y = *c;
+  x.record.equivocators = all;
+  y.record.equivocators = 0;
+  apollo_answer a = call(which, &x, lent, len, out), b = call(which, &y, lent, len, tray);
+  EXPECT(a.replica.equivocators == all && b.replica.equivocators == 0);
+  b.replica.equivocators = all;
+  EXPECT(a.number == b.number && a.frames == b.frames && a.leader == b.leader && a.place == b.place);
+  EXPECT(same_record(a.replica, b.replica) && memcmp(out, tray, sizeof out) == 0);
+  EXPECT(memcmp(x.log, y.log, LOG) == 0 && memcmp(x.masks, y.masks, sizeof x.masks) == 0);
+  return a.number;
+}
+
+/* So with all marks and calls, taken and refused: a block, the last of f + 1 blames, a tick that blames. Read and fetch give the same. */
+static void marks_change_nothing(void) {
+  uint8_t block[APOLLO_FRAME];
+  open_card(&zero, 0, "A");
+  memcpy(block, out, APOLLO_FRAME);
+  open_card(&two, 2, "");
+  EXPECT(blame(&two, 1, 1).number == APOLLO_TAKEN && tick(&two).number == APOLLO_TAKEN);
+  make_blame(1, 0, frames);
+  for (int k = 0; k < 4 * 8; k++) {
+    uint16_t all = (uint16_t)(k / 4);
+    EXPECT(alike_but_marks(k % 4, &two, block, APOLLO_FRAME, all) == (k % 4 == 0 || k % 4 == 3 ? APOLLO_TAKEN : APOLLO_BAD_FORM));
+    EXPECT(alike_but_marks(k % 4, &two, frames, APOLLO_FRAME, all) == (k % 4 == 0 ? APOLLO_BAD_FORM : APOLLO_TAKEN));
+    EXPECT(alike_but_marks(k % 4, &two, frames, 1, all) == (k % 4 == 3 ? APOLLO_TAKEN : APOLLO_BAD_LENGTH));
+  }
+  term_without_two();
+  zero.record.equivocators = 7;
+  apollo_height last = {6};
+  apollo_part p = apollo_read(zero.record, zero.log, LOG, last), q = apollo_read(one.record, one.log, LOG, last);
+  EXPECT(p.number == APOLLO_TAKEN && p.start == q.start && p.length == q.length && fetch_all((apollo_height){0}) == 6);
+}
+
+/* Marks of cards that are not there are no card's record: 2 in every call. With 15 cards that is one bit. */
+static void marks_of_nobody(void) {
+  uint8_t seats[APOLLO_MAX_REPLICAS];
+  open_card(&two, 2, "");
+  for (unsigned all = 8; all <= UINT16_MAX; all++) {
+    apollo_replica r = two.record;
+    r.equivocators = (uint16_t)all;
+    EXPECT(is_no_record(r));
+  }
+  for (int k = 0; k < APOLLO_MAX_REPLICAS; k++) seats[k] = (uint8_t)k;
+  two.record = apollo_open(1, 7, (apollo_ticks){2}, (apollo_round){T}, seats, sizeof seats, two.log, LOG, two.masks, T, NULL, 0, out,
+                           sizeof out)
+                   .replica;
+  make_block(3, 4, 1, 'A', pair);
+  make_block(3, 4, 2, 'A', second);
+  EXPECT(marks(&two, 8));
+  two.record.equivocators = 0x7ff7;
+  EXPECT(marks(&two, 0x7fff) && tick(&two).number == APOLLO_TAKEN && two.record.equivocators == 0x7fff);
+  two.record.equivocators = 0x8000;
+  EXPECT(is_no_record(two.record));
+}
+
+/* 2 goes by the record's own fields, each of them: no log or masks are lent. */
+static void records_by_themselves(void) {
+  open_card(&two, 2, "");
+  make_pair(0, 1);
+  apollo_replica wrong[14];
+  for (int k = 0; k < 14; k++) wrong[k] = two.record;
+  wrong[0].id = 3;
+  wrong[1].id = 0; /* it would lead the round that it waits for */
+  wrong[2].f = 0;
+  wrong[3].f = 8;
+  wrong[4].timeout.value = 0;
+  wrong[5].timeout.value = APOLLO_MAX_TIMEOUT + 1;
+  wrong[6].timer.value = 3;
+  wrong[7].last_round.value = 0;
+  wrong[8].last_round.value = APOLLO_MAX_ROUNDS + 1;
+  wrong[9].round.value = 0;
+  wrong[10].round.value = T + 2;
+  wrong[11].tip_round.value = 1;
+  wrong[12].tip_height.value = 1;
+  wrong[13].committed_round.value = 1;
+  for (int k = 0; k < 14; k++) EXPECT(is_no_record(wrong[k]) && unmarked(wrong[k], 2 * APOLLO_FRAME, APOLLO_BAD_REPLICA, 0));
+  two.record.last_round.value = T - 1;
+  EXPECT(tick(&two).number == APOLLO_BAD_REPLICA && marks(&two, 1));
+}
+
 int main(void) {
   EXPECT(apollo_version() == APOLLO_VERSION);
   stale_parent();
@@ -641,6 +879,15 @@ int main(void) {
   rotation_of_record();
   another_rotation();
   parted_by_rotations();
+  opened_twice();
+  marked_by_rotation();
+  bad_pairs();
+  bad_forms();
+  order_in_pairs();
+  marks_stay();
+  marks_change_nothing();
+  marks_of_nobody();
+  records_by_themselves();
   puts("what the header tells a host is so");
   return 0;
 }

@@ -91,6 +91,8 @@ int main(void) {
   EXPECT(p.number == APOLLO_TAKEN && p.start == 44 && p.length == 0);
   EXPECT(apollo_fetch(r, NULL, 0, none, out, sizeof out).number == APOLLO_BAD_REPLICA);
   EXPECT(apollo_fetch(r, log_, LOG, none, NULL, 0).number == APOLLO_OUT_TOO_SHORT);
+  EXPECT(apollo_equivocation(r, NULL, 0).number == APOLLO_BAD_LENGTH);
+  EXPECT(apollo_equivocation((apollo_replica){0}, NULL, 0).number == APOLLO_BAD_REPLICA);
 
   static const uint8_t empty[4] = {0xe3, 0xb0, 0xc4, 0x42}; /* the digest of no bytes begins so */
   apollo_digest(NULL, 0, digest);

@@ -10,7 +10,7 @@
 
 static void sizes(void) {
   EXPECT(sizeof(apollo_round) == 4 && sizeof(apollo_height) == 4 && sizeof(apollo_ticks) == 4);
-  EXPECT(sizeof(apollo_replica) == 52 && sizeof((apollo_replica){0}.rotation) == 15 && APOLLO_MAX_REPLICAS == 15);
+  EXPECT(sizeof(apollo_replica) == 56 && sizeof((apollo_replica){0}.rotation) == 15 && APOLLO_MAX_REPLICAS == 15);
   AT(apollo_replica, id, 0);
   AT(apollo_replica, f, 1);
   AT(apollo_replica, timeout, 4);
@@ -22,7 +22,8 @@ static void sizes(void) {
   AT(apollo_replica, committed_round, 28);
   AT(apollo_replica, committed_height, 32);
   AT(apollo_replica, rotation, 36);
-  EXPECT(sizeof(apollo_answer) == 60);
+  AT(apollo_replica, equivocators, 52);
+  EXPECT(sizeof((apollo_replica){0}.equivocators) == 2 && sizeof(apollo_answer) == 64);
   AT(apollo_answer, number, 0);
   AT(apollo_answer, frames, 1);
   AT(apollo_answer, leader, 2);
@@ -33,6 +34,10 @@ static void sizes(void) {
   AT(apollo_part, length, 16);
   EXPECT(sizeof(apollo_fetched) == 16);
   AT(apollo_fetched, count, 8);
+  EXPECT(sizeof(apollo_marked) == 64);
+  AT(apollo_marked, number, 0);
+  AT(apollo_marked, place, 4);
+  AT(apollo_marked, replica, 8);
 }
 
 /* Open has these arguments, in this order: else this does not compile. */
@@ -40,18 +45,22 @@ static apollo_answer (*const open_)(uint8_t id, uint8_t f, apollo_ticks timeout,
                                     size_t rotation_len, uint8_t *log, size_t log_len, uint16_t *masks, size_t masks_len,
                                     const uint8_t *entry, size_t entry_len, uint8_t *out, size_t out_len) = apollo_open;
 
+static void is_the_same(apollo_replica r) {
+  EXPECT(r.id == 201 && r.f == 202 && r.timeout.value == 1000003 && r.last_round.value == 1000004);
+  EXPECT(r.round.value == 1000005 && r.timer.value == 1000006 && r.tip_round.value == 1000007);
+  EXPECT(r.tip_height.value == 1000008 && r.committed_round.value == 1000009 && r.committed_height.value == 1000010);
+  for (int k = 0; k < 15; k++) EXPECT(r.rotation[k] == 211 + k);
+  EXPECT(r.equivocators == 60011);
+}
+
 static void comes_back(apollo_answer a) {
   EXPECT(a.number == APOLLO_BAD_REPLICA && a.frames == 0 && a.leader == APOLLO_NO_LEADER && a.place == 0);
-  EXPECT(a.replica.id == 201 && a.replica.f == 202 && a.replica.timeout.value == 1000003 && a.replica.last_round.value == 1000004);
-  EXPECT(a.replica.round.value == 1000005 && a.replica.timer.value == 1000006 && a.replica.tip_round.value == 1000007);
-  EXPECT(a.replica.tip_height.value == 1000008 && a.replica.committed_round.value == 1000009);
-  EXPECT(a.replica.committed_height.value == 1000010);
-  for (int k = 0; k < 15; k++) EXPECT(a.replica.rotation[k] == 211 + k);
+  is_the_same(a.replica);
 }
 
 /* A record that no call made comes back as it went in, with refusal 2. */
 static void echoed(void) {
-  apollo_replica r = {201, 202, {1000003}, {1000004}, {1000005}, {1000006}, {1000007}, {1000008}, {1000009}, {1000010}, {0}};
+  apollo_replica r = {201, 202, {1000003}, {1000004}, {1000005}, {1000006}, {1000007}, {1000008}, {1000009}, {1000010}, {0}, 60011};
   uint8_t log[512] = {0}, out[1024] = {0}, entry[1] = {0}, frames[1024] = {0};
   uint16_t masks[1] = {0};
   for (int k = 0; k < 15; k++) r.rotation[k] = (uint8_t)(211 + k);
@@ -63,9 +72,13 @@ static void echoed(void) {
   EXPECT(p.number == APOLLO_BAD_REPLICA && p.start == 0 && p.length == 0);
   apollo_fetched f = apollo_fetch(r, log, sizeof log, (apollo_height){0}, out, sizeof out);
   EXPECT(f.number == APOLLO_BAD_REPLICA && f.count == 0);
+  apollo_marked m = apollo_equivocation(r, frames, sizeof frames);
+  EXPECT(m.number == APOLLO_BAD_REPLICA && m.place == 0);
+  is_the_same(m.replica);
 }
 
-/* What calls make stands in the right fields: open fills the record, a branch of a bad second frame tells its place, read tells a part. */
+/* What calls make stands in the right fields: open fills the record, a branch of a bad second frame tells its place, read tells a part,
+ * an equivocation marks. */
 static void filled(void) {
   enum { T = 3 };
   static const uint8_t rotation[15] = {2, 1, 0}; /* and what the record has behind */
@@ -77,7 +90,7 @@ static void filled(void) {
   EXPECT(a.number == 0 && a.frames == 1 && a.leader == 1 && a.replica.id == 2 && a.replica.f == 1);
   EXPECT(a.replica.timeout.value == 7 && a.replica.timer.value == 7 && a.replica.last_round.value == T && a.replica.round.value == 2);
   EXPECT(a.replica.tip_round.value == 1 && a.replica.tip_height.value == 1 && a.replica.committed_round.value == 0);
-  EXPECT(memcmp(a.replica.rotation, rotation, 15) == 0);
+  EXPECT(memcmp(a.replica.rotation, rotation, 15) == 0 && a.replica.equivocators == 0);
   apollo_answer b = open_(1, 1, nine, last, rotation, 3, log[1], sizeof log[1], masks[1], T, entry, 5, out[1], 1024);
   EXPECT(b.number == 0 && b.frames == 0 && b.leader == 2 && b.replica.id == 1 && b.replica.timeout.value == 9);
   memcpy(frames, out[0], 512);
@@ -90,10 +103,16 @@ static void filled(void) {
   EXPECT(p.number == 0 && p.start == 44 && p.length == 5 && memcmp(log[1] + p.start, "night", 5) == 0);
   apollo_fetched f = apollo_fetch(c.replica, log[1], sizeof log[1], (apollo_height){0}, out[0], 1024);
   EXPECT(f.number == 0 && f.count == 2 && memcmp(out[0], log[1], 1024) == 0);
+  apollo_marked m = apollo_equivocation(c.replica, frames, 1024);
+  EXPECT(m.number == APOLLO_BAD_DIGEST && m.place == 1 && m.replica.equivocators == 0);
+  open_(2, 1, seven, last, rotation, 3, log[0], sizeof log[0], masks[0], T, entry, 4, out[0], 1024);
+  memcpy(frames + 512, out[0], 512);
+  m = apollo_equivocation(c.replica, frames, 1024);
+  EXPECT(m.number == 0 && m.place == 0 && m.replica.equivocators == 1u << 2 && m.replica.committed_height.value == 1);
 }
 
 int main(void) {
-  EXPECT(apollo_version() == APOLLO_VERSION && APOLLO_VERSION == 5u && APOLLO_BAD_ROTATION == 17);
+  EXPECT(apollo_version() == APOLLO_VERSION && APOLLO_VERSION == 6u && APOLLO_NOT_EQUIVOCATION == 18);
   sizes();
   echoed();
   filled();
