@@ -20,7 +20,7 @@ use Rattle.apollo.specs.Judging.{judgedEach}
 use Rattle.apollo.specs.Outcome.{Outcome, refused, taken, guarded}
 use Rattle.apollo.specs.Branch.{lastOf, firstUncertified, grown, judgedAll, placed, branched, branchWith}
 use Rattle.apollo.specs.Blame.{oneSet, anyFresh, heard, handing}
-use Rattle.apollo.specs.Equivocation.{isPair, first, second, doubles, accusing, equivocationWith}
+use Rattle.apollo.specs.Equivocation.{isPair, first, second, conflicting, accusing, equivocationWith}
 use Rattle.apollo.proofs.Frames.{whole-true}
 use Rattle.agreement.specs.Run.{branch, blame, blames, tick, equivocation, uncut, framesIn, recordOnly, answer}
 use Rattle.agreement.specs.Claim.{CutHandsNothing}
@@ -107,7 +107,7 @@ module _ (c : State) (bytes : List ℕ) where
   unfolding accusing recordOnly
   accused-6 x y =
       by-cond Of (eqb (judgedEach sha256 form 0 (x ∷ y ∷ []) .number) 0)
-      (λ _. by-cond Of (doubles x y) (λ _ z. absurd (omega (arith, z))) (λ _ z. absurd (omega (arith, z))))
+      (λ _. by-cond Of (conflicting x y) (λ _ z. absurd (omega (arith, z))) (λ _ z. absurd (omega (arith, z))))
       (λ _ z. absurd (eqb-false _ 6 (each-low sha256 form 0 (x ∷ y ∷ []) .2) z))
 
   pair-6 : Of (equivocationWith sha256 (c .replica) bytes)

@@ -18,13 +18,13 @@ use Rattle.apollo.specs.Replica.{withMark, validRecord}
 use Rattle.apollo.specs.Enter.{State}
 use Rattle.apollo.specs.Judging.{judgedEach}
 use Rattle.apollo.specs.Outcome.{refused}
-use Rattle.apollo.specs.Equivocation.{marked, isPair, first, second, doubles, accusing, equivocationWith}
+use Rattle.apollo.specs.Equivocation.{marked, isPair, first, second, conflicting, accusing, equivocationWith}
 use Rattle.apollo.proofs.Fault.{Passes}
 use Rattle.apollo.proofs.Rotation.{leader-low}
 use Rattle.apollo.proofs.Judging.{block-of}
 use Rattle.apollo.proofs.Frames.{pair-frames}
 use Rattle.agreement.specs.Run.{Event, emit, emittedBy, recordOnly}
-use Rattle.agreement.specs.Marks.{Doubled}
+use Rattle.agreement.specs.Marks.{Equivocated}
 use Rattle.agreement.proofs.Tests.{clash, and-true, same-of, by-cond}
 use Rattle.agreement.proofs.Frames.{Whole, frames-whole}
 use Rattle.agreement.proofs.Good.{Rested, mark-extends, mark-rested, setup-is, mark-good}
@@ -46,7 +46,7 @@ module _ (s : Setup) (past : List Event) (i : ℕ) (c : State) (st : Standing s 
   refusal k p a b = refused-plain s past i c st rests [] k p a b
 
   -- a card is marked for two blocks that were seen
-  marked-fine : (k : ℕ) → k < replicas s → Doubled s past k → FineBy (marked 0 0 (withMark (c .replica) k))
+  marked-fine : (k : ℕ) → k < replicas s → Equivocated s past k → FineBy (marked 0 0 (withMark (c .replica) k))
   unfolding recordOnly emittedBy frames emit
   marked-fine k low d =
       record {
@@ -62,10 +62,10 @@ module _ (s : Setup) (past : List Event) (i : ℕ) (c : State) (st : Standing s 
     own = setup-is s i (c .replica) (st .good .fixed)
 
     -- what two frames that pass 7, 8 and 18 show
-    doubled : judgedEach sha256 form 0 (x ∷ y ∷ []) .number ≡ 0 → doubles x y ≡ true
-        → Doubled s past (leader (setupOf (c .replica)) (round x))
-    unfolding doubles
-    doubled e d =
+    equivocated : judgedEach sha256 form 0 (x ∷ y ∷ []) .number ≡ 0 → conflicting x y ≡ true
+        → Equivocated s past (leader (setupOf (c .replica)) (round x))
+    unfolding conflicting
+    equivocated e d =
         let p : Passes sha256 form x = each-none sha256 form 0 (x ∷ y ∷ []) e x (inl refl) in
         let q : Passes sha256 form y = each-none sha256 form 0 (x ∷ y ∷ []) e y (inr (inl refl)) in
         let t = and-true (eqb (round x) (round y)) (not (same (digest x) (digest y))) d in
@@ -85,10 +85,10 @@ module _ (s : Setup) (past : List Event) (i : ℕ) (c : State) (st : Standing s 
     unfolding accusing
     accused-fine =
         by-cond FineBy (eqb (judgedEach sha256 form 0 (x ∷ y ∷ []) .number) 0)
-        (λ j. by-cond FineBy (doubles x y)
+        (λ j. by-cond FineBy (conflicting x y)
         (λ d. marked-fine (leader (setupOf (c .replica)) (round x))
         (subst (λ k. leader k (round x) < replicas s) (sym own) (leader-low s (st .good .fixed .turns) (round x)))
-        (doubled (eqb-true _ _ j) d))
+        (equivocated (eqb-true _ _ j) d))
         (λ _. refusal 18 0 refl refl))
         (λ _. let l : Low (judgedEach sha256 form 0 (x ∷ y ∷ []) .number) = each-low sha256 form 0 (x ∷ y ∷ []) in
         refusal _ _ (l .0) (l .1))

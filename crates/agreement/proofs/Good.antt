@@ -18,7 +18,7 @@ use Rattle.apollo.specs.Replica.{leads, withMark}
 use Rattle.apollo.proofs.Masks.{bit-set-other, bit-kept, set-below}
 use Rattle.apollo.specs.Enter.{State, commitLimit, commit, tipped, waiting, hearing, holding, entered}
 use Rattle.agreement.specs.Run.{Event, Seen}
-use Rattle.agreement.specs.Marks.{Doubled}
+use Rattle.agreement.specs.Marks.{Equivocated}
 use Rattle.agreement.proofs.Masks.{mask-set, length-blame, certified-kept, certified-other}
 use Rattle.agreement.proofs.Slots.{highest-le, highest-filled, highest-grows}
 use Rattle.agreement.proofs.Chain.{Held, within}
@@ -185,8 +185,8 @@ mark-rested c k r =
       ahead = r .ahead;
     }
 
-doubled-grows : (s : Setup) (past now : List Event) → Grows past now → (k : ℕ) → Doubled s past k → Doubled s now k
-doubled-grows s past now g k d =
+equivocated-grows : (s : Setup) (past now : List Event) → Grows past now → (k : ℕ) → Equivocated s past k → Equivocated s now k
+equivocated-grows s past now g k d =
     record {
       one = d .one;
       other = d .other;
@@ -233,7 +233,7 @@ module _ (s : Setup) where
     pub waits : (q : ℕ) → c .replica .«tip_round» .0 < q → q < c .replica .round .0 → certified s (c .masks) q ≡ true
     pub bits : (q k : ℕ) → 1 ≤ q → k < replicas s → bit k (mask (c .masks) q) ≡ true → Blamed past k q
     pub marks-low : c .replica .equivocators < 2 ^ replicas s
-    pub marks : (k : ℕ) → bit k (c .replica .equivocators) ≡ true → Doubled s past k
+    pub marks : (k : ℕ) → bit k (c .replica .equivocators) ≡ true → Equivocated s past k
 
   -- the past grew
   pub good-grows : (past now : List Event) (i : ℕ) (c : State) → Grows past now → Good past i c → Good now i c
@@ -249,7 +249,7 @@ module _ (s : Setup) where
         bits = λ q k o l e. let b : Blamed past k q = h .bits q k o l e in
             (b .0, seen-grows past now g (b .0) (b .1), b .2, b .3, b .4);
         marks-low = h .marks-low;
-        marks = λ k e. doubled-grows s past now g k (h .marks k e);
+        marks = λ k e. equivocated-grows s past now g k (h .marks k e);
       }
 
   module _ (past : List Event) (i : ℕ) (c : State) (h : Good past i c) where
@@ -297,7 +297,7 @@ module _ (s : Setup) where
         at q j e = (b .0, b .1, b .2, b .3 ∙ sym (e .1), b .4 ∙ sym (e .0))
 
     -- a card is marked for two blocks that were seen
-    pub mark-good : (k : ℕ) → k < replicas s → Doubled s past k → Good past i (marking c k)
+    pub mark-good : (k : ℕ) → k < replicas s → Equivocated s past k → Good past i (marking c k)
     mark-good k low d =
         record {
           fixed = h .fixed;
@@ -312,8 +312,8 @@ module _ (s : Setup) where
           marks = λ j e. go j e (eqb j k) refl;
         }
       where
-        go : (j : ℕ) → bit j (setBit k (c .replica .equivocators)) ≡ true → (b : Bool) → eqb j k ≡ b → Doubled s past j
-        go j e true z = subst (Doubled s past) (sym (eqb-true _ _ z)) d
+        go : (j : ℕ) → bit j (setBit k (c .replica .equivocators)) ≡ true → (b : Bool) → eqb j k ≡ b → Equivocated s past j
+        go j e true z = subst (Equivocated s past) (sym (eqb-true _ _ z)) d
         go j e false z = h .marks j (sym (bit-set-other j k (c .replica .equivocators) (eqb-false _ _ z)) ∙ e)
 
     -- a log with a tip at R or above is held

@@ -11,7 +11,7 @@ use Rattle.apollo.specs.BenchSheet.{block}
 use Rattle.agreement.specs.Run.{Event, Seen}
 
 -- card k is the leader of a round of which two good blocks were seen that have different digests (names)
-pub record Doubled (s : Setup) (past : List Event) (k : ℕ) : Type 0 where
+pub record Equivocated (s : Setup) (past : List Event) (k : ℕ) : Type 0 where
   pub one : List ℕ
   pub other : List ℕ
   pub one-seen : Seen one past

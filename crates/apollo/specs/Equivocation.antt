@@ -30,8 +30,8 @@ abbrev pub second : (bytes : List ℕ) → List ℕ
 second bytes = part bytes 512 512
 
 -- "their rounds are equal and their names differ"
-unfoldable pub doubles : (x y : List ℕ) → Bool
-doubles x y = eqb (round x) (round y) && not (same (digest x) (digest y))
+unfoldable pub conflicting : (x y : List ℕ) → Bool
+conflicting x y = eqb (round x) (round y) && not (same (digest x) (digest y))
 
 module _ (hash : List ℕ → List ℕ) where
   -- 7 and 8 of x, then of y; 18; and taken: the round's leader is marked
@@ -39,7 +39,7 @@ module _ (hash : List ℕ → List ℕ) where
   accusing r x y =
       let judged : Verdict = judgedEach hash (blockForm (setupOf r)) 0 (x ∷ y ∷ []) in
       cond (eqb (judged .number) 0)
-      (cond (doubles x y) (marked 0 0 (withMark r (leader (setupOf r) (round x)))) (marked notEquivocation 0 r))
+      (cond (conflicting x y) (marked 0 0 (withMark r (leader (setupOf r) (round x)))) (marked notEquivocation 0 r))
       (marked (judged .number) (judged .place) r)
 
   -- 2, 6, and what follows them

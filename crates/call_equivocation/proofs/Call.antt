@@ -18,7 +18,7 @@ use Rattle.apollo.specs.Setup.{setupOf, leader}
 use Rattle.apollo.specs.Frame.{round, digest, blockForm}
 use Rattle.apollo.specs.Replica.{withMark, validRecord}
 use Rattle.apollo.specs.Judging.{verdict, noRefusal, fault, judgedEach}
-use Rattle.apollo.specs.Equivocation.{marked, isPair, first, second, doubles, accusing, equivocationWith}
+use Rattle.apollo.specs.Equivocation.{marked, isPair, first, second, conflicting, accusing, equivocationWith}
 use Rattle.apollo.specs.Calls.{equivocationCall}
 use Rattle.apollo.proofs.Tests.{cond-true, cond-false}
 use Rattle.apollo.proofs.Rotation.{leader-low}
@@ -45,12 +45,12 @@ module _ (s : Setup) (x y : List ℕ) (k : ℕ) (d : k ≡ fault sha256 (blockFo
 
 -- together
 module _ (x y : List ℕ) (p q : ℕ) (d : p ≡ round x) (e : q ≡ round y) where
-  pub two-rounds : p ≢ q → false ≡ doubles x y
-  unfolding doubles
+  pub two-rounds : p ≢ q → false ≡ conflicting x y
+  unfolding conflicting
   two-rounds n = rw (← d, ← e, ne-eqb p q n)
 
-  pub one-round : p ≡ q → (b : Bool) → b ≡ same (digest x) (digest y) → not b ≡ doubles x y
-  unfolding doubles
+  pub one-round : p ≡ q → (b : Bool) → b ≡ same (digest x) (digest y) → not b ≡ conflicting x y
+  unfolding conflicting
   one-round z b f = rw (← d, ← e, eq-eqb p q z, f)
 
 module _ (s : Setup) (x y : List ℕ) (v : Verdict) (d : v ≡ judgedEach sha256 (blockForm s) 0 (x ∷ y ∷ [])) where
@@ -58,14 +58,14 @@ module _ (s : Setup) (x y : List ℕ) (v : Verdict) (d : v ≡ judgedEach sha256
   unfolding judgedTwo
   two-faulty n = rw (← d, ne-eqb (v .number) 0 n)
 
-  module _ (z : v .number ≡ 0) (b : Bool) (e : b ≡ doubles x y) where
+  module _ (z : v .number ≡ 0) (b : Bool) (e : b ≡ conflicting x y) where
     pub two-alike : b ≡ false → verdict 18 0 ≡ judgedTwo s x y
     unfolding judgedTwo
     two-alike f = rw (← d, eq-eqb (v .number) 0 z, ← e, f)
 
-    pub two-doubled : b ≡ true → noRefusal ≡ judgedTwo s x y
+    pub two-conflicting : b ≡ true → noRefusal ≡ judgedTwo s x y
     unfolding judgedTwo
-    two-doubled t = rw (← d, eq-eqb (v .number) 0 z, ← e, t)
+    two-conflicting t = rw (← d, eq-eqb (v .number) 0 z, ← e, t)
 
 module _ (s : Setup) (bytes : List ℕ) where
   pub pair-cut : length bytes ≢ 1024 → verdict 6 0 ≡ judgedPair s bytes
@@ -84,9 +84,9 @@ answered r x v =
 
 two-answer : (r : Replica) (x y : List ℕ) → answered r x (judgedTwo (setupOf r) x y) ≡ accusing sha256 r x y
 unfolding answered judgedTwo accusing
-two-answer r x y = go (eqb (judgedEach sha256 (blockForm (setupOf r)) 0 (x ∷ y ∷ []) .number) 0) refl (doubles x y) refl
+two-answer r x y = go (eqb (judgedEach sha256 (blockForm (setupOf r)) 0 (x ∷ y ∷ []) .number) 0) refl (conflicting x y) refl
   where
-    go : (b : Bool) → eqb (judgedEach sha256 (blockForm (setupOf r)) 0 (x ∷ y ∷ []) .number) 0 ≡ b → (d : Bool) → doubles x y ≡ d
+    go : (b : Bool) → eqb (judgedEach sha256 (blockForm (setupOf r)) 0 (x ∷ y ∷ []) .number) 0 ≡ b → (d : Bool) → conflicting x y ≡ d
         → answered r x (judgedTwo (setupOf r) x y) ≡ accusing sha256 r x y
     go true e true f = rw (e, f)
     go true e false f = rw (e, f)

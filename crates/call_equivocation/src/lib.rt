@@ -8,7 +8,7 @@ ghost use mathlib.Core.List.{[], _∷_};
 ghost use Rattle.sha256.specs.Fips.{sha256};
 ghost use Rattle.apollo.specs.Frame.{blockForm};
 ghost use Rattle.apollo.specs.Judging.{judgedEach};
-ghost use Rattle.apollo.specs.Equivocation.{marked, doubles};
+ghost use Rattle.apollo.specs.Equivocation.{marked, conflicting};
 ghost use Rattle.apollo.specs.Calls.{equivocationCall};
 ghost use Rattle.call_equivocation.specs.Judge.{judgedTwo, judgedPair};
 
@@ -41,8 +41,8 @@ fn judge_each(s: Setup, x: &[u8], y: &[u8]) -> Verdict
 }
 
 // Two frames of one round with different digests.
-fn is_double(x: &[u8], y: &[u8]) -> bool
-    ensures { λ b. ⌜ b ≡ doubles (now (x .entry)) (now (y .entry)) ⌝ }
+fn is_conflicting(x: &[u8], y: &[u8]) -> bool
+    ensures { λ b. ⌜ b ≡ conflicting (now (x .entry)) (now (y .entry)) ⌝ }
 {
     if frame::round(x) != frame::round(y) {
         return false;
@@ -58,7 +58,7 @@ fn judge_two(s: Setup, x: &[u8], y: &[u8]) -> Verdict
     if each.number != 0 {
         return each;
     }
-    if !is_double(x, y) {
+    if !is_conflicting(x, y) {
         return Verdict {
             number: apollo::refusal::NOT_EQUIVOCATION,
             place: 0,

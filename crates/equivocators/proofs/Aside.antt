@@ -1,6 +1,7 @@
 -- Marks change nothing but themselves: each step of a call commutes with other marks. Assumes nothing.
 use Prim.Native.Nat.{ℕ, _+_, _-_, _*_}
 use mathlib.Core.Path.{_≡_, refl, ap, _∙_}
+use mathlib.Core.Logic.{inl, inr}
 use mathlib.Core.Option.{Option, none, some}
 use mathlib.Core.List.{List, [], _∷_}
 use mathlib.Core.Bool.{Bool, true, false, _&&_, not, cond}
@@ -21,7 +22,7 @@ use Rattle.apollo.specs.Outcome.{Outcome, refused, nextLeader, taken, guarded}
 use Rattle.apollo.specs.Branch.{lastOf, firstUncertified, grown, judgedAll, adopting, placed, branched, branchWith}
 use Rattle.apollo.specs.Blame.{oneSet, anyFresh, hearingAll, heard, handing}
 use Rattle.apollo.specs.Tick.{blaming, ticked, tickWith}
-use Rattle.apollo.specs.Equivocation.{marked, isPair, first, second, doubles, accusing, equivocationWith}
+use Rattle.apollo.specs.Equivocation.{marked, isPair, first, second, conflicting, accusing, equivocationWith}
 use Rattle.apollo.specs.Read.{readCall}
 use Rattle.apollo.specs.Fetch.{fetchCall}
 use Rattle.apollo.proofs.Masks.{bit-kept}
@@ -190,7 +191,7 @@ module _ (c : State) (m : ℕ) where
   unfolding accusing recordOnly remarkedOutcome
   accusing-aside x y =
       alike bare (eqb (judgedEach sha256 (blockForm (setupOf (c .replica))) 0 (x ∷ y ∷ []) .number) 0)
-      (alike bare (doubles x y) refl refl) refl
+      (alike bare (conflicting x y) refl refl) refl
 
   equivocation-aside : validRecord (withEquivocators (c .replica) m) ≡ validRecord (c .replica) → (bytes : List ℕ)
       → bare (equivocationWith sha256 (withEquivocators (c .replica) m) bytes) ≡ bare (equivocationWith sha256 (c .replica) bytes)
@@ -224,7 +225,7 @@ marks-aside r log m e d =
       fetches = λ h out. rw (valid-aside r log m e d);
     }
 
--- every call keeps the marks, or sets one
+-- equivocation sets a mark, or leaves all as they are
 equivocation-kept : (r : Replica) (bytes : List ℕ) (k : ℕ) → bit k (r .equivocators) ≡ true
     → bit k (equivocationWith sha256 r bytes .replica .equivocators) ≡ true
 unfolding equivocationWith accusing
@@ -232,23 +233,16 @@ equivocation-kept r bytes k e =
     by-cond Keeps (not (validRecord r)) (λ _. e)
     (λ _. by-cond Keeps (isPair bytes)
     (λ _. by-cond Keeps (eqb (judgedEach sha256 (blockForm (setupOf r)) 0 (first bytes ∷ second bytes ∷ []) .number) 0)
-    (λ _. by-cond Keeps (doubles (first bytes) (second bytes))
+    (λ _. by-cond Keeps (conflicting (first bytes) (second bytes))
     (λ _. bit-kept (leader (setupOf r) (round (first bytes))) k (r .equivocators) e) (λ _. e)) (λ _. e)) (λ _. e))
   where
     Keeps : Marked → Type 0
     Keeps a = bit k (a .replica .equivocators) ≡ true
 
--- the marks are the same, so each is there
-stays : (k : ℕ) {m n : ℕ} → n ≡ m → bit k m ≡ true → bit k n ≡ true
-stays k p e = ap (bit k) p ∙ e
-
 pub kept : Kept
 unfolding answer branchWith handing tickWith recordOnly
-kept c (branch bytes entry out) k =
-    stays k (guarded-kept c entry out _ (branch-aside c (c .replica .equivocators) entry out bytes))
-kept c (blame bytes entry out) k =
-    stays k (guarded-kept c entry out _ (blames-aside c (c .replica .equivocators) entry out 1 bytes))
-kept c (blames bytes entry out) k =
-    stays k (guarded-kept c entry out _ (blames-aside c (c .replica .equivocators) entry out 15 bytes))
-kept c (tick entry out) k = stays k (guarded-kept c entry out _ (tick-aside c (c .replica .equivocators) entry out))
-kept c (equivocation bytes) k = equivocation-kept (c .replica) bytes k
+kept c (branch bytes entry out) = inl (guarded-kept c entry out _ (branch-aside c (c .replica .equivocators) entry out bytes))
+kept c (blame bytes entry out) = inl (guarded-kept c entry out _ (blames-aside c (c .replica .equivocators) entry out 1 bytes))
+kept c (blames bytes entry out) = inl (guarded-kept c entry out _ (blames-aside c (c .replica .equivocators) entry out 15 bytes))
+kept c (tick entry out) = inl (guarded-kept c entry out _ (tick-aside c (c .replica .equivocators) entry out))
+kept c (equivocation bytes) = inr (bytes, refl, equivocation-kept (c .replica) bytes)

@@ -12,7 +12,7 @@ use Rattle.apollo.specs.Enter.{State}
 use Rattle.apollo.proofs.Rotation.{leader-low}
 use Rattle.apollo.proofs.Judging.{block-parts}
 use Rattle.agreement.specs.Run.{Event, emitted, In, Seen, start, run}
-use Rattle.agreement.specs.Marks.{Doubled}
+use Rattle.agreement.specs.Marks.{Equivocated}
 use Rattle.agreement.proofs.Good.{Extends}
 use Rattle.agreement.proofs.Effects.{Tidy}
 use Rattle.agreement.proofs.Adopt.{Block, formed}
@@ -35,8 +35,8 @@ module _ (s : Setup) (correct : ℕ → Bool) (past : List Event) (v : validRota
       subst (λ j. In (emitted j x) past) by
       (real x p (subst (λ j. j < replicas s) (sym (by ∙ sym led)) (leader-low s v (round x))) (ap correct by ∙ ok))
 
-  not-doubled : Doubled s past k → ⊥
-  not-doubled d =
+  not-equivocated : Equivocated s past k → ⊥
+  not-equivocated d =
       d .names-differ
       (ap (λ (x : List ℕ). digest x)
       (t .once k (d .one) (d .other) (own (d .one) (d .one-seen) (d .one-block) (d .led))
@@ -46,7 +46,7 @@ module _ (s : Setup) (correct : ℕ → Bool) (past : List Event) (v : validRota
 pub never-marked : NeverMarked
 never-marked s correct calls l u i c e k ok m =
     let inv : Inv s (run start calls) = run-inv s calls start l (start-inv s) in
-    not-doubled s correct (run start calls .past) (inv .good i c e .fixed .turns) (inv .tidy) k ok
+    not-equivocated s correct (run start calls .past) (inv .good i c e .fixed .turns) (inv .tidy) k ok
     (run-authentic s correct calls start l u (start-inv s) (start-authentic s correct)) (shown s calls l i c e k m)
 
 pub never-cleared : NeverCleared

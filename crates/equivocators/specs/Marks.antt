@@ -1,7 +1,8 @@
 -- What a mark says and does (document 02, F-6). Of the premises of demand 3 `Lawful` and `Unforged` are there, each where it is named:
--- how many cards fail, what they blame and which names they share does not matter here.
+-- how many cards fail, what they blame and which names are shared does not matter here.
 use Prim.Native.Nat.{ℕ}
 use mathlib.Core.Path.{_≡_}
+use mathlib.Core.Logic.{_⊎_}
 use mathlib.Core.Option.{some}
 use mathlib.Core.List.{List, _++_}
 use mathlib.Core.Bool.{Bool, true}
@@ -12,36 +13,38 @@ use Rattle.apollo.specs.Replica.{withEquivocators, validMarks}
 use Rattle.apollo.specs.Enter.{State, state}
 use Rattle.apollo.specs.Outcome.{Outcome}
 use Rattle.apollo.specs.Calls.{readCall, fetchCall}
-use Rattle.agreement.specs.Run.{Act, Call, start, answer, run}
+use Rattle.agreement.specs.Run.{Act, equivocation, Call, start, answer, run}
 use Rattle.agreement.specs.Premises.{Each, Lawful, Unforged, Premises}
-use Rattle.agreement.specs.Marks.{Doubled}
+use Rattle.agreement.specs.Marks.{Equivocated}
 
 -- card k is marked in a record
-abbrev pub Marked : Replica → (k : ℕ) → Type 0
-Marked r k = bit k (r .equivocators) ≡ true
+abbrev pub IsMarked : Replica → (k : ℕ) → Type 0
+IsMarked r k = bit k (r .equivocators) ≡ true
 
 -- A mark stands for two blocks: whoever is marked, two good blocks of one round that it led were seen, and their names differ.
 abbrev pub Shown : Type 0
 Shown =
     (s : Setup) (calls : List (ℕ × Call)) → Each (Lawful s) start calls → (i : ℕ) (c : State) → run start calls .states i ≡ some c
-    → (k : ℕ) → Marked (c .replica) k → Doubled s (run start calls .past) k
+    → (k : ℕ) → IsMarked (c .replica) k → Equivocated s (run start calls .past) k
 
--- "A sound card is never marked", in any card's record, "while no frame is forged"
+-- "A sound card is never marked", in the record of any card that keeps the rules of `Lawful`, sound or not, "while no frame is forged"
 abbrev pub NeverMarked : Type 0
 NeverMarked =
     (s : Setup) (correct : ℕ → Bool) (calls : List (ℕ × Call)) → Each (Lawful s) start calls → Each (Unforged s correct) start calls
-    → (i : ℕ) (c : State) → run start calls .states i ≡ some c → (k : ℕ) → correct k ≡ true → Marked (c .replica) k → ⊥
+    → (i : ℕ) (c : State) → run start calls .states i ≡ some c → (k : ℕ) → correct k ≡ true → IsMarked (c .replica) k → ⊥
 
 -- "no mark is ever cleared" from a card's record
 abbrev pub NeverCleared : Type 0
 NeverCleared =
     (s : Setup) (calls more : List (ℕ × Call)) → Each (Lawful s) start (calls ++ more) → (i : ℕ) (c : State)
     → run start calls .states i ≡ some c
-    → (d : State) × (run start (calls ++ more) .states i ≡ some d) × ((k : ℕ) → Marked (c .replica) k → Marked (d .replica) k)
+    → (d : State) × (run start (calls ++ more) .states i ≡ some d) × ((k : ℕ) → IsMarked (c .replica) k → IsMarked (d .replica) k)
 
--- nor by any call other than open, whatever the state
+-- of any state: a call leaves the very marks that stood, or it is an equivocation, which takes none away
 abbrev pub Kept : Type 0
-Kept = (c : State) (a : Act) (k : ℕ) → Marked (c .replica) k → Marked (answer c a .answer .replica) k
+Kept =
+    (c : State) (a : Act) → (answer c a .answer .replica .equivocators ≡ c .replica .equivocators)
+    ⊎ ((bytes : List ℕ) × (a ≡ equivocation bytes) × ((k : ℕ) → IsMarked (c .replica) k → IsMarked (answer c a .answer .replica) k))
 
 -- a state, and an outcome, with other marks
 abbrev pub remarked : State → (m : ℕ) → State
@@ -89,4 +92,4 @@ pub record Reached : Type 0 where
   pub leaves : run start calls .states by ≡ some left
   pub card : ℕ
   pub sound : correct by ≡ true
-  pub marked : Marked (left .replica) card
+  pub marked : IsMarked (left .replica) card

@@ -1,4 +1,5 @@
-// The blame masks of a replica: their bits, certified (shown) rounds, and blames added. A bit is set for a replica that has one.
+// Masks of 16 bits, a bit for each replica: their bits, as the blame masks and the marks have them; of the blame masks certified (shown)
+// rounds, and blames added.
 use apollo::Setup;
 ghost use mathlib.Core.Path.{_≡_};
 ghost use Prim.Native.Nat.{_%_, _^_, _<_};

@@ -1,8 +1,8 @@
--- `call_equivocation::is_double` meets its contract: the rounds, then the digests. Assumes nothing.
+-- `call_equivocation::is_conflicting` meets its contract: the rounds, then the digests. Assumes nothing.
 use borrow.Author.Needs.{needs}
 use Rattle.call_equivocation.proofs.Call.{two-rounds, one-round}
-use Rattle.call_equivocation.proofs.is_double.Statement.{statement}
-use Rattle.call_equivocation.proofs.is_double.Tie as tie
+use Rattle.call_equivocation.proofs.is_conflicting.Statement.{statement}
+use Rattle.call_equivocation.proofs.is_conflicting.Tie as tie
 
 returns : tie.Need-returns
 returns c =
@@ -18,7 +18,7 @@ returns-2 c =
     one-round _ _ _ _ (q .before .round .ensures) (q .round2 .ensures) (i .if1 .left) _
     (rw (v .part .ensures, w .part2 .ensures) at (c .same-bytes .ensures))
 
-pub is-double-spec : {M : Type 1} → statement M
-is-double-spec =
+pub is-conflicting-spec : {M : Type 1} → statement M
+is-conflicting-spec =
     tie.close
     (tie.spec (λ c κs. search needs) (λ c κs. search needs) returns (λ c κs. search needs) (λ c κs. search needs) (λ c κs. search needs) returns-2)
