@@ -128,7 +128,6 @@ impl Claims {
 
     /// What the call shows before it is made.
     pub fn before(&mut self, call: &Call) {
-        self.marks.before(call, &self.sound);
         let mut frames = call.frames(self.term).iter();
         let holds = self.broken.is_none();
         let forged = holds && frames.any(|frame| self.sound.is_forged(frame));

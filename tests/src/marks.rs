@@ -1,9 +1,9 @@
 //! The claims about marks, whoever lies and whatever other premise fails.
 //!
-//! No sound card is marked in a record that calls made, whosever it is, unless a frame forged in its
-//! name was handed in to that card's equivocation. No call clears a mark: a card is opened without
-//! any, equivocation sets at most one, and no other call sets one. And marks change nothing but
-//! themselves: on copies, with other marks in the record, a call answers and leaves the same.
+//! No sound card is marked in a record that calls made, whosever it is, unless equivocation took a
+//! frame forged in its name there. No call clears a mark: a card is opened without any, equivocation
+//! sets at most one, and no other call sets one. And marks change nothing but themselves: on copies,
+//! with other marks in the record, a call answers and leaves the same, and marks the same card.
 
 use crate::call::{Call, Head, What};
 use crate::frame;
@@ -22,8 +22,8 @@ pub const MARKED: [&str; 6] = [
     "a sound card marked by forging",
 ];
 
-/// For each card the signers in whose names equivocation was handed forged frames; none where a host
-/// wrote the record.
+/// For each card the signers in whose names equivocation took forged frames; none where a host wrote
+/// the record.
 pub struct Marks {
     forged: Vec<Option<u16>>,
 }
@@ -45,14 +45,17 @@ impl Marks {
         self.forged[card].is_some()
     }
 
-    /// What a call shows before it is made.
-    pub fn before(&mut self, call: &Call, sound: &Sound) {
-        let (What::Equivocation(_), Some(forged)) = (&call.what, &mut self.forged[call.card])
-        else {
-            return;
-        };
-        for frame in call.frames(0).iter().filter(|frame| sound.is_forged(frame)) {
-            *forged |= 1 << frame::signer(frame);
+    /// Notes what a call that was taken did to a card's marks.
+    fn taken(&mut self, call: &Call, sound: &Sound) {
+        match (&call.what, &mut self.forged[call.card]) {
+            (What::Open(..), forged) => *forged = Some(0),
+            (_, forged) if call.record.is_some() => *forged = None,
+            (What::Equivocation(_), Some(forged)) => {
+                for frame in call.frames(0).iter().filter(|frame| sound.is_forged(frame)) {
+                    *forged |= 1 << frame::signer(frame);
+                }
+            }
+            _ => {}
         }
     }
 
@@ -64,11 +67,8 @@ impl Marks {
         side: &Side,
         sound: &Sound,
     ) -> Result<(), String> {
-        let taken = outcome.kept().is_some();
-        match call.what {
-            What::Open(..) if taken => self.forged[call.card] = Some(0),
-            _ if taken && call.record.is_some() => self.written(call.card),
-            _ => {}
+        if outcome.kept().is_some() {
+            self.taken(call, sound);
         }
         let Some(forged) = self.forged[call.card] else {
             return Ok(());
@@ -134,7 +134,7 @@ pub struct Other {
 
 impl Other {
     /// The call as it was made came to the same but for the marks: each record has its own and the
-    /// same new one.
+    /// same new one, that one of the two may have had before.
     pub fn same_as(
         &self,
         call: &Call,
@@ -146,7 +146,8 @@ impl Other {
         check(call, &self.handed, &self.outcome)?;
         let (own, other) = (handed.equivocators, self.handed.equivocators);
         let set = outcome.marks() & !own | self.outcome.marks() & !other;
-        let same = *outcome == outcome.with_marks(own | set)
+        let same = set.count_ones() <= 1
+            && *outcome == outcome.with_marks(own | set)
             && self.outcome == outcome.with_marks(other | set)
             && self.side.difference(side).is_none()
             && self.out.difference(out, out.room()).is_none();
@@ -155,7 +156,7 @@ impl Other {
         }
         Err(format!(
             "claim: {} with the marks {other:#b} in the record, not {own:#b}, differs in more than \
-             marks",
+             these marks",
             call.word()
         ))
     }

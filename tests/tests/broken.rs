@@ -1417,6 +1417,18 @@ fn marks_the_leader_of_r(record: Record, frames: &[u8]) -> Marked {
     })
 }
 
+/// Marks the card after the leader if some mark stands.
+fn marks_by_standing_marks(record: Record, frames: &[u8]) -> Marked {
+    remark(record, frames, |record, first| {
+        let card = u32::from(frame::signer(first));
+        let marked = match record.equivocators {
+            0 => card,
+            _ => (card + 1) % model::cards(record.f),
+        };
+        record.equivocators | 1 << marked
+    })
+}
+
 fn marks_nobody(record: Record, frames: &[u8]) -> Marked {
     remark(record, frames, |record, _| record.equivocators)
 }
@@ -1802,7 +1814,7 @@ fn marks_end_with_the_term(ask: &Ask, lent: Lent) -> Answer {
     clears_marks(ask, lent, |_, done| done.after.round > done.after.term)
 }
 
-/// The leader of a round that was passed over, or whose block was replaced, as if it had equivocated.
+/// The leader of a round that was passed over, as if it had equivocated, where no block is stored.
 fn marks_the_blamed(ask: &Ask, lent: Lent) -> Answer {
     amend(ask, lent, |done, _| {
         let record = done.after;
@@ -2066,6 +2078,7 @@ fn pair_slips() -> Vec<(&'static str, Replaced)> {
         ("leader of R marked", marks_the_leader_of_r),
         ("own number marked", marks_itself),
         ("mark taken back", marks_by_turns),
+        ("another marked by marks", marks_by_standing_marks),
         ("nobody marked", marks_nobody),
         ("one mark at most", marks_one_at_most),
         ("marked though refused", marks_though_refused),
@@ -2259,9 +2272,9 @@ fn failures(library: &Replaced, rules: bool) -> impl Iterator<Item = Box<Failure
     })
 }
 
-/// The claims find a slip, with a part of what they say in one of the first lists that fail.
-fn claims_find(name: &str, library: &Replaced, rules: bool, part: &str) {
-    let found = failures(library, rules).take(8).any(|failure| {
+/// The claims find a slip, with a part of what they say in one of so many first lists that fail.
+fn claims_find(name: &str, library: &Replaced, rules: bool, lists: usize, part: &str) {
+    let found = failures(library, rules).take(lists).any(|failure| {
         println!("{name}: {}", failure.message);
         assert!(failure.message.starts_with("claim:"), "{}", failure.message);
         failure.message.contains(part)
@@ -2271,9 +2284,8 @@ fn claims_find(name: &str, library: &Replaced, rules: bool, part: &str) {
 
 #[test]
 fn claims_find_slips_on_both_sides() {
-    let (machine, search) = (Replaced::machine, Replaced::search);
+    let machine = Replaced::machine;
     let other = "than its R gives";
-    let many = "shown rounds in a row";
     let slips = [
         ("one round early", machine(commits_one_round_early), other),
         ("by the tip", machine(commits_by_the_tip), other),
@@ -2298,11 +2310,17 @@ fn claims_find_slips_on_both_sides() {
             machine(tells_the_first_seat),
             "as the leader of rounds",
         ),
-        (
-            "seats told from the own one",
-            machine(tells_from_its_own_seat),
-            "were told of round",
-        ),
+    ];
+    for (name, library, part) in slips {
+        claims_find(name, &library, true, 1, part);
+    }
+}
+
+#[test]
+fn claims_find_slips_of_the_search_on_both_sides() {
+    let search = Replaced::search;
+    let many = "shown rounds in a row";
+    let slips = [
         ("one slot more", search(counts_one_slot_more), many),
         (
             "counts down to round 1",
@@ -2322,8 +2340,16 @@ fn claims_find_slips_on_both_sides() {
         ),
     ];
     for (name, library, part) in slips {
-        claims_find(name, &library, true, part);
+        claims_find(name, &library, true, 1, part);
     }
+}
+
+/// The claim about the leaders of rounds in a row finds it, too, and may be the first to do so.
+#[test]
+fn two_leaders_of_a_round_are_found_on_both_sides() {
+    let library = Replaced::machine(tells_from_its_own_seat);
+    let name = "seats told from the own one";
+    claims_find(name, &library, true, 2, "were told of round");
 }
 
 /// The claims about sound cards find these by themselves.
@@ -2357,7 +2383,7 @@ fn claims_about_sound_cards_find_slips_on_both_sides() {
         ("gives the lowest", search(gives_the_lowest), many),
     ];
     for (name, library, part) in slips {
-        claims_find(name, &library, false, part);
+        claims_find(name, &library, false, 1, part);
     }
 }
 
@@ -2373,14 +2399,14 @@ fn catching_up_finds_slips_on_both_sides() {
         ("room counted in slots", fetch_from_as_many_slots),
     ];
     for (name, fetch) in fetches {
-        claims_find(name, &Replaced::fetch(fetch), true, "fetching on");
+        claims_find(name, &Replaced::fetch(fetch), true, 1, "fetching on");
     }
     let machines: [(&str, Machine, &str); 2] = [
         ("11", loose_on_the_committed_block, "answered (11, 0), not "),
         ("wrong place", place_of_the_wrong_round, "answered (13, "),
     ];
     for (name, machine, part) in machines {
-        claims_find(name, &Replaced::machine(machine), false, part);
+        claims_find(name, &Replaced::machine(machine), false, 1, part);
     }
 }
 
@@ -2398,7 +2424,7 @@ fn catching_up_finds_12_by_itself() {
 #[test]
 fn runs_on_shared_blocks_find_slips_by_themselves() {
     let library = Replaced::machine(loose_above_the_committed_block);
-    claims_find("11", &library, true, "above the shared block of round");
+    claims_find("11", &library, true, 1, "above the shared block of round");
     assert!(failures(&library, false).next().is_none());
 }
 
@@ -2415,7 +2441,7 @@ fn marks_of_sound_cards_are_found_on_both_sides() {
     ];
     for (name, slip) in slips {
         let library = Replaced::equivocation(slip);
-        claims_find(name, &library, false, "claim: sound card ");
+        claims_find(name, &library, false, 1, "claim: sound card ");
     }
 }
 
@@ -2427,19 +2453,22 @@ fn marks_that_calls_change_are_found_on_both_sides() {
     ];
     for (name, slip) in pairs {
         let library = Replaced::equivocation(slip);
-        claims_find(name, &library, false, "equivocation made the marks");
+        claims_find(name, &library, false, 1, "equivocation made the marks");
     }
     let machines: [(&str, Machine, &str); 6] = [
         ("opened with a mark", opens_marked, "open made"),
         ("cleared by a branch", branch_clears_marks, "branch made"),
-        ("cleared by a blame", blame_clears_marks, "blame made"),
+        ("cleared by a set", set_clears_marks, "blames made"),
         ("cleared by a tick", tick_clears_marks, "tick made"),
         ("leaders passed over marked", marks_the_blamed, " made"),
         ("lost by refusals", refusals_lose_marks, " made"),
     ];
     for (name, slip, part) in machines {
-        claims_find(name, &Replaced::machine(slip), false, part);
+        claims_find(name, &Replaced::machine(slip), false, 1, part);
     }
+    // A set of one frame, that is compared with blame, may be the first to find it.
+    let library = Replaced::machine(blame_clears_marks);
+    claims_find("cleared by a blame", &library, false, 2, "blame made");
 }
 
 #[test]
@@ -2447,6 +2476,7 @@ fn what_else_marks_change_is_found_on_both_sides() {
     let machine = Replaced::machine;
     let slips = [
         ("refused", Replaced::equivocation(refuses_standing_marks)),
+        ("another", Replaced::equivocation(marks_by_standing_marks)),
         ("leaders refused", machine(refuses_marked_leaders)),
         ("leaders passed over", machine(passes_over_marked_leaders)),
         ("shorter wait", machine(waits_less_for_marked_leaders)),
@@ -2454,6 +2484,6 @@ fn what_else_marks_change_is_found_on_both_sides() {
         ("no fetch", Replaced::fetch(fetch_without_marked)),
     ];
     for (name, library) in slips {
-        claims_find(name, &library, false, "differs in more than marks");
+        claims_find(name, &library, false, 1, "differs in more than these marks");
     }
 }

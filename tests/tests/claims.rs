@@ -122,7 +122,7 @@ fn forged_blocks_of_a_pair_count_whatever_is_answered() {
     assert_eq!(hand_in(pair(double(3, 1)), 1024), (None, 8), "nobody's");
 }
 
-/// A whole frame before other bytes counts for a branch or a set, never for a pair.
+/// One whole frame, or three, may be a branch or a set, never a pair.
 #[test]
 fn a_pair_of_another_length_hands_in_nothing() {
     let forged = double(0, 1).as_flattened().repeat(2);
@@ -740,6 +740,22 @@ fn no_sound_card_is_marked_whatever_other_premise_fails() {
     assert_eq!(handed_twice(0b111, forged), Err(message.into()));
 }
 
+/// Forged blocks that equivocation refused excuse no mark; those that it took do.
+#[test]
+fn forged_blocks_that_were_refused_excuse_nothing() {
+    let refused = |cards: &mut Cards| {
+        let [one, mut damaged] = double(0, 1);
+        damaged[511] ^= 1;
+        assert_eq!(cards.step(1, pair([one, damaged])), 7);
+        assert_eq!(cards.step(1, pair([one, blame(0, 1)])), 8);
+        assert_eq!((cards.marks(1), cards.runner.claims.broken()), (0, FORGED));
+    };
+    let message = "claim: sound card 0 is marked in the record of card 1";
+    assert_eq!(handed_twice(0b111, refused), Err(message.into()));
+    let taken = |cards: &mut Cards| assert_eq!(cards.step(1, pair(double(0, 1))), 0);
+    assert_eq!(handed_twice(0b111, taken), Ok(0));
+}
+
 /// A card of that number which is not sound, or a record that calls did not make.
 #[test]
 fn marks_of_cards_that_are_not_sound_are_not_told() {
@@ -759,9 +775,22 @@ fn marks_of_cards_that_are_not_sound_are_not_told() {
     assert_eq!(handed_twice(0b111, |cards| cards.write(1)), Ok(0));
 }
 
-/// With two blocks forged in its name a sound card is marked, and nothing is told; nor is it later, when its real block comes.
+/// With two blocks forged in its name a sound card is marked, and nothing is told; nor is it later, when its real block comes,
+/// by a branch and beside a forged one.
 #[test]
-fn forged_blocks_mark_a_sound_card() {
+fn two_forged_blocks_mark_a_sound_card() {
+    let mut cards = Cards::open(1, &[0, 1, 2], 0b111, &Model);
+    let (first, forged) = (cards.line(0, 0), double(0, 1));
+    assert_eq!(cards.step(1, pair(forged)), 0);
+    assert_eq!((cards.marks(1), cards.end()), (0b1, (FORGED, Ok(()))));
+    assert_eq!(cards.branch(1, &first), 0);
+    assert_eq!(cards.step(1, pair([first[0], forged[0]])), 0);
+    assert_eq!((cards.marks(1), cards.end()), (0b1, (FORGED, Ok(()))));
+}
+
+/// One forged block beside the real one is enough.
+#[test]
+fn a_forged_block_beside_the_real_one_marks_a_sound_card() {
     let mut cards = Cards::open(1, &[0, 1, 2], 0b111, &Model);
     let first = cards.line(0, 0)[0];
     let forged = block(0, 1, 1, &GENESIS, b"forged");
@@ -877,4 +906,47 @@ fn equivocation_sets_one_mark_and_clears_none() {
         let message = format!("claim: equivocation made the marks {part}");
         assert_eq!(cards.told(1, pair(double(1, 2))), Err(message));
     }
+}
+
+/// Marks card 1 where card 0 is marked, and card 0 elsewhere.
+fn marks_the_other(record: Record, frames: &[u8]) -> Marked {
+    let mut marked = model::equivocation(record, frames);
+    if marked.number == 0 {
+        let other = 1 << (record.equivocators & 1);
+        marked.record.equivocators = record.equivocators | other;
+    }
+    marked
+}
+
+/// What is told of a pair of card 2's blocks where cards 0 and 2 are marked. The entry, that no pair needs, decides whether the
+/// call is made with other marks too, and with which.
+fn told_with_entry(library: &dyn Library, entry: u8) -> Option<String> {
+    let mut cards = Cards::open(1, &[1], 0, library);
+    let mut call = Call::new(&cards.head, 1, pair(double(2, 3)));
+    let record = cards.runner.sides()[1].record;
+    call.record = Some(Record {
+        equivocators: 0b101,
+        ..record
+    });
+    call.entry = vec![entry];
+    let step = cards.runner.step(&Step::Call(call), &mut Coverage::new());
+    step.err()
+}
+
+/// Also where each record holds the other's new mark already.
+#[test]
+fn both_records_get_the_same_mark() {
+    let library = Replaced::equivocation(marks_the_other);
+    let told: Vec<_> = (0..=255)
+        .filter_map(|entry| told_with_entry(&library, entry))
+        .collect();
+    for other in ["0b0", "0b10", "0b110"] {
+        let message = format!(
+            "claim: equivocation with the marks {other} in the record, not 0b101, differs in more \
+             than these marks"
+        );
+        assert!(told.contains(&message), "{other}: {told:?}");
+    }
+    let honest = (0..=255).find_map(|entry| told_with_entry(&Model, entry));
+    assert_eq!(honest, None);
 }
