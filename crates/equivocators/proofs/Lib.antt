@@ -1,3 +1,4 @@
+pub mod High
 pub mod Marks
 pub mod Aside
 pub mod Reached

@@ -1,13 +1,14 @@
 -- What a mark says and does (document 02, F-6). Of the premises of demand 3 `Lawful` and `Unforged` are there, each where it is named:
 -- how many cards fail, what they blame and which names are shared does not matter here.
-use Prim.Native.Nat.{ℕ}
+use Prim.Native.Nat.{ℕ, _≤_}
 use mathlib.Core.Path.{_≡_}
 use mathlib.Core.Logic.{_⊎_}
 use mathlib.Core.Option.{some}
 use mathlib.Core.List.{List, _++_}
-use mathlib.Core.Bool.{Bool, true}
+use mathlib.Core.Bool.{Bool, true, false}
 use Rattle.apollo.specs.declared.Replica.{Replica}
 use Rattle.apollo.specs.declared.Setup.{Setup}
+use Rattle.apollo.specs.Setup.{setupOf, replicas}
 use Rattle.apollo.specs.Masks.{bit}
 use Rattle.apollo.specs.Replica.{withEquivocators, validMarks}
 use Rattle.apollo.specs.Enter.{State, state}
@@ -20,6 +21,12 @@ use Rattle.agreement.specs.Marks.{Equivocated}
 -- card k is marked in a record
 abbrev pub IsMarked : Replica → (k : ℕ) → Type 0
 IsMarked r k = bit k (r .equivocators) ≡ true
+
+-- "a one at bit n or above" is 2: `validMarks` is just that there is none
+abbrev pub HighBits : Type 0
+HighBits =
+    (r : Replica) → (validMarks r ≡ true → (k : ℕ) → replicas (setupOf r) ≤ k → bit k (r .equivocators) ≡ false)
+    × (((k : ℕ) → replicas (setupOf r) ≤ k → bit k (r .equivocators) ≡ false) → validMarks r ≡ true)
 
 -- A mark stands for two blocks: whoever is marked, two good blocks of one round that it led were seen, and their names differ.
 abbrev pub Shown : Type 0
