@@ -186,6 +186,14 @@ static void bad_sets(void) {
   EXPECT(refused(2, APOLLO_NOT_A_SET, 0) && refused(1, APOLLO_EARLY, 0));
 }
 
+/* Two calls answered alike, a at card x into `out` and b at card y into this tray, and left the same. How they were answered. */
+static uint8_t left_alike(apollo_answer a, const card *x, apollo_answer b, const card *y, const uint8_t *tray) {
+  EXPECT(a.number == b.number && a.frames == b.frames && a.leader == b.leader && a.place == b.place);
+  EXPECT(same_record(a.replica, b.replica) && memcmp(out, tray, sizeof out) == 0);
+  EXPECT(memcmp(x->log, y->log, LOG) == 0 && memcmp(x->masks, y->masks, sizeof x->masks) == 0);
+  return a.number;
+}
+
 /* Hands one buffer to both calls, on a state each, lent `entry` and `space` bytes: they answer the same and leave the same. */
 static uint8_t alike(const card *c, const uint8_t *frame, size_t len, size_t entry, size_t space) {
   static const uint8_t text[APOLLO_ENTRY + 1] = "z";
@@ -195,10 +203,7 @@ static uint8_t alike(const card *c, const uint8_t *frame, size_t len, size_t ent
   memset(tray, 5, sizeof tray);
   apollo_answer a = apollo_blame(x.record, x.log, LOG, x.masks, T, frame, len, text, entry, out, space);
   apollo_answer b = apollo_blames(y.record, y.log, LOG, y.masks, T, frame, len, text, entry, tray, space);
-  EXPECT(a.number == b.number && a.frames == b.frames && a.leader == b.leader && a.place == b.place);
-  EXPECT(same_record(a.replica, b.replica) && memcmp(out, tray, sizeof out) == 0);
-  EXPECT(memcmp(x.log, y.log, LOG) == 0 && memcmp(x.masks, y.masks, sizeof x.masks) == 0);
-  return a.number;
+  return left_alike(a, &x, b, &y, tray);
 }
 
 /* A set of one is a blame: taken in R, below it and where it passes R over and the card proposes, and with each refusal. */
@@ -781,10 +786,7 @@ static uint8_t alike_but_marks(int which, const card *c, const uint8_t *lent, si
   apollo_answer a = call(which, &x, lent, len, out), b = call(which, &y, lent, len, tray);
   EXPECT(a.replica.equivocators == all && b.replica.equivocators == 0);
   b.replica.equivocators = all;
-  EXPECT(a.number == b.number && a.frames == b.frames && a.leader == b.leader && a.place == b.place);
-  EXPECT(same_record(a.replica, b.replica) && memcmp(out, tray, sizeof out) == 0);
-  EXPECT(memcmp(x.log, y.log, LOG) == 0 && memcmp(x.masks, y.masks, sizeof x.masks) == 0);
-  return a.number;
+  return left_alike(a, &x, b, &y, tray);
 }
 
 /* So with all marks and calls, taken and refused: a block, the last of f + 1 blames, a tick that blames. Read and fetch give the same. */
