@@ -4,8 +4,11 @@
  *
  * Signatures are simulated honestly: a frame travels with a signature that is made with its signer's key and checked when it comes in.
  * The liars of this file sign with their own keys only, and pass on what others signed. In place of public keys the check looks up the
- * signer's key; a real program takes a signature scheme such as Ed25519. */
+ * signer's key; a real program takes a signature scheme such as Ed25519.
+ *
+ * With --picture it draws the run: picture/ does that. */
 #include "card.h"
+#include "picture/picture.h"
 
 #include <stdio.h>
 #include <stdlib.h>
@@ -74,6 +77,9 @@ static struct {
   uint32_t doubles[APOLLO_MAX_REPLICAS];                  /* and the round for which it was named first */
   mark_list wrong, lacking;                               /* marks that are not as they must be */
   uint32_t ended;                                         /* the tick at which the term was over for all */
+  picture *picture;                                       /* of the run, if one is asked for; the file, and the ticks to be drawn */
+  const char *path;
+  uint32_t from, to;
 } cabinet;
 
 static _Noreturn void stop(const char *why) {
@@ -108,6 +114,43 @@ static int leader_of(uint32_t round) { return cabinet.rotation[(round - 1) % (ui
 static const uint8_t *slot(int i, uint32_t round) { return cabinet.cards[i].log + (size_t)(round - 1) * APOLLO_FRAME; }
 static uint16_t bit(int i) { return (uint16_t)(1u << i); }
 static uint32_t get32(const uint8_t *p) { return (uint32_t)p[0] << 24 | (uint32_t)p[1] << 16 | (uint32_t)p[2] << 8 | p[3]; }
+
+/* ---- a picture of the run */
+
+void host_note(const card *c, const card_call *call) {
+  static const picture_kind kinds[] = {PICTURE_OPEN, PICTURE_BRANCH, PICTURE_BLAMES, PICTURE_TICK, PICTURE_EQUIVOCATION, PICTURE_FETCH};
+  if (!cabinet.picture) return;
+  picture_add(cabinet.picture, &(picture_call){.card = c->setup.id,
+                                               .kind = kinds[call->kind],
+                                               .number = call->number,
+                                               .place = call->place,
+                                               .record = &c->record,
+                                               .log = c->log,
+                                               .in = call->in,
+                                               .ins = call->ins,
+                                               .out = call->out,
+                                               .outs = call->outs});
+}
+
+static void draw_lie(int liar, const uint8_t *frame) {
+  if (cabinet.picture && frame[1] == liar) picture_lie(cabinet.picture, liar, frame);
+}
+
+/* What a card is from this tick on, where that changes. */
+static void draw_phase(int i) {
+  fault kind = cabinet.faults[i];
+  if (cabinet.now == CUT_FROM && is_cut(i)) picture_phase(cabinet.picture, i, kind == DEAF ? "deaf" : "mute");
+  if (cabinet.now == CUT_FROM && kind == LOST) picture_phase(cabinet.picture, i, "lost its state: follows");
+  if (cabinet.now == CUT_FROM && kind == AGAIN) picture_phase(cabinet.picture, i, "lost its state: sends");
+  if (cabinet.now == CUT_FROM + DEAF_LATER && kind == CUT) picture_phase(cabinet.picture, i, "mute and deaf");
+  if (cabinet.now == CUT_FROM + CUT_FOR && is_cut(i)) picture_phase(cabinet.picture, i, NULL);
+}
+
+static void draw_tick(void) {
+  if (!cabinet.picture) return;
+  picture_moment(cabinet.picture, cabinet.now, "");
+  for (int i = 0; i < cabinet.n; i++) draw_phase(i);
+}
 
 /* ---- turns */
 
@@ -297,6 +340,7 @@ static void put32(uint8_t *p, uint32_t v) {
 static void seal(int liar, signed_block *b) {
   apollo_digest(b->frame, 480, b->frame + 480);
   host_sign(&cabinet.cards[liar].setup, b->frame, b->signature);
+  draw_lie(liar, b->frame);
 }
 
 static void make_twin(int liar, signed_block *b) {
@@ -378,6 +422,7 @@ static void blame_all(int from) {
       p.blames.round = r;
       p.blames.signers = bit(from);
       host_sign(&cabinet.cards[from].setup, frame, p.blames.signature[from]);
+      draw_lie(from, frame);
       if (to == from) continue;
       host_send(from, to, &p);
       cabinet.lies++;
@@ -406,6 +451,7 @@ static void junk_block(int from, signed_block *b) {
   apollo_digest(b->frame, 480, b->frame + 480);
   if (way == 6) b->frame[480] ^= 1; /* a wrong check */
   sign_in_term(&cabinet.cards[from].setup, from, way == 0 ? TERM - 1 : TERM, b->frame, b->signature);
+  draw_lie(from, b->frame);
 }
 
 /* As evidence the newest block and a twin that its leader did not sign, or the same block, or that leader's block of a turn before. */
@@ -455,6 +501,7 @@ static void mask_as_newest(int from) {
   put32(p.block.frame + 4, round);
   memcpy(p.block.frame + 12, slot(from, newest) + 480, APOLLO_DIGEST);
   host_sign(&cabinet.cards[from].setup, p.block.frame, p.block.signature);
+  draw_lie(from, p.block.frame);
   for (int to = 0; to < cabinet.n; to++)
     if (to != from) carry(from, to, &p);
   cabinet.lies++;
@@ -558,6 +605,33 @@ static int is_over(void) {
   return have_spread() || cabinet.now > cabinet.ended + SPREAD * retry();
 }
 
+/* The words of the picture are those of the report. */
+static void begin_picture(void) {
+  static char title[128];
+  static const char note[] =
+      "A lane for each card, time to the right, a column for each tick in which something happens. An arrow ends where a card hands the "
+      "frame to its library, whoever brought it; what was lost on the way, and questions, are not drawn.";
+  picture_setup setup = {.cards = cabinet.n, .rounds = cabinet.rounds, .unit = "tick", .title = title, .note = note};
+  snprintf(title, sizeof title, "A cabinet of %d cards, fault %s, seed %u, %u rounds, a timeout of %u ticks", cabinet.n,
+           fault_names[cabinet.kind], cabinet.first_seed, cabinet.rounds, cabinet.timeout);
+  memcpy(setup.rotation, cabinet.rotation, sizeof setup.rotation);
+  cabinet.picture = picture_new(setup);
+  if (!cabinet.picture) stop("no memory");
+  picture_window(cabinet.picture, cabinet.from, cabinet.to);
+  for (int i = 0; i < cabinet.n; i++) {
+    char word[TEXT];
+    snprintf(word, sizeof word, "%s%s", lies(i) ? "lies: " : "", fault_names[cabinet.faults[i]]);
+    picture_say(cabinet.picture, i, cabinet.faults[i] == NONE ? "" : word, keeps_rules(i));
+  }
+}
+
+static int end_picture(void) {
+  const char *why = cabinet.picture ? picture_write(cabinet.picture, cabinet.path) : NULL;
+  if (why) fprintf(stderr, "cabinet: no picture in %s: %s\n", cabinet.path, why);
+  picture_free(cabinet.picture);
+  return !why;
+}
+
 static void run(void) {
   uint32_t most = 5000 + cabinet.rounds * (cabinet.timeout + 50);
   choose_faults();
@@ -568,8 +642,11 @@ static void run(void) {
     cabinet.stories[i] = calloc(cabinet.rounds, sizeof *cabinet.stories[i]);
     if (!cabinet.acts[i] || !cabinet.stories[i]) stop("no memory");
   }
-  for (cabinet.now = 0; cabinet.now < most && !is_over(); cabinet.now++)
+  if (cabinet.path) begin_picture();
+  for (cabinet.now = 0; cabinet.now < most && !is_over(); cabinet.now++) {
+    draw_tick();
     for (int i = 0; i < cabinet.n; i++) turn(i);
+  }
 }
 
 /* ---- the report */
@@ -776,6 +853,8 @@ static const char usage[] =
     "  --timeout W    ticks until a leader is blamed (by the rule of docs/HOSTS.md)\n"
     "  --impatient    no fault but a timeout of 2 ticks: correct cards blame each other, and the lists part\n"
     "  --list         print the committed list\n"
+    "  --picture FILE draw the run, as an SVG file for a browser\n"
+    "  --ticks A-B    draw the ticks A to B alone: a picture has room for some hundred calls\n"
     "Ends with 0 if all lists agree, no entry is lost or misses a turn, every premise was kept and all cards that signed two blocks for\n"
     "a round, and no other, are marked; with 1 if not; with 2 if it cannot run: a wrong option, say.\n";
 
@@ -851,6 +930,15 @@ static void choose_rotation(void) {
     printf("%s%d%s", k ? "," : "rotation ", cabinet.rotation[k], k + 1 < cabinet.n ? "" : "\n");
 }
 
+static void read_ticks(const char *text) {
+  char from[16] = "";
+  size_t len = strcspn(text, "-");
+  if (len >= sizeof from || !text[len]) wrong_usage();
+  memcpy(from, text, len);
+  cabinet.from = number(from, 0, UINT32_MAX);
+  cabinet.to = number(text + len + 1, cabinet.from, UINT32_MAX);
+}
+
 /* Reads one option; the count of words that it took. */
 static int option(const char *word, const char *value) {
   if (strcmp(word, "--help") == 0) {
@@ -872,6 +960,8 @@ static int option(const char *word, const char *value) {
   else if (strcmp(word, "--tray") == 0) cabinet.tray = number(value, 2, TRAY);
   else if (strcmp(word, "--timeout") == 0) cabinet.timeout = number(value, 1, APOLLO_MAX_TIMEOUT);
   else if (strcmp(word, "--rotation") == 0 && value) cabinet.asked = value;
+  else if (strcmp(word, "--picture") == 0 && value) cabinet.path = value;
+  else if (strcmp(word, "--ticks") == 0 && value) read_ticks(value);
   else wrong_usage();
   return 2;
 }
@@ -888,12 +978,13 @@ static void read_options(int argc, char **argv) {
   cabinet.delay = 6;
   cabinet.loss = 8;
   cabinet.tray = TRAY;
+  cabinet.to = UINT32_MAX;
   for (int i = 1; i < argc;) {
     static const char *const names[] = {"--cards", "--seed", "--rounds"};
     if (argv[i][0] == '-' || plain == 3) i += option(argv[i], i + 1 < argc ? argv[i + 1] : NULL);
     else option(names[plain++], argv[i++]);
   }
-  if (cabinet.n % 2 == 0) wrong_usage();
+  if (cabinet.n % 2 == 0 || (!cabinet.path && cabinet.to < UINT32_MAX)) wrong_usage();
   cabinet.first_seed = cabinet.seed;
   cabinet.f = (cabinet.n - 1) / 2;
   choose_rotation();
@@ -907,7 +998,7 @@ int main(int argc, char **argv) {
   if (apollo_version() != APOLLO_VERSION) stop("apollo.h and libhost.a are of different versions");
   read_options(argc, argv);
   run();
-  int good = report();
+  int good = report(), drawn = end_picture();
   for (int i = 0; i < cabinet.n; i++) {
     card_close(&cabinet.cards[i]);
     while (cabinet.in[i].count > 0) free(cabinet.in[i].list[--cabinet.in[i].count].p);
@@ -915,5 +1006,5 @@ int main(int argc, char **argv) {
     free(cabinet.acts[i]);
     free(cabinet.stories[i]);
   }
-  return good ? 0 : 1;
+  return !drawn ? 2 : good ? 0 : 1;
 }

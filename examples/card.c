@@ -121,6 +121,7 @@ static void send_tray(card *c, int to, uint32_t height, uint32_t room) {
       apollo_fetch(c->record, c->log, log_len(c), (apollo_height){height}, c->frames, (size_t)p.tray.room * APOLLO_FRAME);
   if (got.number == APOLLO_BAD_REPLICA) host_alarm(c->setup.id, ALARM_STATE, c->setup.id, 0);
   p.tray.count = (uint32_t)got.count;
+  host_note(c, &(card_call){.kind = CALL_FETCH, .out = c->frames, .outs = got.count, .number = got.number});
   for (uint32_t k = 0; k < p.tray.count; k++) {
     const uint8_t *frame = c->frames + k * APOLLO_FRAME;
     memcpy(p.tray.blocks[k].frame, frame, APOLLO_FRAME);
@@ -213,13 +214,18 @@ static void sign(card *c, const uint8_t *frame, proposal *lent) {
 }
 
 /* Takes over a call's answer: keeps the record, signs and sends what was emitted, and tells a new round's leader what it needs. */
-static void take(card *c, apollo_answer a, const uint8_t *out, proposal *lent) {
+static void take(card *c, apollo_answer a, card_call call, proposal *lent) {
+  const uint8_t *out = call.out;
   uint32_t before = waited(c);
   if (a.number < NUMBERS) c->answers[a.number]++;
   if (a.number == APOLLO_BAD_REPLICA) host_alarm(c->setup.id, ALARM_STATE, c->setup.id, 0);
   if (a.number == APOLLO_REVERTS_COMMITTED) host_alarm(c->setup.id, ALARM_UNDONE, c->setup.id, committed(c));
+  call.number = a.number;
+  call.place = a.place;
+  call.outs = a.frames;
+  if (a.number == APOLLO_TAKEN) c->record = a.replica;
+  host_note(c, &call);
   if (a.number != APOLLO_TAKEN) return;
-  c->record = a.replica;
   for (int k = 0; k < a.frames; k++) sign(c, out + k * APOLLO_FRAME, lent);
   /* A card that is to live on after a restart writes its state, or the call with all that it was lent, to disk here: before it acts on
    * anything or sends it. */
@@ -243,7 +249,7 @@ static void hand_in_set(card *c, uint32_t round) {
   proposal *p = lend(c);
   apollo_answer a = apollo_blames(c->record, c->log, log_len(c), c->masks, c->setup.rounds, c->frames, (size_t)count * APOLLO_FRAME,
                                   p ? p->entry : NULL, p ? p->len : 0, out, sizeof out);
-  take(c, a, out, p);
+  take(c, a, (card_call){.kind = CALL_BLAMES, .in = c->frames, .ins = (size_t)count, .out = out}, p);
 }
 
 /* Those of passed rounds too: a block that skips these rounds needs them. */
@@ -259,7 +265,7 @@ static apollo_answer hand_in_branch(card *c, const uint8_t *frames, uint8_t (*si
                                   p ? p->entry : NULL, p ? p->len : 0, out, sizeof out);
   for (size_t k = 0; k < count && a.number == APOLLO_TAKEN; k++)
     memcpy(c->signature[round_of(frames + k * APOLLO_FRAME) - 1], signature[k], SIGNATURE);
-  take(c, a, out, p);
+  take(c, a, (card_call){.kind = CALL_BRANCH, .in = frames, .ins = count, .out = out}, p);
   return a;
 }
 
@@ -395,8 +401,9 @@ static void hand_in_pair(card *c, const signed_block *a, const signed_block *b) 
   apollo_marked m = apollo_equivocation(c->record, pair, sizeof pair);
   if (m.number < NUMBERS) c->answers[m.number]++;
   if (m.number == APOLLO_BAD_REPLICA) host_alarm(c->setup.id, ALARM_STATE, c->setup.id, 0);
+  if (m.number == APOLLO_TAKEN) c->record = m.replica; /* to disk, with the evidence, as after any other call */
+  host_note(c, &(card_call){.kind = CALL_EQUIVOCATION, .in = pair, .ins = 2, .number = m.number, .place = m.place});
   if (m.number != APOLLO_TAKEN) return;
-  c->record = m.replica; /* to disk, with the evidence, as after any other call */
   c->evidence[leader] = (card_evidence){{*a, *b}};
   host_alarm(c->setup.id, ALARM_DOUBLE, leader, round_of(b->frame));
   for (int to = 0; to < cards(c); to++)
@@ -629,7 +636,7 @@ static void call_tick(card *c) {
   proposal *p = lend(c);
   apollo_answer a =
       apollo_tick(c->record, c->log, log_len(c), c->masks, c->setup.rounds, p ? p->entry : NULL, p ? p->len : 0, out, sizeof out);
-  take(c, a, out, p);
+  take(c, a, (card_call){.kind = CALL_TICK, .out = out}, p);
 }
 
 /* No new round for a while: sends again what others may lack, and asks f + 1 cards, one of them correct, and the leader. */
@@ -679,7 +686,7 @@ int card_open(card *c, card_setup setup) {
   for (uint32_t r = 1; r <= setup.rounds; r++) c->blames[r - 1].round = r;
   apollo_answer a = apollo_open(setup.id, setup.f, (apollo_ticks){setup.timeout}, (apollo_round){setup.rounds}, setup.rotation,
                                 (size_t)cards(c), c->log, log_len(c), c->masks, t, NULL, 0, out, sizeof out);
-  take(c, a, out, NULL);
+  take(c, a, (card_call){.kind = CALL_OPEN, .out = out}, NULL);
   c->run.from = setup.id;
   return a.number == APOLLO_TAKEN;
 }

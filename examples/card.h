@@ -178,5 +178,16 @@ typedef enum {
   ALARM_KINDS
 } alarm_kind;
 void host_alarm(int id, alarm_kind kind, int other, uint32_t round);
+/* A call that the card made, and how it was answered. The card has its new record; nothing of what was emitted is sent yet. For a log
+ * of the card's doings, or a picture: do nothing if you need neither. */
+typedef enum { CALL_OPEN, CALL_BRANCH, CALL_BLAMES, CALL_TICK, CALL_EQUIVOCATION, CALL_FETCH } call_kind;
+typedef struct {
+  call_kind kind;
+  const uint8_t *in, *out; /* the frames handed in, and those emitted or fetched, end to end; */
+  size_t ins, outs;        /* how many */
+  uint8_t number;
+  uint32_t place;
+} card_call;
+void host_note(const card *c, const card_call *call);
 
 #endif

@@ -1,0 +1,123 @@
+/* fates.c: below the lanes a line for each round that is drawn: what became of it. */
+#include "drawing.h"
+
+#include <stdio.h>
+#include <stdlib.h>
+#include <string.h>
+
+typedef struct {
+  int shown, blocks, other; /* in the window; blocks put out for it; whether it is on a list that parted */
+  int first, last, commits; /* the calls that committed it */
+  int skips;
+  uint16_t blamed;
+  uint32_t height;
+} fate;
+
+static void note_frame(const picture *p, fate *fates, const event *e, int frame, int shown) {
+  const seen_frame *f = frame_at(p, frame);
+  if (f->round < 1 || f->round > p->setup.rounds) return;
+  fate *t = &fates[f->round];
+  t->shown |= shown;
+  if (f->kind == APOLLO_BLAME && f->signer < p->setup.cards) t->blamed |= (uint16_t)(1u << f->signer);
+  if (f->kind != APOLLO_BLOCK) return;
+  t->blocks += event_at(p, (size_t)f->emitted) == e;
+  t->height = f->height;
+}
+
+static void note_event(const picture *p, fate *fates, int k) {
+  const event *e = event_at(p, (size_t)k);
+  int shown = e->column != NOWHERE;
+  for (size_t j = 0; j < e->outs.count && e->kind != PICTURE_FETCH; j++) note_frame(p, fates, e, word_at(p, e->outs, j), shown);
+  for (size_t j = 0; j < e->skips.count; j++) {
+    fate *t = &fates[word_at(p, e->skips, j)];
+    t->shown |= shown;
+    t->skips++;
+  }
+  for (size_t j = 0; j < e->commits.count; j++) {
+    int frame = word_at(p, e->commits, j);
+    fate *t = &fates[frame_at(p, frame)->round];
+    t->shown |= shown;
+    t->height = frame_at(p, frame)->height;
+    t->other |= is_other(p, e, frame);
+    if (t->commits++ == 0) t->first = k;
+    t->last = k;
+  }
+}
+
+static void add_text(char *to, const char *what) { snprintf(to + strlen(to), TEXT - strlen(to), "%s", what); }
+
+static void add_number(char *to, const char *form, uint32_t number) {
+  char text[TEXT];
+  snprintf(text, TEXT, form, number);
+  add_text(to, text);
+}
+
+/* The calls that committed it, if they are few; of many the first, and by when all had. */
+static void add_safe(const picture *p, char *to, const fate *t) {
+  const event *first = event_at(p, (size_t)t->first), *last = event_at(p, (size_t)t->last);
+  add_number(to, "safe at card %u from ", (uint32_t)first->card);
+  add_text(to, p->setup.unit);
+  add_number(to, " %u", moment_at(p, first->moment)->number);
+  if (t->commits == 2) add_number(to, ", at card %u", (uint32_t)last->card);
+  if (t->commits > 2) add_number(to, ", at %u cards", (uint32_t)t->commits);
+  if (t->commits > 1) add_number(to, " from %u", moment_at(p, last->moment)->number);
+}
+
+static void tell(const picture *p, char *to, const fate *t) {
+  to[0] = 0;
+  if (t->blocks > 1) add_number(to, "%u blocks; ", (uint32_t)t->blocks);
+  if (t->blocks == 0 && t->commits == 0) add_text(to, "no block; ");
+  if (t->blamed) add_text(to, "blamed by ");
+  for (int i = 0, many = 0; i < APOLLO_MAX_REPLICAS; i++)
+    if (t->blamed >> i & 1) add_number(to, many++ ? ",%u" : "%u", (uint32_t)i);
+  if (t->blamed) add_text(to, "; ");
+  if (t->commits) add_safe(p, to, t);
+  else if (t->skips) add_text(to, "skipped");
+  else add_text(to, t->blocks ? "not safe yet" : "open");
+  if (t->other) add_text(to, "; LISTS PART");
+}
+
+static void put_fate(drawing *d, uint32_t round, const fate *t, int x, int y) {
+  int leader = d->p->setup.rotation[(round - 1) % (uint32_t)d->p->setup.cards];
+  char text[TEXT];
+  colour c = colour_of(leader);
+  svg_put(&d->s, "<rect x=\"%d\" y=\"%d\" width=\"9\" height=\"9\" fill=\"%s\" stroke=\"%s\"/>\n", x, y + 2, c.fill, c.dark);
+  snprintf(text, TEXT, "round %u, card %d:", round, leader);
+  svg_text(&d->s, x + 14, y + 10, FONT_BOLD, NULL, NULL, text);
+  x += 14 + svg_width(FONT_BOLD, text) + 3;
+  tell(d->p, text, t);
+  svg_text(&d->s, x, y + 10, FONT_PLAIN, NULL, NULL, text);
+}
+
+/* In two columns, the first one down first, as far as a page goes. */
+static void put_fates(drawing *d, const fate *fates, int count) {
+  enum { LINE = 15 };
+  uint32_t round = 0;
+  while (count > 0) {
+    int room = (PAGE - d->y % PAGE) / LINE, rows = (count + 1) / 2;
+    if (rows > room) rows = room;
+    for (int k = 0; k < 2 * rows && count > 0; k++, count--) {
+      do round++;
+      while (!fates[round].shown);
+      put_fate(d, round, &fates[round], k < rows ? 4 : WIDTH / 2, d->y + k % rows * LINE);
+    }
+    d->y += rows * LINE;
+    if (count > 0) d->y += PAGE - d->y % PAGE;
+  }
+}
+
+void draw_fates(drawing *d) {
+  const picture *p = d->p;
+  fate *fates = calloc(p->setup.rounds + 1, sizeof *fates);
+  int count = 0;
+  if (!fates) d->s.failed = 1;
+  if (!fates) return;
+  for (size_t k = 0; k < p->events.count; k++)
+    if (moment_at(p, event_at(p, k)->moment)->number <= p->to) note_event(p, fates, (int)k);
+  for (uint32_t r = 1; r <= p->setup.rounds; r++) count += fates[r].shown;
+  if (d->y % PAGE + 50 > PAGE) d->y += PAGE - d->y % PAGE;
+  svg_text(&d->s, 4, d->y + 11, FONT_BOLD, NULL, NULL, "What became of each round");
+  d->y += 17;
+  put_fates(d, fates, count);
+  free(fates);
+}
