@@ -27,7 +27,7 @@ int emitted_of(const picture *p, const event *e, uint8_t kind) {
 }
 
 int token_width(const char *text) {
-  int width = svg_width(FONT_SMALL, text) + 8;
+  int width = svg_width(FONT_BOLD, text) + 8;
   return width < 18 ? 18 : width;
 }
 
@@ -43,8 +43,8 @@ int tokens_width(const picture *p, const event *e) {
 
 int box_width(const seen_frame *f) {
   char text[TEXT];
-  snprintf(text, TEXT, f->kind == APOLLO_BLOCK ? "round %u" : "blames %u", f->round);
-  if (f->kind != APOLLO_BLOCK) return svg_width(FONT_SMALL, text) + 8;
+  snprintf(text, TEXT, f->kind == APOLLO_BLOCK ? "round %u" : "blame %u", f->round);
+  if (f->kind != APOLLO_BLOCK) return svg_width(FONT_BOLD, text) + 8;
   int width = svg_width(FONT_BOLD, text);
   snprintf(text, TEXT, "height %u", f->height);
   return most(width, svg_width(FONT_PLAIN, text)) + 6;
@@ -82,7 +82,7 @@ int tag_of(const drawing *d, const event *e, char text[TEXT]) {
   else if (e->skips.count > 0) skip_text(d->p, e, text);
   else if (e->kind == PICTURE_FETCH) snprintf(text, TEXT, "gives %zu blocks", e->outs.count);
   else if (e->kind == PICTURE_OPEN && e->again) snprintf(text, TEXT, "opened again");
-  return text[0] ? svg_width(FONT_BOLD, text) + (with_sign ? 11 : 0) : 0;
+  return text[0] ? svg_width(FONT_BOLD, text) + (with_sign ? 11 : 0) + (e->ins.count > 0 ? TAG_SHIFT : 0) : 0;
 }
 
 /* ---- how wide it is */
@@ -121,7 +121,7 @@ static column *add_column(drawing *d, column c) {
 static int label_width(const drawing *d, int m) {
   char text[TEXT];
   snprintf(text, TEXT, "%u", moment_at(d->p, m)->number);
-  return most(svg_width(FONT_SMALL, text), svg_width(FONT_BOLD, moment_at(d->p, m)->label)) + 2;
+  return most(svg_width(FONT_BOLD, text), svg_width(FONT_BOLD, moment_at(d->p, m)->label)) + 2;
 }
 
 /* A column for a moment, and more where a card makes several calls in it. */
@@ -153,7 +153,7 @@ static uint32_t stretch(const picture *p, int m, int *last) {
 static void add_fold(drawing *d, int m, uint32_t count) {
   char text[TEXT];
   snprintf(text, TEXT, "%u %ss", count, d->p->setup.unit);
-  add_column(d, (column){.moment = m, .folded = count, .width = svg_width(FONT_SMALL, text) + 4});
+  add_column(d, (column){.moment = m, .folded = count, .width = svg_width(FONT_BOLD, text) + 4});
   d->folds++;
   d->folded += count;
 }

@@ -6,7 +6,7 @@
 #include "svg.h"
 
 /* In units of the file. The picture is as wide as a page of A4 without its margins, and a page so high. */
-enum { WIDTH = 940, PAGE = 1361, LEFT = 92, RIGHT = 4, SAMPLE = 52, MOST_TOKENS = 4, MOST_PARTS = 100, TEXT = 96 };
+enum { WIDTH = 940, PAGE = 1361, LEFT = 92, RIGHT = 4, SAMPLE = 52, MOST_TOKENS = 4, MOST_PARTS = 100, TAG_SHIFT = 9, TEXT = 96 };
 
 /* The rows of a lane, from above: a phase; what is said of a call; frames handed in and blames; the round that is waited for, with
  * blocks; the committed list. A part leaves out those that it does not need. */
@@ -56,6 +56,7 @@ typedef struct {
   int parts, folds;
   uint32_t folded;
   int used[SIGNS];
+  char refused[8]; /* the number of a refusal that is there */
 } drawing;
 
 typedef struct {

@@ -63,17 +63,30 @@ static void add_safe(const picture *p, char *to, const fate *t) {
   if (t->commits > 1) add_number(to, " from %u", moment_at(p, last->moment)->number);
 }
 
-static void tell(const picture *p, char *to, const fate *t) {
+static void add_blamed(char *to, uint16_t blamed) {
+  int left = 0, many = 0;
+  for (int i = 0; i < APOLLO_MAX_REPLICAS; i++) left += blamed >> i & 1;
+  add_text(to, left == 1 ? "blamed by card " : "blamed by cards ");
+  for (int i = 0; i < APOLLO_MAX_REPLICAS; i++)
+    if (blamed >> i & 1) add_number(to, !many++ ? "%u" : many == left ? " and %u" : ", %u", (uint32_t)i);
+  add_text(to, "; ");
+}
+
+/* Is the term over for some card, so that nothing more is committed there? */
+static int is_over(const drawing *d) {
+  for (int i = 0; i < d->p->setup.cards; i++)
+    if (d->cards[i].open && d->cards[i].round > d->p->setup.rounds) return 1;
+  return 0;
+}
+
+static void tell(const drawing *d, char *to, const fate *t) {
   to[0] = 0;
   if (t->blocks > 1) add_number(to, "%u blocks; ", (uint32_t)t->blocks);
   if (t->blocks == 0 && t->commits == 0) add_text(to, "no block; ");
-  if (t->blamed) add_text(to, "blamed by ");
-  for (int i = 0, many = 0; i < APOLLO_MAX_REPLICAS; i++)
-    if (t->blamed >> i & 1) add_number(to, many++ ? ",%u" : "%u", (uint32_t)i);
-  if (t->blamed) add_text(to, "; ");
-  if (t->commits) add_safe(p, to, t);
+  if (t->blamed) add_blamed(to, t->blamed);
+  if (t->commits) add_safe(d->p, to, t);
   else if (t->skips) add_text(to, "skipped");
-  else add_text(to, t->blocks ? "not safe yet" : "open");
+  else add_text(to, is_over(d) ? "not safe: the term ends" : "not safe yet");
   if (t->other) add_text(to, "; LISTS PART");
 }
 
@@ -85,7 +98,7 @@ static void put_fate(drawing *d, uint32_t round, const fate *t, int x, int y) {
   snprintf(text, TEXT, "round %u, card %d:", round, leader);
   svg_text(&d->s, x + 14, y + 10, FONT_BOLD, NULL, NULL, text);
   x += 14 + svg_width(FONT_BOLD, text) + 3;
-  tell(d->p, text, t);
+  tell(d, text, t);
   svg_text(&d->s, x, y + 10, FONT_PLAIN, NULL, NULL, text);
 }
 

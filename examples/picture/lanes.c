@@ -4,7 +4,7 @@
 #include <stdio.h>
 #include <string.h>
 
-static const int row_height[ROWS] = {13, 13, 18, 26, 17};
+static const int row_height[ROWS] = {13, 13, 20, 26, 17};
 enum { GAP = 12, AXIS = 26 };
 
 /* The part's events: those that are drawn in its columns. */
@@ -70,7 +70,7 @@ static void draw_axis(drawing *d) {
       svg_put(&d->s, "<path d=\"M%d %dV%d\" stroke=\"#e4e4e4\" fill=\"none\"/>\n", c->x - 2, d->y + AXIS - 4, d->foot);
     snprintf(text, TEXT, "%u", moment_at(p, c->moment)->number);
     if (c->sub == 0 && !c->folded) {
-      svg_text(&d->s, c->x, d->y + 9, FONT_SMALL, "#555", NULL, text);
+      svg_text(&d->s, c->x, d->y + 9, FONT_BOLD, "#555", NULL, text);
       svg_text(&d->s, c->x, d->y + 20, FONT_BOLD, NULL, NULL, moment_at(p, c->moment)->label);
     }
     if (!c->folded) continue;
@@ -78,8 +78,8 @@ static void draw_axis(drawing *d) {
     snprintf(text, TEXT, "%u %ss", c->folded, p->setup.unit);
     svg_put(&d->s, "<rect x=\"%d\" y=\"%d\" width=\"%d\" height=\"%d\" fill=\"url(#fold)\"/>\n", c->x - 1, d->y + AXIS - 4, c->width,
             d->foot - d->y - AXIS + 4);
-    svg_text(&d->s, c->x, d->y + 9, FONT_SMALL, "#555", NULL, "quiet:");
-    svg_text(&d->s, c->x, d->y + 20, FONT_SMALL, "#555", NULL, text);
+    svg_text(&d->s, c->x, d->y + 9, FONT_BOLD, "#555", NULL, "quiet:");
+    svg_text(&d->s, c->x, d->y + 20, FONT_BOLD, "#555", NULL, text);
   }
 }
 
@@ -89,7 +89,8 @@ static int moves(const event *e) { return !e->is_lie && (e->kind == PICTURE_OPEN
 
 static void put_band(drawing *d, int card, int from, int to, const standing *at) {
   int y = d->rows[card][ROW_BAND];
-  const char *fill = at->leader == NOWHERE ? "#f4f4f4" : colour_of(at->leader).pale;
+  const char *fill = at->leader == NOWHERE ? "#fff" : colour_of(at->leader).pale;
+  if (!at->open && to - from < 8) return;
   if (!at->open) svg_put(&d->s, "<path d=\"M%d %dH%d\" stroke=\"#999\" stroke-dasharray=\"2 4\" fill=\"none\"/>\n", from, y + 12, to);
   else svg_put(&d->s, "<path d=\"M%d %dh%dv24h-%dz\" fill=\"%s\" stroke=\"#ccc\"/>\n", from, y, to - from, to - from, fill);
   d->used[SIGN_BAND] |= at->open;
@@ -103,8 +104,9 @@ static void draw_bands(drawing *d, int card) {
   size_t k = first_event(d);
   for (const event *e; (e = next_event(d, &k)); k++) {
     if (e->card != card || !moves(e)) continue;
-    if (x_of(d, e) > from) put_band(d, card, from, x_of(d, e), &at);
-    from = x_of(d, e);
+    int x = has_box(d, e) ? box_x(d, e) : x_of(d, e);
+    if (x > from) put_band(d, card, from, x, &at);
+    from = x;
     at = after(e);
   }
   put_band(d, card, from, d->right, &at);
@@ -127,7 +129,7 @@ static void put_wait(drawing *d, int card, int x, int to, const standing *at) {
   if (at->leader != NOWHERE) snprintf(text[3], TEXT, "%u", at->round);
   for (int k = 0; k < 4 && at->open; k++) {
     if (!text[k][0] || svg_width(FONT_PLAIN, text[k]) > to - x - 2) continue;
-    svg_text(&d->s, x, mid(d, card) + 4, FONT_PLAIN, "#333", at->leader == NOWHERE ? "#f4f4f4" : colour_of(at->leader).pale, text[k]);
+    svg_text(&d->s, x, mid(d, card) + 4, FONT_PLAIN, "#333", at->leader == NOWHERE ? "#fff" : colour_of(at->leader).pale, text[k]);
     return;
   }
 }
@@ -177,9 +179,9 @@ static void arrow_from(drawing *d, const seen_frame *f, int card, int x, int y, 
   int down = card > f->signer, x1 = LEFT - 1, y1 = mid(d, f->signer);
   if (from && from->column >= d->first && from->column < d->end) {
     int is_block = f->kind == APOLLO_BLOCK, box = box_width(f);
-    int beside = !down && is_block && emitted_of(d->p, from, APOLLO_BLAME) != NOWHERE; /* past the blame above it */
+    int beside = !is_block || (!down && emitted_of(d->p, from, APOLLO_BLAME) != NOWHERE); /* past what is said or stands above it */
     x1 = (is_block ? box_x(d, from) : x_of(d, from)) + (beside ? box : box / 2);
-    y1 = d->rows[f->signer][is_block ? ROW_BAND : ROW_FRAMES] + (down ? (is_block ? 24 : 16) : beside ? 3 : 0);
+    y1 = d->rows[f->signer][is_block ? ROW_BAND : ROW_FRAMES] + (!is_block ? 8 : down ? 24 : beside ? 3 : 0);
   }
   if (down) draw_arrow(d, x1, y1, x + 3, y + 2, f); /* from the left, so that it leaves free what is said above */
   else draw_arrow(d, x1, y1, x + w / 2, y + 17, f);
@@ -205,6 +207,8 @@ static void put_tag(drawing *d, const event *e, int x, int y) {
   char text[TEXT];
   int sign = 11;
   if (!tag_of(d, e, text) || is_quiet(d->p, e)) return;
+  if (e->ins.count > 0) x += TAG_SHIFT; /* arrows come from the left */
+  if (e->number != APOLLO_TAKEN && !e->is_lie) snprintf(d->refused, sizeof d->refused, "%u", e->number);
   if (e->is_lie) sign = 0;
   else if (e->number != APOLLO_TAKEN) draw_cross(d, x, y + 2);
   else if (e->marks != NOWHERE) draw_flag(d, x, y + 1, e->marks);

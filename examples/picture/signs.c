@@ -8,10 +8,10 @@ static const char dark_red[] = "#a00020";
 
 /* Okabe and Ito's colours, which colour-blind readers tell apart, with the first three far apart in grey too. */
 colour colour_of(int card) {
-  static const colour colours[] = {{"#56b4e9", "#000", "#0a639a", "#ddf0fb"}, {"#d55e00", "#000", "#a34700", "#f9e0cf"},
-                                   {"#f0e442", "#000", "#7d7300", "#fbf8cd"}, {"#0072b2", "#fff", "#004f7c", "#cce3f0"},
-                                   {"#cc79a7", "#000", "#93406e", "#f5e4ed"}, {"#009e73", "#000", "#006b4e", "#ccece3"},
-                                   {"#e69f00", "#000", "#8a5f00", "#faeccc"}, {"#a0a0a0", "#000", "#595959", "#ececec"}};
+  static const colour colours[] = {{"#56b4e9", "#000", "#0a639a", "#c4e5f7"}, {"#d55e00", "#000", "#a34700", "#f0c6a6"},
+                                   {"#f0e442", "#000", "#7d7300", "#faf6bd"}, {"#0072b2", "#fff", "#004f7c", "#a6cfe4"},
+                                   {"#cc79a7", "#000", "#93406e", "#edcfdf"}, {"#009e73", "#000", "#006b4e", "#a6dcce"},
+                                   {"#e69f00", "#000", "#8a5f00", "#f6dda6"}, {"#a0a0a0", "#000", "#595959", "#dedede"}};
   return colours[card % 8];
 }
 
@@ -47,8 +47,8 @@ void draw_blame(drawing *d, int x, int y, const seen_frame *f) {
   char text[TEXT];
   d->used[f->lie ? SIGN_LIE : SIGN_BLAME] = 1;
   put_hexagon(&d->s, x, y, box_width(f), 16, f->lie ? dark_red : colour_of(f->signer).dark, f->lie ? 2 : 1.5, f->lie);
-  snprintf(text, TEXT, "blames %u", f->round);
-  svg_text(&d->s, x + 4, y + 12, FONT_SMALL, NULL, NULL, text);
+  snprintf(text, TEXT, "blame %u", f->round);
+  svg_text(&d->s, x + 4, y + 12, FONT_BOLD, NULL, NULL, text);
 }
 
 void draw_token(drawing *d, int x, int y, const seen_frame *f, const char *text) {
@@ -58,12 +58,12 @@ void draw_token(drawing *d, int x, int y, const seen_frame *f, const char *text)
   const char *line = f->lie ? dark_red : c.dark;
   if (f->kind == APOLLO_BLOCK) put_rect(&d->s, x, y, w, 16, 8, c.fill, line, f->lie ? 2 : edge(f->signer), f->lie);
   else put_hexagon(&d->s, x, y, w, 16, line, f->lie ? 2 : 1.5, f->lie);
-  svg_text(&d->s, x + (w - svg_width(FONT_SMALL, text)) / 2, y + 12, FONT_SMALL, f->kind == APOLLO_BLOCK ? c.ink : NULL, NULL, text);
+  svg_text(&d->s, x + (w - svg_width(FONT_BOLD, text)) / 2, y + 12, FONT_BOLD, f->kind == APOLLO_BLOCK ? c.ink : NULL, NULL, text);
 }
 
 void draw_bundle(drawing *d, int x, int y, const char *text) {
   put_rect(&d->s, x, y, token_width(text), 16, 8, "#fff", "#000", 2, 0);
-  svg_text(&d->s, x + 4, y + 12, FONT_SMALL, NULL, NULL, text);
+  svg_text(&d->s, x + 4, y + 12, FONT_BOLD, NULL, NULL, text);
 }
 
 void draw_cell(drawing *d, int x, int y, const seen_frame *f, int other, const char *text) {
@@ -71,7 +71,7 @@ void draw_cell(drawing *d, int x, int y, const seen_frame *f, int other, const c
   int w = token_width(text);
   d->used[SIGN_LIST] = 1;
   put_rect(&d->s, x, y, w, 14, 0, c.fill, other || f->lie ? dark_red : "#000", other ? 2.5 : f->lie ? 2 : 1, f->lie);
-  svg_text(&d->s, x + (w - svg_width(FONT_SMALL, text)) / 2, y + 11, FONT_SMALL, c.ink, NULL, text);
+  svg_text(&d->s, x + (w - svg_width(FONT_BOLD, text)) / 2, y + 11, FONT_BOLD, c.ink, NULL, text);
 }
 
 void draw_cross(drawing *d, int x, int y) {
@@ -97,33 +97,34 @@ void draw_arrow(drawing *d, int x1, int y1, int x2, int y2, const seen_frame *f)
 
 /* ---- the legend */
 
-static const char *const meanings[SIGNS] = {"a block, put out by its round's leader; height: place in the list",
+static const char *const meanings[SIGNS] = {"a block, put out by its round's leader; height: its place in the list",
                                             "a blame: this card got no block of that round in time",
                                             "a block, a blame: from where it was put out to where it came",
                                             "handed in to the card: a block, a blame of that round",
                                             "the round that the card waits for, in the colour of its leader",
-                                            "a tick, and nothing came of it",
-                                            "no frame waited for the card",
-                                            "refused, with number and word: nothing changes",
-                                            "skipped: too many cards blamed the round, and none comes",
-                                            "SAFE: from here on that round's block is on the card's list for good",
+                                            "a tick: time passes, and nothing comes of it",
+                                            "nothing waited for the card",
+                                            "refused; number and word say why; nothing changes",
+                                            "skipped: more cards blamed the round than may fail",
+                                            "SAFE: added to the card's list for good, once f more rounds are passed",
                                             "THE LISTS PART: that card has another block in this place",
                                             "marked: that card signed two blocks for one round",
-                                            "a lie: a frame that no call put out",
+                                            "a lie: signed, though no call put it out",
                                             "for a while the card is not as it should be",
                                             "folded: a stretch in which nothing comes of the ticks"};
 
 static void put_sample_arrows(drawing *d, int x, int y) {
   for (int k = 0; k < 2; k++) {
-    seen_frame f = {.kind = k ? APOLLO_BLAME : APOLLO_BLOCK, .signer = 0};
+    seen_frame f = {.kind = k ? APOLLO_BLAME : APOLLO_BLOCK, .signer = d->p->setup.rotation[k ? 0 : 2]};
     draw_arrow(d, x, y + 6 + 10 * k, x + SAMPLE, y + 6 + 10 * k, &f);
   }
 }
 
 /* A sign as it is drawn in the lanes. */
 static void put_sample(drawing *d, sign which, int x, int y) {
-  seen_frame block = {.kind = APOLLO_BLOCK, .round = 3, .height = 2}, blame = {.kind = APOLLO_BLAME, .round = 2};
-  seen_frame lie = block;
+  const uint8_t *leads = d->p->setup.rotation;
+  seen_frame block = {.kind = APOLLO_BLOCK, .signer = leads[2], .round = 3, .height = 2};
+  seen_frame blame = {.kind = APOLLO_BLAME, .signer = leads[0], .round = 2}, lie = block;
   svg *s = &d->s;
   lie.lie = 1;
   if (which == SIGN_BLOCK) draw_block(d, x, y, &block);
@@ -131,14 +132,14 @@ static void put_sample(drawing *d, sign which, int x, int y) {
   if (which == SIGN_ARROWS) put_sample_arrows(d, x, y);
   if (which == SIGN_HANDED) draw_token(d, x, y + 4, &block, "3");
   if (which == SIGN_HANDED) draw_token(d, x + 22, y + 4, &blame, "2");
-  if (which == SIGN_BAND) put_rect(s, x, y + 2, SAMPLE, 20, 0, colour_of(0).pale, "#ccc", 1, 0);
+  if (which == SIGN_BAND) put_rect(s, x, y + 2, SAMPLE, 20, 0, colour_of(leads[3 % d->p->setup.cards]).pale, "#ccc", 1, 0);
   if (which == SIGN_BAND) svg_text(s, x + 3, y + 16, FONT_PLAIN, "#333", NULL, "waits: 4");
   if (which == SIGN_DOT || which == SIGN_NOTHING)
     svg_put(s, "<circle cx=\"%d\" cy=\"%d\" r=\"3\" fill=\"%s\" stroke=\"#333\"/>\n", x + 6, y + 12,
             which == SIGN_DOT ? "#333" : "#fff");
   if (which == SIGN_REFUSED) draw_cross(d, x, y + 8);
-  if (which == SIGN_REFUSED) svg_text(s, x + 11, y + 16, FONT_BOLD, NULL, NULL, "10 stale");
-  if (which == SIGN_SKIPPED) draw_skip(d, x, y + 8, 0);
+  if (which == SIGN_REFUSED) svg_text(s, x + 11, y + 16, FONT_BOLD, NULL, NULL, d->refused);
+  if (which == SIGN_SKIPPED) draw_skip(d, x, y + 8, leads[1]);
   if (which == SIGN_SKIPPED) svg_text(s, x + 11, y + 16, FONT_BOLD, NULL, NULL, "skips 2");
   if (which == SIGN_LIST) draw_cell(d, x, y + 5, &block, 0, "3");
   if (which == SIGN_PARTED) draw_cell(d, x, y + 5, &block, 1, "3");

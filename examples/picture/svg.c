@@ -9,7 +9,7 @@
 static const struct {
   const char *name;
   int size, bold;
-} fonts[FONTS] = {{"h", 15, 1}, {"p", 11, 0}, {"t", 10, 0}, {"b", 10, 1}, {"n", 9, 1}};
+} fonts[FONTS] = {{"h", 15, 1}, {"p", 11, 0}, {"t", 10, 0}, {"b", 10, 1}};
 
 /* ---- text in memory */
 

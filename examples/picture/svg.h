@@ -11,7 +11,7 @@ typedef struct {
 } svg;
 
 /* Text of its class: see `fonts` in svg.c. */
-typedef enum { FONT_TITLE, FONT_NOTE, FONT_PLAIN, FONT_BOLD, FONT_SMALL, FONTS } font;
+typedef enum { FONT_TITLE, FONT_NOTE, FONT_PLAIN, FONT_BOLD, FONTS } font;
 
 /* As printf: for numbers and for text that is known to need no escape. */
 __attribute__((format(printf, 2, 3))) void svg_put(svg *s, const char *form, ...);
