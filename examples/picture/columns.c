@@ -11,9 +11,11 @@ static const char *const words[] = {"taken", "set-up", "record",    "term over",
                                     "early", "absent", "not a set", "bad rotation", "no equivocation"};
 const char *word_of(uint8_t number) { return number < sizeof words / sizeof *words ? words[number] : "unknown"; }
 
-int is_drawn(const picture *p, int m) {
-  uint32_t number = moment_at(p, m)->number;
-  return number >= p->from && number <= p->to;
+uint32_t in_window(const picture *p, int m) {
+  uint64_t first = moment_at(p, m)->number, last = first + moment_at(p, m)->folded;
+  if (first < p->from) first = p->from;
+  if (last > p->to) last = p->to;
+  return first > last ? 0 : (uint32_t)(last - first + 1);
 }
 
 static int most(int a, int b) { return a > b ? a : b; }
@@ -140,19 +142,25 @@ static void add_moment(drawing *d, int m) {
   }
 }
 
-/* How many moments, from this one on, make a quiet stretch, with those that were left out; and the last of them that was not. */
+/* How many moments, from this one on, make a quiet stretch that is too long to be drawn, with those that were left out; and its last
+ * one. 0: it is not. */
 static uint32_t stretch(const picture *p, int m, int *last) {
-  uint32_t count = 0;
-  for (; m < (int)p->moments.count && is_drawn(p, m) && is_quiet_moment(p, m); m++) {
-    count += 1 + moment_at(p, m)->folded;
+  uint32_t count = 0, left_out = 0;
+  for (; m < (int)p->moments.count && in_window(p, m) && is_quiet_moment(p, m); m++) {
+    count += in_window(p, m);
+    left_out += moment_at(p, m)->folded;
     *last = m;
   }
-  return count;
+  return count > QUIET_KEPT || left_out ? count : 0;
+}
+
+void fold_text(const picture *p, uint32_t count, char text[TEXT]) {
+  snprintf(text, TEXT, "%u %.40s%s", count, p->setup.unit, count == 1 ? "" : "s");
 }
 
 static void add_fold(drawing *d, int m, uint32_t count) {
   char text[TEXT];
-  snprintf(text, TEXT, "%u %ss", count, d->p->setup.unit);
+  fold_text(d->p, count, text);
   add_column(d, (column){.moment = m, .folded = count, .width = svg_width(FONT_BOLD, text) + 4});
   d->folds++;
   d->folded += count;
@@ -161,10 +169,10 @@ static void add_fold(drawing *d, int m, uint32_t count) {
 void make_columns(drawing *d) {
   const picture *p = d->p;
   for (int m = 0; m < (int)p->moments.count && !d->s.failed; m++) {
-    if (!is_drawn(p, m)) continue;
+    if (!in_window(p, m)) continue;
     int last = m;
     uint32_t quiet = stretch(p, m, &last);
-    if (quiet > QUIET_KEPT) add_fold(d, m = last, quiet);
+    if (quiet) add_fold(d, m = last, quiet);
     else add_moment(d, m);
   }
 }

@@ -67,7 +67,7 @@ colour colour_of(int card);
 static inline column *column_at(const drawing *d, int k) { return (column *)d->columns.at + k; }
 
 /* columns.c */
-int is_drawn(const picture *p, int m); /* is the moment in the window? */
+uint32_t in_window(const picture *p, int m); /* how many it stands for there: 1, with those that were folded into it, or 0 */
 void make_columns(drawing *d);
 int tag_of(const drawing *d, const event *e, char text[TEXT]); /* what is said of a call, and the width with its sign; 0: nothing */
 void token_text(const picture *p, const event *e, size_t k, char text[TEXT]);
@@ -75,6 +75,7 @@ const char *word_of(uint8_t number); /* of a refusal */
 int tokens(const event *e);          /* how many: of many frames one for all */
 void cell_text(const picture *p, const event *e, size_t k, char text[TEXT]);
 int cells(const event *e);
+void fold_text(const picture *p, uint32_t count, char text[TEXT]);
 int token_width(const char *text);
 int tokens_width(const picture *p, const event *e);             /* of all, with the space after them */
 int box_width(const seen_frame *f);                             /* of a block or a blame where it was emitted */

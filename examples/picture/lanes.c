@@ -75,7 +75,7 @@ static void draw_axis(drawing *d) {
     }
     if (!c->folded) continue;
     d->used[SIGN_FOLD] = 1;
-    snprintf(text, TEXT, "%u %ss", c->folded, p->setup.unit);
+    fold_text(p, c->folded, text);
     svg_put(&d->s, "<rect x=\"%d\" y=\"%d\" width=\"%d\" height=\"%d\" fill=\"url(#fold)\"/>\n", c->x - 1, d->y + AXIS - 4, c->width,
             d->foot - d->y - AXIS + 4);
     svg_text(&d->s, c->x, d->y + 9, FONT_BOLD, "#555", NULL, "quiet:");
@@ -255,7 +255,9 @@ static void put_list(drawing *d, const event *e, int x, int y) {
 /* What a pointer over it shows: the line that rehearse prints, in words. */
 static void put_title(drawing *d, const event *e) {
   const moment *m = moment_at(d->p, e->moment);
-  svg_put(&d->s, "<title>%s %u", d->p->setup.unit, m->number);
+  svg_put(&d->s, "<title>");
+  svg_escaped(&d->s, d->p->setup.unit);
+  svg_put(&d->s, " %u", m->number);
   if (m->label[0]) svg_put(&d->s, ", ");
   svg_escaped(&d->s, m->label);
   svg_put(&d->s, ": card %d", e->card);
@@ -296,12 +298,13 @@ static void draw_header(drawing *d, int card) {
   const lane_state *c = &d->p->cards[card];
   int y = d->rows[card][ROW_BAND];
   colour k = colour_of(card);
-  char text[TEXT];
+  char text[TEXT], word[WORD];
   svg_put(&d->s, "<rect x=\"4\" y=\"%d\" width=\"10\" height=\"24\" fill=\"%s\" stroke=\"%s\" stroke-width=\"%s\"/>\n", y, k.fill,
           k.dark, card < 8 ? "1" : "2.5");
   snprintf(text, TEXT, "card %d", card);
   svg_text(&d->s, 20, y + (c->word[0] ? 10 : 16), FONT_BOLD, NULL, NULL, text);
-  if (c->word[0]) svg_text(&d->s, 20, y + 21, FONT_PLAIN, NULL, NULL, c->word);
+  snprintf(word, sizeof word, "%.*s", (int)svg_fitting(FONT_PLAIN, c->word, LEFT - 22), c->word);
+  if (c->word[0]) svg_text(&d->s, 20, y + 21, FONT_PLAIN, NULL, NULL, word);
   snprintf(text, TEXT, d->cards[card].listed ? "safe list, %u" : "safe list", d->cards[card].listed);
   if (d->rows[card][ROW_LIST] != NOWHERE) svg_text(&d->s, 20, d->rows[card][ROW_LIST] + 11, FONT_PLAIN, "#555", NULL, text);
   put_marks(d, card);

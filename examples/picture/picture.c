@@ -62,8 +62,9 @@ static void put_remarks(drawing *d) {
     put_lines(d, FONT_NOTE, text);
   }
   if (d->folds > 0) {
-    snprintf(text, sizeof text, "%u %ss in which nothing happens are folded, in %d place%s.", d->folded, p->setup.unit, d->folds,
-             d->folds == 1 ? "" : "s");
+    char folded[TEXT];
+    fold_text(p, d->folded, folded);
+    snprintf(text, sizeof text, "Folded, since nothing happens: %s in %d place%s.", folded, d->folds, d->folds == 1 ? "" : "s");
     put_lines(d, FONT_NOTE, text);
   }
   if (d->parts > 1)
@@ -173,7 +174,7 @@ const char *picture_write(picture *p, const char *path) {
   p->is_done = 1;
   for (size_t k = 0; k < p->events.count; k++) event_at(p, k)->column = NOWHERE;
   int some = 0;
-  for (int m = 0; m < (int)p->moments.count; m++) some |= is_drawn(p, m);
+  for (int m = 0; m < (int)p->moments.count; m++) some |= in_window(p, m) > 0;
   if (some) draw(&d);
   svg_put(&d.s, "</svg>\n");
   put_head(&head, &d);
