@@ -63,6 +63,7 @@ typedef struct {
   const char *fill, *ink, *dark, *pale;
 } colour;
 colour colour_of(int card);
+extern const char dark_red[]; /* for what is wrong */
 
 static inline column *column_at(const drawing *d, int k) { return (column *)d->columns.at + k; }
 

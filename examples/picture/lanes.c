@@ -249,7 +249,7 @@ static void put_list(drawing *d, const event *e, int x, int y) {
   if (e->parts == NOWHERE) return;
   d->used[SIGN_PARTED] = 1;
   snprintf(text, TEXT, "\xE2\x89\xA0 card %d", e->parts);
-  svg_text(&d->s, x + 3, y + 11, FONT_BOLD, "#a00020", "#fff", text);
+  svg_text(&d->s, x + 3, y + 11, FONT_BOLD, dark_red, "#fff", text);
 }
 
 /* What a pointer over it shows: the line that rehearse prints, in words. */
@@ -303,8 +303,8 @@ static void draw_header(drawing *d, int card) {
           k.dark, card < 8 ? "1" : "2.5");
   snprintf(text, TEXT, "card %d", card);
   svg_text(&d->s, 20, y + (c->word[0] ? 10 : 16), FONT_BOLD, NULL, NULL, text);
-  snprintf(word, sizeof word, "%.*s", (int)svg_fitting(FONT_PLAIN, c->word, LEFT - 22), c->word);
-  if (c->word[0]) svg_text(&d->s, 20, y + 21, FONT_PLAIN, NULL, NULL, word);
+  snprintf(word, sizeof word, "%.*s", (int)svg_fitting(FONT_BOLD, c->word, LEFT - 22), c->word);
+  if (c->word[0]) svg_text(&d->s, 20, y + 21, FONT_BOLD, dark_red, NULL, word);
   snprintf(text, TEXT, d->cards[card].listed ? "safe list, %u" : "safe list", d->cards[card].listed);
   if (d->rows[card][ROW_LIST] != NOWHERE) svg_text(&d->s, 20, d->rows[card][ROW_LIST] + 11, FONT_PLAIN, "#555", NULL, text);
   put_marks(d, card);

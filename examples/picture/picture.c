@@ -55,10 +55,11 @@ static int fill_part(drawing *d, int first) {
 static void put_remarks(drawing *d) {
   const picture *p = d->p;
   char text[256];
-  int count = (int)p->moments.count;
-  if (p->from > 0 || p->to < moment_at(p, count - 1)->number) {
-    snprintf(text, sizeof text, "Only %ss %u to %u are drawn; the run has %u.", p->setup.unit, p->from, p->to,
-             moment_at(p, count - 1)->number);
+  const moment *last = moment_at(p, (int)p->moments.count - 1);
+  uint32_t end = last->number + last->folded;
+  if (p->from > 0 || p->to < end) {
+    snprintf(text, sizeof text, "Only %ss %u to %u are drawn, of a run up to %s %u.", p->setup.unit, p->from, p->to < end ? p->to : end,
+             p->setup.unit, end);
     put_lines(d, FONT_NOTE, text);
   }
   if (d->folds > 0) {

@@ -4,7 +4,7 @@
 #include <stdio.h>
 #include <string.h>
 
-static const char dark_red[] = "#a00020";
+const char dark_red[] = "#a00020";
 
 /* Okabe and Ito's colours, which colour-blind readers tell apart, with the first three far apart in grey too. */
 colour colour_of(int card) {
