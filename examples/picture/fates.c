@@ -5,12 +5,13 @@
 #include <stdlib.h>
 #include <string.h>
 
+enum { FATE = 160, LINE = 15 };
+
 typedef struct {
   int shown, blocks, other; /* in the window; blocks put out for it; whether it is on a list that parted */
   int first, last, commits; /* the calls that committed it */
   int skips;
   uint16_t blamed;
-  uint32_t height;
 } fate;
 
 static void note_frame(const picture *p, fate *fates, const event *e, int frame, int shown) {
@@ -19,9 +20,7 @@ static void note_frame(const picture *p, fate *fates, const event *e, int frame,
   fate *t = &fates[f->round];
   t->shown |= shown;
   if (f->kind == APOLLO_BLAME && f->signer < p->setup.cards) t->blamed |= (uint16_t)(1u << f->signer);
-  if (f->kind != APOLLO_BLOCK) return;
-  t->blocks += event_at(p, (size_t)f->emitted) == e;
-  t->height = f->height;
+  if (f->kind == APOLLO_BLOCK) t->blocks += event_at(p, (size_t)f->emitted) == e;
 }
 
 static void note_event(const picture *p, fate *fates, int k) {
@@ -37,14 +36,13 @@ static void note_event(const picture *p, fate *fates, int k) {
     int frame = word_at(p, e->commits, j);
     fate *t = &fates[frame_at(p, frame)->round];
     t->shown |= shown;
-    t->height = frame_at(p, frame)->height;
     t->other |= is_other(p, e, frame);
     if (t->commits++ == 0) t->first = k;
     t->last = k;
   }
 }
 
-static void add_text(char *to, const char *what) { snprintf(to + strlen(to), TEXT - strlen(to), "%s", what); }
+static void add_text(char *to, const char *what) { snprintf(to + strlen(to), FATE - strlen(to), "%s", what); }
 
 static void add_number(char *to, const char *form, uint32_t number) {
   char text[TEXT];
@@ -64,11 +62,12 @@ static void add_safe(const picture *p, char *to, const fate *t) {
 }
 
 static void add_blamed(char *to, uint16_t blamed) {
-  int left = 0, many = 0;
-  for (int i = 0; i < APOLLO_MAX_REPLICAS; i++) left += blamed >> i & 1;
-  add_text(to, left == 1 ? "blamed by card " : "blamed by cards ");
-  for (int i = 0; i < APOLLO_MAX_REPLICAS; i++)
-    if (blamed >> i & 1) add_number(to, !many++ ? "%u" : many == left ? " and %u" : ", %u", (uint32_t)i);
+  int all = 0, many = 0;
+  for (int i = 0; i < APOLLO_MAX_REPLICAS; i++) all += blamed >> i & 1;
+  add_text(to, "blamed by ");
+  for (int i = 0; i < APOLLO_MAX_REPLICAS && all <= 4; i++)
+    if (blamed >> i & 1) add_number(to, !many++ ? "%u" : many == all ? " and %u" : ", %u", (uint32_t)i);
+  if (all > 4) add_number(to, "%u cards", (uint32_t)all);
   add_text(to, "; ");
 }
 
@@ -90,26 +89,36 @@ static void tell(const drawing *d, char *to, const fate *t) {
   if (t->other) add_text(to, "; LISTS PART");
 }
 
-static void put_fate(drawing *d, uint32_t round, const fate *t, int x, int y) {
+/* Whose round it was. */
+static int name_round(const drawing *d, uint32_t round, char text[TEXT]) {
   int leader = d->p->setup.rotation[(round - 1) % (uint32_t)d->p->setup.cards];
-  char text[TEXT];
-  colour c = colour_of(leader);
-  svg_put(&d->s, "<rect x=\"%d\" y=\"%d\" width=\"9\" height=\"9\" fill=\"%s\" stroke=\"%s\"/>\n", x, y + 2, c.fill, c.dark);
   snprintf(text, TEXT, "round %u, card %d:", round, leader);
-  svg_text(&d->s, x + 14, y + 10, FONT_BOLD, NULL, NULL, text);
-  x += 14 + svg_width(FONT_BOLD, text) + 3;
-  tell(d, text, t);
-  svg_text(&d->s, x, y + 10, FONT_PLAIN, NULL, NULL, text);
+  return leader;
 }
 
-/* In two columns, the first one down first, as far as a page goes. */
-static void put_fates(drawing *d, const fate *fates, int count) {
-  enum { LINE = 15 };
+static int fate_width(const drawing *d, uint32_t round, const fate *t) {
+  char name[TEXT], text[FATE];
+  name_round(d, round, name);
+  tell(d, text, t);
+  return 17 + svg_width(FONT_BOLD, name) + svg_width(FONT_PLAIN, text);
+}
+
+static void put_fate(drawing *d, uint32_t round, const fate *t, int x, int y) {
+  char name[TEXT], text[FATE];
+  colour c = colour_of(name_round(d, round, name));
+  svg_put(&d->s, "<rect x=\"%d\" y=\"%d\" width=\"9\" height=\"9\" fill=\"%s\" stroke=\"%s\"/>\n", x, y + 2, c.fill, c.dark);
+  svg_text(&d->s, x + 14, y + 10, FONT_BOLD, NULL, NULL, name);
+  tell(d, text, t);
+  svg_text(&d->s, x + 17 + svg_width(FONT_BOLD, name), y + 10, FONT_PLAIN, NULL, NULL, text);
+}
+
+/* In two columns if there is room, the first one down first, as far as a page goes. */
+static void put_fates(drawing *d, const fate *fates, int count, int columns) {
   uint32_t round = 0;
   while (count > 0) {
-    int room = (PAGE - d->y % PAGE) / LINE, rows = (count + 1) / 2;
+    int room = (PAGE - d->y % PAGE) / LINE, rows = (count + columns - 1) / columns;
     if (rows > room) rows = room;
-    for (int k = 0; k < 2 * rows && count > 0; k++, count--) {
+    for (int k = 0; k < columns * rows && count > 0; k++, count--) {
       do round++;
       while (!fates[round].shown);
       put_fate(d, round, &fates[round], k < rows ? 4 : WIDTH / 2, d->y + k % rows * LINE);
@@ -122,15 +131,18 @@ static void put_fates(drawing *d, const fate *fates, int count) {
 void draw_fates(drawing *d) {
   const picture *p = d->p;
   fate *fates = calloc(p->setup.rounds + 1, sizeof *fates);
-  int count = 0;
+  int count = 0, wide = 0;
   if (!fates) d->s.failed = 1;
   if (!fates) return;
   for (size_t k = 0; k < p->events.count; k++)
     if (moment_at(p, event_at(p, k)->moment)->number <= p->to) note_event(p, fates, (int)k);
-  for (uint32_t r = 1; r <= p->setup.rounds; r++) count += fates[r].shown;
+  for (uint32_t r = 1; r <= p->setup.rounds; r++) {
+    count += fates[r].shown;
+    if (fates[r].shown && fate_width(d, r, &fates[r]) > wide) wide = fate_width(d, r, &fates[r]);
+  }
   if (d->y % PAGE + 50 > PAGE) d->y += PAGE - d->y % PAGE;
   svg_text(&d->s, 4, d->y + 11, FONT_BOLD, NULL, NULL, "What became of each round");
   d->y += 17;
-  put_fates(d, fates, count);
+  put_fates(d, fates, count, wide < WIDTH / 2 - 8 ? 2 : 1);
   free(fates);
 }
