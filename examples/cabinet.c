@@ -80,6 +80,7 @@ static struct {
   picture *picture;                                       /* of the run, if one is asked for; the file, and the ticks to be drawn */
   const char *path;
   uint32_t from, to;
+  int has_window;
 } cabinet;
 
 static _Noreturn void stop(const char *why) {
@@ -937,6 +938,7 @@ static void read_ticks(const char *text) {
   memcpy(from, text, len);
   cabinet.from = number(from, 0, UINT32_MAX);
   cabinet.to = number(text + len + 1, cabinet.from, UINT32_MAX);
+  cabinet.has_window = 1;
 }
 
 /* Reads one option; the count of words that it took. */
@@ -984,7 +986,7 @@ static void read_options(int argc, char **argv) {
     if (argv[i][0] == '-' || plain == 3) i += option(argv[i], i + 1 < argc ? argv[i + 1] : NULL);
     else option(names[plain++], argv[i++]);
   }
-  if (cabinet.n % 2 == 0 || (!cabinet.path && cabinet.to < UINT32_MAX)) wrong_usage();
+  if (cabinet.n % 2 == 0 || (!cabinet.path && cabinet.has_window)) wrong_usage();
   cabinet.first_seed = cabinet.seed;
   cabinet.f = (cabinet.n - 1) / 2;
   choose_rotation();

@@ -87,8 +87,8 @@ void pass_event(drawing *d, const event *e); /* how its card stands after it */
 void draw_part(drawing *d, int first, int end);
 
 /* signs.c */
-void draw_block(drawing *d, int x, int y, const seen_frame *f);
-void draw_blame(drawing *d, int x, int y, const seen_frame *f);
+void draw_block(drawing *d, int x, int y, const seen_frame *f, int lie);
+void draw_blame(drawing *d, int x, int y, const seen_frame *f, int lie);
 void draw_token(drawing *d, int x, int y, const seen_frame *f, const char *text);
 void draw_bundle(drawing *d, int x, int y, const char *text);
 void draw_cell(drawing *d, int x, int y, const seen_frame *f, int other, const char *text);

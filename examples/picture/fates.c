@@ -9,7 +9,8 @@ enum { FATE = 160, LINE = 15 };
 
 typedef struct {
   int shown, blocks, other; /* in the window; blocks put out for it; whether it is on a list that parted */
-  int first, last, commits; /* the calls that committed it */
+  int first, last, commits; /* the calls that committed it: the first, and the first of the last card; and how many cards did */
+  uint16_t safe;            /* at these */
   int skips;
   uint16_t blamed;
 } fate;
@@ -37,6 +38,8 @@ static void note_event(const picture *p, fate *fates, int k) {
     fate *t = &fates[frame_at(p, frame)->round];
     t->shown |= shown;
     t->other |= is_other(p, e, frame);
+    if (t->safe >> e->card & 1) continue; /* a card that was opened again */
+    t->safe |= (uint16_t)(1u << e->card);
     if (t->commits++ == 0) t->first = k;
     t->last = k;
   }

@@ -5,7 +5,7 @@
 #include <string.h>
 
 static const int row_height[ROWS] = {13, 13, 20, 26, 17};
-enum { GAP = 12, AXIS = 26 };
+enum { MOST_GAP = 12, AXIS = 26 };
 
 /* The part's events: those that are drawn in its columns. */
 static event *next_event(const drawing *d, size_t *k) {
@@ -44,18 +44,27 @@ static void find_rows(const drawing *d, int needs[APOLLO_MAX_REPLICAS][ROWS]) {
   }
 }
 
+/* What is left between the lanes, so that a page takes all of them. */
+static int gap_of(int cards, int needs[APOLLO_MAX_REPLICAS][ROWS]) {
+  int left = PAGE - AXIS;
+  for (int i = 0; i < cards; i++)
+    for (int r = 0; r < ROWS; r++) left -= needs[i][r] ? row_height[r] : 0;
+  return left / cards < MOST_GAP ? left / cards : MOST_GAP;
+}
+
 /* Gives the height of the part's lanes, and where their rows are. */
 static int place_rows(drawing *d) {
   int needs[APOLLO_MAX_REPLICAS][ROWS] = {{0}}, y = d->y + AXIS;
   find_rows(d, needs);
+  int gap = gap_of(d->p->setup.cards, needs);
   for (int i = 0; i < d->p->setup.cards; i++) {
     for (int r = 0; r < ROWS; r++) {
       d->rows[i][r] = needs[i][r] ? y : NOWHERE;
       if (needs[i][r]) y += row_height[r];
     }
-    y += GAP;
+    y += gap;
   }
-  return y - GAP / 2 - d->y;
+  return y - (gap + 1) / 2 - d->y;
 }
 
 /* ---- time, from left to right */
@@ -228,7 +237,7 @@ static void put_frames(drawing *d, const event *e, int x, int y) {
     svg_put(&d->s, "<circle cx=\"%d\" cy=\"%d\" r=\"3\" fill=\"%s\" stroke=\"#333\"/>\n", x + 4, y + 8,
             e->kind == PICTURE_NOTHING ? "#fff" : "#333");
   }
-  if (blame != NOWHERE) draw_blame(d, x, y, frame_at(d->p, blame));
+  if (blame != NOWHERE) draw_blame(d, x, y, frame_at(d->p, blame), e->is_lie);
   for (int k = 0; k < tokens(e); k++) {
     const seen_frame *f = frame_at(d->p, word_at(d->p, e->ins, (size_t)k));
     token_text(d->p, e, (size_t)k, text);
@@ -275,7 +284,7 @@ static void draw_event(drawing *d, const event *e) {
   put_title(d, e);
   put_tag(d, e, x, rows[ROW_TAG]);
   put_frames(d, e, x, rows[ROW_FRAMES]);
-  if (block != NOWHERE) draw_block(d, box_x(d, e), rows[ROW_BAND], frame_at(d->p, block));
+  if (block != NOWHERE) draw_block(d, box_x(d, e), rows[ROW_BAND], frame_at(d->p, block), e->is_lie);
   put_list(d, e, x, rows[ROW_LIST]);
   svg_put(&d->s, "</g>\n");
 }
@@ -289,7 +298,7 @@ static void put_marks(drawing *d, int card) {
   if (!d->marked_by[card]) return;
   for (int i = 0; i < APOLLO_MAX_REPLICAS; i++)
     if (d->marked_by[card] >> i & 1) snprintf(text + strlen(text), TEXT - strlen(text), many++ ? ",%d" : "%d", i);
-  if (many > 4) snprintf(text, TEXT, "by %d cards", many);
+  if (svg_width(FONT_PLAIN, text) > LEFT - 34) snprintf(text, TEXT, "by %d cards", many);
   draw_flag(d, 20, y + 3, card);
   svg_text(&d->s, 32, y + 12, FONT_PLAIN, NULL, NULL, text);
 }
@@ -332,7 +341,7 @@ void draw_part(drawing *d, int first, int end) {
   d->right = column_at(d, end - 1)->x + column_at(d, end - 1)->width + 2;
   note_marks(d);
   int height = place_rows(d);
-  if (d->y % PAGE + height > PAGE && height <= PAGE) {
+  if (d->y % PAGE + height > PAGE) {
     d->y += PAGE - d->y % PAGE;
     place_rows(d);
   }

@@ -1,5 +1,5 @@
 /* picture.c: the whole picture, and its file. */
-#define _POSIX_C_SOURCE 200809L
+#define _XOPEN_SOURCE 700
 #include "drawing.h"
 
 #include <errno.h>
@@ -144,27 +144,39 @@ static int put_file(const char *path, const svg *head, const svg *body) {
   return fclose(to) == 0 && good;
 }
 
-/* Under another name first, which takes the place of the old file when all is written. What is no file, a terminal say, is written to.
- */
-static const char *replace_file(const char *path, const svg *head, const svg *body) {
-  struct stat old;
+/* The file that a path stands for, links followed: a copy, or NULL with the reason in errno. A new file stands for itself. */
+static char *true_path(const char *path) {
+  struct stat there;
+  return lstat(path, &there) == 0 ? realpath(path, NULL) : strdup(path);
+}
+
+/* Under another name first, which takes the file's place when all is written. */
+static int put_beside(const char *path, const svg *head, const svg *body) {
   size_t len = strlen(path);
   char *beside = malloc(len + sizeof ".new");
-  const char *why = NULL;
-  if (!beside) return "no memory";
+  if (!beside) return 0;
   memcpy(beside, path, len);
   memcpy(beside + len, ".new", sizeof ".new");
-  errno = 0;
-  int exists = stat(path, &old) == 0;
-  if (exists && S_ISDIR(old.st_mode)) why = "it is a folder";
-  else if (exists && !S_ISREG(old.st_mode)) why = put_file(path, head, body) ? NULL : strerror(errno);
-  else if (exists && access(path, W_OK) != 0) why = strerror(errno);
-  else if (!put_file(beside, head, body) || rename(beside, path) != 0) {
-    why = strerror(errno);
-    remove(beside);
-  }
+  int good = put_file(beside, head, body) && rename(beside, path) == 0, why = errno;
+  if (!good) remove(beside);
+  errno = why;
   free(beside);
-  return why;
+  return good;
+}
+
+/* What is no file, a terminal say, is written to: nothing can take its place. */
+static const char *replace_file(const char *path, const svg *head, const svg *body) {
+  struct stat old;
+  char *file = true_path(path);
+  if (!file) return strerror(errno);
+  int exists = stat(file, &old) == 0, good = 0;
+  errno = exists && S_ISDIR(old.st_mode) ? EISDIR : 0;
+  if (exists && S_ISREG(old.st_mode)) good = access(file, W_OK) == 0 && put_beside(file, head, body);
+  else if (exists && !S_ISDIR(old.st_mode)) good = put_file(file, head, body);
+  else if (!exists) good = put_beside(file, head, body);
+  int why = errno;
+  free(file);
+  return good ? NULL : strerror(why);
 }
 
 const char *picture_write(picture *p, const char *path) {

@@ -11,7 +11,7 @@ colour colour_of(int card) {
   static const colour colours[] = {{"#56b4e9", "#000", "#0a639a", "#c4e5f7"}, {"#d55e00", "#000", "#a34700", "#f0c6a6"},
                                    {"#f0e442", "#000", "#7d7300", "#faf6bd"}, {"#0072b2", "#fff", "#004f7c", "#a6cfe4"},
                                    {"#cc79a7", "#000", "#93406e", "#edcfdf"}, {"#009e73", "#000", "#006b4e", "#a6dcce"},
-                                   {"#e69f00", "#000", "#8a5f00", "#f6dda6"}, {"#a0a0a0", "#000", "#595959", "#dedede"}};
+                                   {"#e69f00", "#000", "#8a5f00", "#f6dda6"}, {"#c0c0c0", "#000", "#595959", "#dedede"}};
   return colours[card % 8];
 }
 
@@ -26,11 +26,11 @@ static void put_rect(svg *s, int x, int y, int w, int h, int round, const char *
   svg_put(s, "%s/>\n", dashed ? " stroke-dasharray=\"3 2\"" : "");
 }
 
-void draw_block(drawing *d, int x, int y, const seen_frame *f) {
+void draw_block(drawing *d, int x, int y, const seen_frame *f, int lie) {
   colour c = colour_of(f->signer);
   char text[TEXT];
-  d->used[f->lie ? SIGN_LIE : SIGN_BLOCK] = 1;
-  put_rect(&d->s, x, y, box_width(f), 24, 3, c.fill, f->lie ? dark_red : c.dark, f->lie ? 2 : edge(f->signer), f->lie);
+  d->used[lie ? SIGN_LIE : SIGN_BLOCK] = 1;
+  put_rect(&d->s, x, y, box_width(f), 24, 3, c.fill, lie ? dark_red : c.dark, lie ? 2 : edge(f->signer), lie);
   snprintf(text, TEXT, "round %u", f->round);
   svg_text(&d->s, x + 3, y + 10, FONT_BOLD, c.ink, NULL, text);
   snprintf(text, TEXT, "height %u", f->height);
@@ -43,10 +43,10 @@ static void put_hexagon(svg *s, int x, int y, int w, int h, const char *stroke, 
           h / 2, h / 2, 10 - w, h / 2, stroke, width, dashed ? " stroke-dasharray=\"3 2\"" : "");
 }
 
-void draw_blame(drawing *d, int x, int y, const seen_frame *f) {
+void draw_blame(drawing *d, int x, int y, const seen_frame *f, int lie) {
   char text[TEXT];
-  d->used[f->lie ? SIGN_LIE : SIGN_BLAME] = 1;
-  put_hexagon(&d->s, x, y, box_width(f), 16, f->lie ? dark_red : colour_of(f->signer).dark, f->lie ? 2 : 1.5, f->lie);
+  d->used[lie ? SIGN_LIE : SIGN_BLAME] = 1;
+  put_hexagon(&d->s, x, y, box_width(f), 16, lie ? dark_red : colour_of(f->signer).dark, lie ? 2 : 1.5, lie);
   snprintf(text, TEXT, "blame %u", f->round);
   svg_text(&d->s, x + 4, y + 12, FONT_BOLD, NULL, NULL, text);
 }
@@ -124,11 +124,10 @@ static void put_sample_arrows(drawing *d, int x, int y) {
 static void put_sample(drawing *d, sign which, int x, int y) {
   const uint8_t *leads = d->p->setup.rotation;
   seen_frame block = {.kind = APOLLO_BLOCK, .signer = leads[2], .round = 3, .height = 2};
-  seen_frame blame = {.kind = APOLLO_BLAME, .signer = leads[0], .round = 2}, lie = block;
+  seen_frame blame = {.kind = APOLLO_BLAME, .signer = leads[0], .round = 2};
   svg *s = &d->s;
-  lie.lie = 1;
-  if (which == SIGN_BLOCK) draw_block(d, x, y, &block);
-  if (which == SIGN_BLAME) draw_blame(d, x, y + 4, &blame);
+  if (which == SIGN_BLOCK) draw_block(d, x, y, &block, 0);
+  if (which == SIGN_BLAME) draw_blame(d, x, y + 4, &blame, 0);
   if (which == SIGN_ARROWS) put_sample_arrows(d, x, y);
   if (which == SIGN_HANDED) draw_token(d, x, y + 4, &block, "3");
   if (which == SIGN_HANDED) draw_token(d, x + 22, y + 4, &blame, "2");
@@ -145,7 +144,7 @@ static void put_sample(drawing *d, sign which, int x, int y) {
   if (which == SIGN_PARTED) draw_cell(d, x, y + 5, &block, 1, "3");
   if (which == SIGN_PARTED) svg_text(s, x + 21, y + 16, FONT_BOLD, dark_red, NULL, "\xE2\x89\xA0 ..");
   if (which == SIGN_MARK) draw_flag(d, x, y + 7, 0);
-  if (which == SIGN_LIE) draw_block(d, x, y, &lie);
+  if (which == SIGN_LIE) draw_block(d, x, y, &block, 1);
   if (which == SIGN_PHASE) put_rect(s, x, y + 6, SAMPLE, 12, 0, "url(#away)", "#555", 1, 0);
   if (which == SIGN_FOLD) svg_put(s, "<rect x=\"%d\" y=\"%d\" width=\"%d\" height=\"22\" fill=\"url(#fold)\"/>\n", x, y + 1, SAMPLE);
 }

@@ -69,19 +69,24 @@ void svg_escaped(svg *s, const char *text) {
 
 /* ---- text as it is seen */
 
-/* In hundredths of the size, from the space to the tilde: DejaVu Sans, which is wide. Other characters count as the widest. */
-static int wide(uint32_t c) {
-  static const uint8_t ascii[] = {32, 41, 46, 84, 64, 96, 78, 28, 40,  40, 50, 84, 32, 37, 32, 34, 64, 64, 64, 64, 64, 64, 64, 64,
-                                  64, 64, 34, 34, 84, 84, 84, 54, 100, 69, 69, 70, 77, 64, 58, 78, 76, 30, 30, 66, 56, 87, 75, 79,
-                                  61, 79, 70, 64, 62, 74, 69, 99, 69,  62, 69, 40, 34, 40, 84, 50, 50, 62, 64, 55, 64, 62, 36, 64,
-                                  64, 28, 28, 58, 28, 98, 64, 62, 64,  64, 42, 53, 40, 64, 60, 82, 60, 60, 53, 64, 34, 64, 84};
+/* In hundredths of the size: DejaVu Sans, plain and bold, which is wide. From the space to the tilde; other characters are not wider
+ * than the widest of these. */
+static int wide(font f, uint32_t c) {
+  static const uint8_t ascii[2][95] = {
+      {32,  41, 46, 84, 64, 96, 78, 28, 40, 40, 50, 84, 32, 37, 32, 34, 64, 64, 64, 64, 64, 64, 64, 64, 64, 64, 34, 34, 84, 84, 84, 54,
+       100, 69, 69, 70, 77, 64, 58, 78, 76, 30, 30, 66, 56, 87, 75, 79, 61, 79, 70, 64, 62, 74, 69, 99, 69, 62, 69, 40, 34, 40, 84, 50,
+       50,  62, 64, 55, 64, 62, 36, 64, 64, 28, 28, 58, 28, 98, 64, 62, 64, 64, 42, 53, 40, 64, 60, 82, 60, 60, 53, 64, 34, 64, 84},
+      {35, 46, 53, 84, 70, 101, 88, 31,  46,  46, 53, 84, 38, 42, 38, 37, 70, 70, 70, 70, 70, 70,  70, 70,
+       70, 70, 40, 40, 84, 84,  84, 58,  100, 78, 77, 74, 83, 69, 69, 83, 84, 38, 38, 78, 64, 100, 84, 85,
+       74, 85, 77, 73, 69, 82,  78, 111, 78,  73, 73, 46, 37, 46, 84, 50, 50, 68, 72, 60, 72, 68,  44, 72,
+       72, 35, 35, 67, 35, 105, 72, 69,  72,  72, 50, 60, 48, 72, 66, 93, 65, 66, 59, 72, 37, 72,  84}};
   if (c == 0) c = '?';
-  return c < 0x20 + sizeof ascii ? ascii[c - 0x20] : 100;
+  return c < 0x20 + sizeof ascii[0] ? ascii[fonts[f].bold][c - 0x20] : 111;
 }
 
 int svg_width(font f, const char *text) {
   int hundredths = 0;
-  for (size_t len; *text; text += len) hundredths += wide(character(text, &len)) + (fonts[f].bold ? 8 : 0);
+  for (size_t len; *text; text += len) hundredths += wide(f, character(text, &len));
   return (hundredths * fonts[f].size + 99) / 100;
 }
 
@@ -92,7 +97,7 @@ size_t svg_fitting(font f, const char *text, int units) {
   int hundredths = 0;
   for (size_t len; text[at]; at += len) {
     if (text[at] == ' ') space = at;
-    hundredths += wide(character(text + at, &len)) + (fonts[f].bold ? 8 : 0);
+    hundredths += wide(f, character(text + at, &len));
     if (hundredths * fonts[f].size > 100 * units) return space ? space : at ? at : len;
   }
   return at;
