@@ -857,7 +857,7 @@ static const char usage[] =
     "  --picture FILE draw the run, as an SVG file for a browser\n"
     "  --ticks A-B    draw the ticks A to B alone: a picture has room for some hundred calls\n"
     "Ends with 0 if all lists agree, no entry is lost or misses a turn, every premise was kept and all cards that signed two blocks for\n"
-    "a round, and no other, are marked; with 1 if not; with 2 if it cannot run: a wrong option, say.\n";
+    "a round, and no other, are marked; with 1 if not; with 2 if it cannot run or draw: a wrong option, say, or no room on the disk.\n";
 
 static _Noreturn void wrong_usage(void) {
   fputs(usage, stderr);

@@ -6,10 +6,10 @@
 #include <string.h>
 
 /* The words of the repair sheets, and for 16 to 18, which they do not have, the header's. */
-static const char *const words[] = {"taken", "set-up", "record",    "term over",    "short tray",     "long entry", "cut",
+static const char *const sheet[] = {"taken", "set-up", "record",    "term over",    "short tray",     "long entry", "cut",
                                     "check", "form",   "parted",    "stale",        "loose",          "undone",     "unshown",
                                     "early", "absent", "not a set", "bad rotation", "no equivocation"};
-const char *word_of(uint8_t number) { return number < sizeof words / sizeof *words ? words[number] : "unknown"; }
+const char *refusal_word(uint8_t number) { return number < sizeof sheet / sizeof *sheet ? sheet[number] : "unknown"; }
 
 uint32_t in_window(const picture *p, int m) {
   uint64_t first = moment_at(p, m)->number, last = first + moment_at(p, m)->folded;
@@ -24,7 +24,7 @@ static int most(int a, int b) { return a > b ? a : b; }
 
 int emitted_of(const picture *p, const event *e, uint8_t kind) {
   for (size_t k = 0; k < e->outs.count && e->kind != PICTURE_FETCH; k++)
-    if (frame_at(p, word_at(p, e->outs, k))->kind == kind) return word_at(p, e->outs, k);
+    if (frame_at(p, linked_at(p, e->outs, k))->kind == kind) return linked_at(p, e->outs, k);
   return NOWHERE;
 }
 
@@ -55,7 +55,7 @@ int box_width(const seen_frame *f) {
 int tokens(const event *e) { return e->ins.count > MOST_TOKENS ? 1 : (int)e->ins.count; }
 
 void token_text(const picture *p, const event *e, size_t k, char text[TEXT]) {
-  const seen_frame *f = frame_at(p, word_at(p, e->ins, k));
+  const seen_frame *f = frame_at(p, linked_at(p, e->ins, k));
   if (e->ins.count <= MOST_TOKENS) snprintf(text, TEXT, "%u", f->round);
   else snprintf(text, TEXT, "%zu %s", e->ins.count, f->kind == APOLLO_BLOCK ? "blocks" : "blames");
 }
@@ -63,15 +63,15 @@ void token_text(const picture *p, const event *e, size_t k, char text[TEXT]) {
 int cells(const event *e) { return e->commits.count > MOST_TOKENS ? 1 : (int)e->commits.count; }
 
 void cell_text(const picture *p, const event *e, size_t k, char text[TEXT]) {
-  const seen_frame *f = frame_at(p, word_at(p, e->commits, k));
-  const seen_frame *last = frame_at(p, word_at(p, e->commits, e->commits.count - 1));
+  const seen_frame *f = frame_at(p, linked_at(p, e->commits, k));
+  const seen_frame *last = frame_at(p, linked_at(p, e->commits, e->commits.count - 1));
   if (e->commits.count <= MOST_TOKENS) snprintf(text, TEXT, "%u", f->round);
   else snprintf(text, TEXT, "%zu blocks, %u to %u", e->commits.count, f->round, last->round);
 }
 
 static void skip_text(const picture *p, const event *e, char text[TEXT]) {
-  if (e->skips.count == 1) snprintf(text, TEXT, "skips %d", word_at(p, e->skips, 0));
-  else if (e->skips.count == 2) snprintf(text, TEXT, "skips %d, %d", word_at(p, e->skips, 0), word_at(p, e->skips, 1));
+  if (e->skips.count == 1) snprintf(text, TEXT, "skips %d", linked_at(p, e->skips, 0));
+  else if (e->skips.count == 2) snprintf(text, TEXT, "skips %d, %d", linked_at(p, e->skips, 0), linked_at(p, e->skips, 1));
   else snprintf(text, TEXT, "skips %zu rounds", e->skips.count);
 }
 
@@ -79,10 +79,11 @@ int tag_of(const drawing *d, const event *e, char text[TEXT]) {
   int with_sign = e->number != APOLLO_TAKEN || e->skips.count > 0 || e->marks != NOWHERE;
   text[0] = 0;
   if (e->is_lie) snprintf(text, TEXT, "lie");
-  else if (e->number != APOLLO_TAKEN) snprintf(text, TEXT, "%u %s", e->number, word_of(e->number));
+  else if (e->number == APOLLO_NOT_CERTIFIED) snprintf(text, TEXT, "%u %s: %u", e->number, refusal_word(e->number), e->place);
+  else if (e->number != APOLLO_TAKEN) snprintf(text, TEXT, "%u %s", e->number, refusal_word(e->number));
   else if (e->marks != NOWHERE) snprintf(text, TEXT, "marks card %d", e->marks);
   else if (e->skips.count > 0) skip_text(d->p, e, text);
-  else if (e->kind == PICTURE_FETCH) snprintf(text, TEXT, "gives %zu blocks", e->outs.count);
+  else if (e->kind == PICTURE_FETCH) snprintf(text, TEXT, "gives %zu block%s", e->outs.count, e->outs.count == 1 ? "" : "s");
   else if (e->kind == PICTURE_OPEN && e->again) snprintf(text, TEXT, "opened again");
   return text[0] ? svg_width(FONT_BOLD, text) + (with_sign ? 11 : 0) + (e->ins.count > 0 ? TAG_SHIFT : 0) : 0;
 }
@@ -97,7 +98,7 @@ static int event_width(const drawing *d, const event *e) {
   if (block != NOWHERE) row += box_width(frame_at(p, block));
   wide = most(wide, row);
   if (blame != NOWHERE) wide = most(wide, box_width(frame_at(p, blame)));
-  row = e->parts == NOWHERE ? 0 : svg_width(FONT_BOLD, "\xE2\x89\xA0 card 10") + 2;
+  row = e->parts_from == NOWHERE ? 0 : svg_width(FONT_BOLD, "\xE2\x89\xA0 card 10") + 2;
   for (int k = 0; k < cells(e); k++) {
     cell_text(p, e, (size_t)k, text);
     row += token_width(text);
@@ -133,12 +134,12 @@ static void add_moment(drawing *d, int m) {
   add_column(d, (column){.moment = m, .width = label_width(d, m)});
   for (size_t k = moment_at(p, m)->first; k < events_end(p, m) && !d->s.failed; k++) {
     event *e = event_at(p, k);
-    if (is_quiet(p, e) && (calls[e->card] > 0 || e->is_lie)) continue;
+    if ((is_dot(e) && calls[e->card] > 0) || (e->is_lie && is_quiet(p, e))) continue;
     e->column = first + calls[e->card];
     if (e->column == (int)d->columns.count) add_column(d, (column){.moment = m, .sub = calls[e->card], .width = 8});
     if (d->s.failed) return;
     column_at(d, e->column)->width = most(column_at(d, e->column)->width, event_width(d, e));
-    if (!is_quiet(p, e)) calls[e->card]++;
+    if (!is_dot(e)) calls[e->card]++;
   }
 }
 
@@ -162,8 +163,6 @@ static void add_fold(drawing *d, int m, uint32_t count) {
   char text[TEXT];
   fold_text(d->p, count, text);
   add_column(d, (column){.moment = m, .folded = count, .width = svg_width(FONT_BOLD, text) + 4});
-  d->folds++;
-  d->folded += count;
 }
 
 void make_columns(drawing *d) {

@@ -29,6 +29,8 @@ typedef enum {
   SIGN_BLAME,
   SIGN_ARROWS,
   SIGN_HANDED,
+  SIGN_MANY,
+  SIGN_EARLIER,
   SIGN_BAND,
   SIGN_DOT,
   SIGN_NOTHING,
@@ -53,8 +55,7 @@ typedef struct {
   int first, end, right;                   /* of the part: columns and right edge */
   int rows[APOLLO_MAX_REPLICAS][ROWS];     /* of its lanes: the upper edge, or NOWHERE */
   int foot;                                /* its lower edge */
-  int parts, folds;
-  uint32_t folded;
+  int parts;                               /* of the whole run */
   int used[SIGNS];
   char refused[8]; /* the number of a refusal that is there */
 } drawing;
@@ -63,7 +64,8 @@ typedef struct {
   const char *fill, *ink, *dark, *pale;
 } colour;
 colour colour_of(int card);
-extern const char dark_red[]; /* for what is wrong */
+extern const char dark_red[];  /* for what is wrong */
+const char *edge_of(int card); /* the width of a block's edge */
 
 static inline column *column_at(const drawing *d, int k) { return (column *)d->columns.at + k; }
 
@@ -72,8 +74,8 @@ uint32_t in_window(const picture *p, int m); /* how many it stands for there: 1,
 void make_columns(drawing *d);
 int tag_of(const drawing *d, const event *e, char text[TEXT]); /* what is said of a call, and the width with its sign; 0: nothing */
 void token_text(const picture *p, const event *e, size_t k, char text[TEXT]);
-const char *word_of(uint8_t number); /* of a refusal */
-int tokens(const event *e);          /* how many: of many frames one for all */
+const char *refusal_word(uint8_t number); /* of a refusal */
+int tokens(const event *e);               /* how many: of many frames one for all */
 void cell_text(const picture *p, const event *e, size_t k, char text[TEXT]);
 int cells(const event *e);
 void fold_text(const picture *p, uint32_t count, char text[TEXT]);
@@ -91,7 +93,7 @@ void draw_block(drawing *d, int x, int y, const seen_frame *f, int lie);
 void draw_blame(drawing *d, int x, int y, const seen_frame *f, int lie);
 void draw_token(drawing *d, int x, int y, const seen_frame *f, const char *text);
 void draw_bundle(drawing *d, int x, int y, const char *text);
-void draw_cell(drawing *d, int x, int y, const seen_frame *f, int other, const char *text);
+void draw_cell(drawing *d, int x, int y, const seen_frame *f, int other, const char *text); /* NULL: of many */
 void draw_cross(drawing *d, int x, int y);
 void draw_skip(drawing *d, int x, int y, int card);
 void draw_flag(drawing *d, int x, int y, int card);

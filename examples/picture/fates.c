@@ -8,41 +8,49 @@
 enum { FATE = 160, LINE = 15 };
 
 typedef struct {
-  int shown, blocks, other; /* in the window; blocks put out for it; whether it is on a list that parted */
-  int first, last, commits; /* the calls that committed it: the first, and the first of the last card; and how many cards did */
-  uint16_t safe;            /* at these */
-  int skips;
-  uint16_t blamed;
+  int shown, blocks, other;       /* in the window; blocks put out for it; whether it is on a list that parted */
+  int first, last;                /* the calls that committed it: the first, and the first of the last card */
+  uint16_t blamed, safe, skipped; /* by cards, at cards */
 } fate;
 
-static void note_frame(const picture *p, fate *fates, const event *e, int frame, int shown) {
-  const seen_frame *f = frame_at(p, frame);
-  if (f->round < 1 || f->round > p->setup.rounds) return;
-  fate *t = &fates[f->round];
-  t->shown |= shown;
-  if (f->kind == APOLLO_BLAME && f->signer < p->setup.cards) t->blamed |= (uint16_t)(1u << f->signer);
-  if (f->kind == APOLLO_BLOCK) t->blocks += event_at(p, (size_t)f->emitted) == e;
+static int cards_in(uint16_t set) {
+  int count = 0;
+  for (int i = 0; i < APOLLO_MAX_REPLICAS; i++) count += set >> i & 1;
+  return count;
 }
 
+static void note_frame(const picture *p, fate *fates, const event *e, int frame) {
+  const seen_frame *f = frame_at(p, frame);
+  if (f->round < 1 || f->round > p->setup.rounds || f->signer >= p->setup.cards) return;
+  fate *t = &fates[f->round];
+  t->shown |= e->column != NOWHERE;
+  if (f->kind == APOLLO_BLAME) t->blamed |= (uint16_t)(1u << f->signer);
+  else t->blocks += event_at(p, (size_t)f->emitted) == e;
+}
+
+static void note_commit(const picture *p, fate *fates, int k, int frame) {
+  const event *e = event_at(p, (size_t)k);
+  fate *t = &fates[frame_at(p, frame)->round];
+  t->shown |= e->column != NOWHERE;
+  t->other |= is_other(p, e, frame);
+  if (t->safe >> e->card & 1) return; /* a card that was opened again */
+  if (!t->safe) t->first = k;
+  t->safe |= (uint16_t)(1u << e->card);
+  t->last = k;
+}
+
+/* A liar's list and what it skips count for nothing; and what a card does that goes by another rotation is about other rounds. */
 static void note_event(const picture *p, fate *fates, int k) {
   const event *e = event_at(p, (size_t)k);
-  int shown = e->column != NOWHERE;
-  for (size_t j = 0; j < e->outs.count && e->kind != PICTURE_FETCH; j++) note_frame(p, fates, e, word_at(p, e->outs, j), shown);
-  for (size_t j = 0; j < e->skips.count; j++) {
-    fate *t = &fates[word_at(p, e->skips, j)];
-    t->shown |= shown;
-    t->skips++;
+  const lane_state *c = &p->cards[e->card];
+  if (is_quiet(p, e) || memcmp(c->record.rotation, p->setup.rotation, (size_t)p->setup.cards) != 0) return;
+  for (size_t j = 0; j < e->outs.count && e->kind != PICTURE_FETCH; j++) note_frame(p, fates, e, linked_at(p, e->outs, j));
+  for (size_t j = 0; j < e->skips.count && c->counts; j++) {
+    fate *t = &fates[linked_at(p, e->skips, j)];
+    t->shown |= e->column != NOWHERE;
+    t->skipped |= (uint16_t)(1u << e->card);
   }
-  for (size_t j = 0; j < e->commits.count; j++) {
-    int frame = word_at(p, e->commits, j);
-    fate *t = &fates[frame_at(p, frame)->round];
-    t->shown |= shown;
-    t->other |= is_other(p, e, frame);
-    if (t->safe >> e->card & 1) continue; /* a card that was opened again */
-    t->safe |= (uint16_t)(1u << e->card);
-    if (t->commits++ == 0) t->first = k;
-    t->last = k;
-  }
+  for (size_t j = 0; j < e->commits.count && c->counts; j++) note_commit(p, fates, k, linked_at(p, e->commits, j));
 }
 
 static void add_text(char *to, const char *what) { snprintf(to + strlen(to), FATE - strlen(to), "%s", what); }
@@ -53,25 +61,25 @@ static void add_number(char *to, const char *form, uint32_t number) {
   add_text(to, text);
 }
 
-/* The calls that committed it, if they are few; of many the first, and by when all had. */
+/* Some cards, if they are few; else how many. */
+static void add_cards(char *to, const char *what, uint16_t set) {
+  int all = cards_in(set), many = 0;
+  add_text(to, what);
+  for (int i = 0; i < APOLLO_MAX_REPLICAS && all <= 4; i++)
+    if (set >> i & 1) add_number(to, !many++ ? "%u" : many == all ? " and %u" : ", %u", (uint32_t)i);
+  if (all > 4) add_number(to, "%u cards", (uint32_t)all);
+}
+
+/* Where it was committed first, and by when everywhere that it was. */
 static void add_safe(const picture *p, char *to, const fate *t) {
   const event *first = event_at(p, (size_t)t->first), *last = event_at(p, (size_t)t->last);
+  int all = cards_in(t->safe);
   add_number(to, "safe at card %u from ", (uint32_t)first->card);
   add_text(to, p->setup.unit);
   add_number(to, " %u", moment_at(p, first->moment)->number);
-  if (t->commits == 2) add_number(to, ", at card %u", (uint32_t)last->card);
-  if (t->commits > 2) add_number(to, ", at %u cards", (uint32_t)t->commits);
-  if (t->commits > 1) add_number(to, " from %u", moment_at(p, last->moment)->number);
-}
-
-static void add_blamed(char *to, uint16_t blamed) {
-  int all = 0, many = 0;
-  for (int i = 0; i < APOLLO_MAX_REPLICAS; i++) all += blamed >> i & 1;
-  add_text(to, "blamed by ");
-  for (int i = 0; i < APOLLO_MAX_REPLICAS && all <= 4; i++)
-    if (blamed >> i & 1) add_number(to, !many++ ? "%u" : many == all ? " and %u" : ", %u", (uint32_t)i);
-  if (all > 4) add_number(to, "%u cards", (uint32_t)all);
-  add_text(to, "; ");
+  if (all == 2) add_number(to, ", at card %u", (uint32_t)last->card);
+  if (all > 2) add_number(to, ", at %u cards", (uint32_t)all);
+  if (all > 1) add_number(to, " from %u", moment_at(p, last->moment)->number);
 }
 
 /* Is the term over for some card, so that nothing more is committed there? */
@@ -82,19 +90,21 @@ static int is_over(const drawing *d) {
 }
 
 static void tell(const drawing *d, char *to, const fate *t) {
+  uint16_t skipped = t->skipped & (uint16_t)~t->safe; /* and not taken later */
   to[0] = 0;
   if (t->blocks > 1) add_number(to, "%u blocks; ", (uint32_t)t->blocks);
-  if (t->blocks == 0 && t->commits == 0) add_text(to, "no block; ");
-  if (t->blamed) add_blamed(to, t->blamed);
-  if (t->commits) add_safe(d->p, to, t);
-  else if (t->skips) add_text(to, "skipped");
-  else add_text(to, is_over(d) ? "not safe: the term ends" : "not safe yet");
+  if (t->blocks == 0 && !t->safe) add_text(to, "no block; ");
+  if (t->blamed) add_cards(to, "blamed by ", t->blamed);
+  if (t->blamed) add_text(to, "; ");
+  if (t->safe) add_safe(d->p, to, t);
+  else if (!skipped) add_text(to, is_over(d) ? "not safe: the term ends" : "not safe yet");
+  if (skipped) add_cards(to, t->safe ? "; skipped at " : "skipped at ", skipped);
   if (t->other) add_text(to, "; LISTS PART");
 }
 
 /* Whose round it was. */
 static int name_round(const drawing *d, uint32_t round, char text[TEXT]) {
-  int leader = d->p->setup.rotation[(round - 1) % (uint32_t)d->p->setup.cards];
+  int leader = leader_of(d->p, d->p->setup.rotation, round);
   snprintf(text, TEXT, "round %u, card %d:", round, leader);
   return leader;
 }

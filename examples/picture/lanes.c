@@ -33,7 +33,7 @@ static void find_rows(const drawing *d, int needs[APOLLO_MAX_REPLICAS][ROWS]) {
   for (const event *e; (e = next_event(d, &k)); k++) {
     int *lane = needs[e->card];
     lane[ROW_TAG] |= tag_of(d, e, text) > 0;
-    lane[ROW_FRAMES] |= e->ins.count > 0 || is_quiet(d->p, e) || emitted_of(d->p, e, APOLLO_BLAME) != NOWHERE;
+    lane[ROW_FRAMES] |= e->ins.count > 0 || is_dot(e) || emitted_of(d->p, e, APOLLO_BLAME) != NOWHERE;
     lane[ROW_LIST] |= e->commits.count > 0;
   }
   for (size_t j = 0; j < d->p->phases.count; j++) needs[phase_at(d->p, j)->card][ROW_PHASE] = 1;
@@ -105,7 +105,7 @@ static void put_band(drawing *d, int card, int from, int to, const standing *at)
   d->used[SIGN_BAND] |= at->open;
 }
 
-static standing after(const event *e) { return (standing){.open = 1, .leader = e->leader, .round = e->round}; }
+static standing after(const event *e) { return (standing){.open = e->round > 0, .leader = e->leader, .round = e->round}; }
 
 static void draw_bands(drawing *d, int card) {
   standing at = d->cards[card];
@@ -186,7 +186,8 @@ static void arrow_from(drawing *d, const seen_frame *f, int card, int x, int y, 
   if (f->signer >= d->p->setup.cards || f->signer == card) return;
   const event *from = f->emitted == NOWHERE ? NULL : event_at(d->p, (size_t)f->emitted);
   int down = card > f->signer, x1 = LEFT - 1, y1 = mid(d, f->signer);
-  if (from && from->column >= d->first && from->column < d->end) {
+  if (!from || from->column < d->first || from->column >= d->end) d->used[SIGN_EARLIER] = 1;
+  else {
     int is_block = f->kind == APOLLO_BLOCK, box = box_width(f);
     int beside = !is_block || (!down && emitted_of(d->p, from, APOLLO_BLAME) != NOWHERE); /* past what is said or stands above it */
     x1 = (is_block ? box_x(d, from) : x_of(d, from)) + (beside ? box : box / 2);
@@ -204,7 +205,7 @@ static void draw_arrows(drawing *d) {
     for (size_t j = 0; j < e->ins.count; j++) {
       token_text(d->p, e, j, text);
       int w = token_width(text);
-      arrow_from(d, frame_at(d->p, word_at(d->p, e->ins, j)), e->card, x, d->rows[e->card][ROW_FRAMES], w);
+      arrow_from(d, frame_at(d->p, linked_at(d->p, e->ins, j)), e->card, x, d->rows[e->card][ROW_FRAMES], w);
       if (tokens(e) > 1) x += w + 2;
     }
   }
@@ -215,7 +216,7 @@ static void draw_arrows(drawing *d) {
 static void put_tag(drawing *d, const event *e, int x, int y) {
   char text[TEXT];
   int sign = 11;
-  if (!tag_of(d, e, text) || is_quiet(d->p, e)) return;
+  if (!tag_of(d, e, text)) return;
   if (e->ins.count > 0) x += TAG_SHIFT; /* arrows come from the left */
   if (e->number != APOLLO_TAKEN && !e->is_lie) snprintf(d->refused, sizeof d->refused, "%u", e->number);
   if (e->is_lie) sign = 0;
@@ -223,7 +224,7 @@ static void put_tag(drawing *d, const event *e, int x, int y) {
   else if (e->marks != NOWHERE) draw_flag(d, x, y + 1, e->marks);
   else if (e->skips.count > 0)
     draw_skip(d, x, y + 2,
-              e->skips.count == 1 ? d->p->cards[e->card].record.rotation[(word_at(d->p, e->skips, 0) - 1) % d->p->setup.cards]
+              e->skips.count == 1 ? leader_of(d->p, d->p->cards[e->card].record.rotation, (uint32_t)linked_at(d->p, e->skips, 0))
                                   : NOWHERE);
   else sign = 0;
   svg_text(&d->s, x + sign, y + 10, sign ? FONT_BOLD : FONT_PLAIN, NULL, "#fff", text);
@@ -232,14 +233,14 @@ static void put_tag(drawing *d, const event *e, int x, int y) {
 static void put_frames(drawing *d, const event *e, int x, int y) {
   int blame = emitted_of(d->p, e, APOLLO_BLAME);
   char text[TEXT];
-  if (is_quiet(d->p, e)) {
+  if (is_dot(e)) {
     d->used[e->kind == PICTURE_NOTHING ? SIGN_NOTHING : SIGN_DOT] = 1;
     svg_put(&d->s, "<circle cx=\"%d\" cy=\"%d\" r=\"3\" fill=\"%s\" stroke=\"#333\"/>\n", x + 4, y + 8,
             e->kind == PICTURE_NOTHING ? "#fff" : "#333");
   }
   if (blame != NOWHERE) draw_blame(d, x, y, frame_at(d->p, blame), e->is_lie);
   for (int k = 0; k < tokens(e); k++) {
-    const seen_frame *f = frame_at(d->p, word_at(d->p, e->ins, (size_t)k));
+    const seen_frame *f = frame_at(d->p, linked_at(d->p, e->ins, (size_t)k));
     token_text(d->p, e, (size_t)k, text);
     if (e->ins.count > MOST_TOKENS) draw_bundle(d, x, y, text);
     else draw_token(d, x, y, f, text);
@@ -249,15 +250,18 @@ static void put_frames(drawing *d, const event *e, int x, int y) {
 
 static void put_list(drawing *d, const event *e, int x, int y) {
   char text[TEXT];
-  for (int k = 0; k < cells(e); k++) {
-    int frame = word_at(d->p, e->commits, (size_t)k);
-    cell_text(d->p, e, (size_t)k, text);
-    draw_cell(d, x, y, frame_at(d->p, frame), is_other(d->p, e, frame), text);
+  int many = e->commits.count > MOST_TOKENS, other = 0;
+  for (size_t k = 0; k < e->commits.count; k++) {
+    int frame = linked_at(d->p, e->commits, k);
+    other = (many && other) || is_other(d->p, e, frame);
+    if (many && k + 1 < e->commits.count) continue;
+    cell_text(d->p, e, many ? 0 : k, text);
+    draw_cell(d, x, y, many ? NULL : frame_at(d->p, frame), other, text);
     x += token_width(text);
   }
-  if (e->parts == NOWHERE) return;
+  if (e->parts_from == NOWHERE) return;
   d->used[SIGN_PARTED] = 1;
-  snprintf(text, TEXT, "\xE2\x89\xA0 card %d", e->parts);
+  snprintf(text, TEXT, "\xE2\x89\xA0 card %d", e->parts_from);
   svg_text(&d->s, x + 3, y + 11, FONT_BOLD, dark_red, "#fff", text);
 }
 
@@ -273,8 +277,8 @@ static void put_title(drawing *d, const event *e) {
   if (e->is_lie) svg_put(&d->s, " lies</title>\n");
   else if (e->kind == PICTURE_NOTHING) svg_put(&d->s, ": no frame waits</title>\n");
   else
-    svg_put(&d->s, ": %u %s, R %u, tip %u, committed %u%s</title>\n", e->number, word_of(e->number), e->round, e->tip, e->committed,
-            e->kind == PICTURE_FETCH ? ", fetch" : "");
+    svg_put(&d->s, ": %u %s, R %u, tip %u, committed %u%s</title>\n", e->number, refusal_word(e->number), e->round, e->tip,
+            e->committed, e->kind == PICTURE_FETCH ? ", fetch" : "");
 }
 
 static void draw_event(drawing *d, const event *e) {
@@ -309,7 +313,7 @@ static void draw_header(drawing *d, int card) {
   colour k = colour_of(card);
   char text[TEXT], word[WORD];
   svg_put(&d->s, "<rect x=\"4\" y=\"%d\" width=\"10\" height=\"24\" fill=\"%s\" stroke=\"%s\" stroke-width=\"%s\"/>\n", y, k.fill,
-          k.dark, card < 8 ? "1" : "2.5");
+          k.dark, edge_of(card));
   snprintf(text, TEXT, "card %d", card);
   svg_text(&d->s, 20, y + (c->word[0] ? 10 : 16), FONT_BOLD, NULL, NULL, text);
   snprintf(word, sizeof word, "%.*s", (int)svg_fitting(FONT_BOLD, c->word, LEFT - 22), c->word);

@@ -51,32 +51,6 @@ static int fill_part(drawing *d, int first) {
   return k;
 }
 
-/* What the picture leaves out. */
-static void put_remarks(drawing *d) {
-  const picture *p = d->p;
-  char text[256];
-  const moment *last = moment_at(p, (int)p->moments.count - 1);
-  uint32_t end = last->number + last->folded;
-  if (p->from > 0 || p->to < end) {
-    snprintf(text, sizeof text, "Only %ss %u to %u are drawn, of a run up to %s %u.", p->setup.unit, p->from, p->to < end ? p->to : end,
-             p->setup.unit, end);
-    put_lines(d, FONT_NOTE, text);
-  }
-  if (d->folds > 0) {
-    char folded[TEXT];
-    fold_text(p, d->folded, folded);
-    snprintf(text, sizeof text, "Folded, since nothing happens: %s in %d place%s.", folded, d->folds, d->folds == 1 ? "" : "s");
-    put_lines(d, FONT_NOTE, text);
-  }
-  if (d->parts > 1)
-    put_lines(d, FONT_NOTE, "Drawn in parts, one below the other. An arrow from the left edge comes from an earlier part.");
-  if (d->parts > MOST_PARTS) {
-    snprintf(text, sizeof text, "TOO LONG: there are %d parts, and only the first %d are drawn. Draw fewer %ss to see the others.",
-             d->parts, MOST_PARTS, p->setup.unit);
-    put_lines(d, FONT_NOTE, text);
-  }
-}
-
 /* The picture ends before a column. */
 static void cut(drawing *d, int end) {
   picture *p = d->p;
@@ -86,15 +60,54 @@ static void cut(drawing *d, int end) {
     if (event_at(p, k)->column >= end) event_at(p, k)->column = NOWHERE;
 }
 
-static void draw_lanes(drawing *d) {
+static void make_parts(drawing *d) {
   int end = NOWHERE;
   for (int k = 0; k < (int)d->columns.count; k = fill_part(d, k))
     if (d->parts == MOST_PARTS) end = k;
-  put_remarks(d);
   if (end != NOWHERE) cut(d, end);
+}
+
+static uint32_t last_number(const picture *p) {
+  const moment *last = moment_at(p, (int)p->moments.count - 1);
+  return last->number + last->folded;
+}
+
+static void put_folds(drawing *d) {
+  uint32_t folds = 0, moments = 0;
+  char many[TEXT], text[2 * TEXT];
+  for (int k = 0; k < (int)d->columns.count; k++) {
+    moments += column_at(d, k)->folded;
+    folds += column_at(d, k)->folded > 0;
+  }
+  fold_text(d->p, moments, many);
+  snprintf(text, sizeof text, "Folded, since nothing new happens: %s in %u place%s.", many, folds, folds == 1 ? "" : "s");
+  if (folds > 0) put_lines(d, FONT_NOTE, text);
+}
+
+/* What the picture leaves out. */
+static void put_remarks(drawing *d) {
+  const picture *p = d->p;
+  const char *unit = p->setup.unit;
+  char text[256];
+  uint32_t end = last_number(p);
+  if (p->from > 0 || p->to < end) {
+    snprintf(text, sizeof text, "Only %.40ss %u to %u are drawn, of a run up to %.40s %u.", unit, p->from, p->to < end ? p->to : end,
+             unit, end);
+    put_lines(d, FONT_NOTE, text);
+  }
+  put_folds(d);
+  if (d->parts > 1) put_lines(d, FONT_NOTE, "Drawn in parts, one below the other.");
+  if (d->parts > MOST_PARTS) {
+    snprintf(text, sizeof text, "TOO LONG: there are %d parts, and only the first %d are drawn. Draw fewer %.40ss to see the others.",
+             d->parts, MOST_PARTS, unit);
+    put_lines(d, FONT_NOTE, text);
+  }
+}
+
+static void draw_lanes(drawing *d) {
   int count = (int)d->columns.count;
   d->y += 10;
-  for (int k = 0; k < count && !d->s.failed; k = end) {
+  for (int k = 0, end = 0; k < count && !d->s.failed; k = end) {
     end = k + 1;
     while (end < count && column_at(d, end)->x > column_at(d, end - 1)->x) end++;
     draw_part(d, k, end);
@@ -116,6 +129,8 @@ static void draw(drawing *d) {
   put_lines(d, FONT_TITLE, setup->title);
   put_lines(d, FONT_NOTE, setup->note);
   make_columns(d);
+  make_parts(d);
+  put_remarks(d);
   skip_to_window(d);
   draw_lanes(d);
   draw_fates(d);
@@ -137,62 +152,68 @@ static void put_head(svg *s, const drawing *d) {
 
 /* ---- the file */
 
-static int put_file(const char *path, const svg *head, const svg *body) {
-  FILE *to = fopen(path, "wb");
+static int put_all(FILE *to, const svg *head, const svg *body) {
   if (!to) return 0;
   int good = fwrite(head->text, 1, head->len, to) == head->len && fwrite(body->text, 1, body->len, to) == body->len;
   return fclose(to) == 0 && good;
 }
 
-/* The file that a path stands for, links followed: a copy, or NULL with the reason in errno. A new file stands for itself. */
-static char *true_path(const char *path) {
-  struct stat there;
-  return lstat(path, &there) == 0 ? realpath(path, NULL) : strdup(path);
+/* What a new file may be: what the user's mask leaves. */
+static mode_t new_mode(void) {
+  mode_t mask = umask(0);
+  umask(mask);
+  return 0666 & ~mask;
 }
 
-/* Under another name first, which takes the file's place when all is written. */
-static int put_beside(const char *path, const svg *head, const svg *body) {
+/* Under a name of its own first, which takes the file's place when all is written. */
+static int replace_file(const char *path, mode_t mode, const svg *head, const svg *body) {
   size_t len = strlen(path);
-  char *beside = malloc(len + sizeof ".new");
+  char *beside = malloc(len + sizeof ".XXXXXX");
   if (!beside) return 0;
   memcpy(beside, path, len);
-  memcpy(beside + len, ".new", sizeof ".new");
-  int good = put_file(beside, head, body) && rename(beside, path) == 0, why = errno;
-  if (!good) remove(beside);
-  errno = why;
+  memcpy(beside + len, ".XXXXXX", sizeof ".XXXXXX");
+  int file = mkstemp(beside);
+  FILE *to = file < 0 ? NULL : fdopen(file, "wb");
+  int good = to && fchmod(file, mode) == 0;
+  good = put_all(to, head, body) && good && rename(beside, path) == 0;
+  int why = errno;
+  if (file >= 0 && !good) remove(beside);
   free(beside);
+  errno = why;
   return good;
 }
 
-/* What is no file, a terminal say, is written to: nothing can take its place. */
-static const char *replace_file(const char *path, const svg *head, const svg *body) {
-  struct stat old;
-  char *file = true_path(path);
-  if (!file) return strerror(errno);
-  int exists = stat(file, &old) == 0, good = 0;
-  errno = exists && S_ISDIR(old.st_mode) ? EISDIR : 0;
-  if (exists && S_ISREG(old.st_mode)) good = access(file, W_OK) == 0 && put_beside(file, head, body);
-  else if (exists && !S_ISDIR(old.st_mode)) good = put_file(file, head, body);
-  else if (!exists) good = put_beside(file, head, body);
-  int why = errno;
+/* What is no file, a terminal or a pipe say, is written to: nothing can take its place. A link is followed. */
+static int put_file(const char *path, const svg *head, const svg *body) {
+  struct stat old, link;
+  if (stat(path, &old) != 0) {
+    int why = errno, is_new = lstat(path, &link) != 0; /* else it is a link to nothing */
+    errno = why;
+    return is_new && replace_file(path, new_mode(), head, body);
+  }
+  if (!S_ISREG(old.st_mode)) return put_all(fopen(path, "wb"), head, body);
+  char *file = access(path, W_OK) == 0 ? realpath(path, NULL) : NULL;
+  int good = file && replace_file(file, old.st_mode & 07777, head, body);
   free(file);
-  return good ? NULL : strerror(why);
+  return good;
 }
 
 const char *picture_write(picture *p, const char *path) {
   drawing d = {.p = p, .y = 4};
   svg head = {0};
   const char *why = "no memory";
-  if (p->failed) return why;
-  p->is_done = 1;
-  for (size_t k = 0; k < p->events.count; k++) event_at(p, k)->column = NOWHERE;
   int some = 0;
   for (int m = 0; m < (int)p->moments.count; m++) some |= in_window(p, m) > 0;
-  if (some) draw(&d);
+  if (p->failed) return why;
+  if (p->moments.count == 0) return "nothing happens that could be drawn";
+  snprintf(p->why, sizeof p->why, "the run ends with %.40s %u", p->setup.unit, last_number(p));
+  if (!some) return p->why;
+  p->is_done = 1;
+  for (size_t k = 0; k < p->events.count; k++) event_at(p, k)->column = NOWHERE;
+  draw(&d);
   svg_put(&d.s, "</svg>\n");
   put_head(&head, &d);
-  if (!some) why = "nothing happens that could be drawn";
-  else if (!d.s.failed && !head.failed) why = replace_file(path, &head, &d.s);
+  if (!d.s.failed && !head.failed) why = put_file(path, &head, &d.s) ? NULL : strerror(errno);
   free(d.columns.at);
   free(d.s.text);
   free(head.text);

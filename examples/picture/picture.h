@@ -10,13 +10,15 @@
 
 typedef struct picture picture;
 
+/* The texts stay where they are until the picture is written. Any text will do: what is no UTF-8, or may not stand in XML, is written
+ * as '?'. */
 typedef struct {
-  int cards;
-  uint32_t rounds; /* T */
+  int cards;       /* 3 to 15 */
+  uint32_t rounds; /* T, up to 4,096 */
   uint8_t rotation[APOLLO_MAX_REPLICAS];
-  const char *unit;  /* what a moment is: "command" or "tick" */
-  const char *title; /* any text: what is no UTF-8, or may not stand in XML, is written as '?' */
-  const char *note;  /* sentences below the title */
+  const char *unit; /* what a moment is: "command" or "tick" */
+  const char *title;
+  const char *note; /* sentences below the title */
 } picture_setup;
 
 typedef enum {
@@ -41,7 +43,7 @@ typedef struct {
   size_t ins, outs;
 } picture_call;
 
-/* NULL without memory, or where there are not 3 to 15 cards. */
+/* NULL without memory, or with numbers outside these ranges. */
 picture *picture_new(picture_setup setup);
 void picture_free(picture *p);
 
@@ -51,6 +53,7 @@ void picture_say(picture *p, int card, const char *word, int counts);
 void picture_moment(picture *p, uint32_t number, const char *label);
 /* From this moment on the card is so ("deaf"), until another word comes; NULL: as ever. */
 void picture_phase(picture *p, int card, const char *word);
+/* Calls of a card that is none of these, or of a term with more rounds, are left out. */
 void picture_add(picture *p, const picture_call *call);
 /* A frame that a card signed though no call emitted it: a lie. Told again it is not drawn again. */
 void picture_lie(picture *p, int card, const uint8_t *frame);

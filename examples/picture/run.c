@@ -21,8 +21,8 @@ _Static_assert(sizeof(event) >= sizeof(seen_frame) && sizeof(event) >= sizeof(mo
                "picture.scratch takes each of them");
 
 static void link_to(picture *p, links *l, int what) {
-  if (l->count++ == 0) l->at = p->words.count;
-  *(int *)add(p, &p->words, sizeof(int)) = what;
+  if (l->count++ == 0) l->at = p->linked.count;
+  *(int *)add(p, &p->linked, sizeof(int)) = what;
 }
 
 /* ---- frames */
@@ -50,15 +50,16 @@ static int find_frame(picture *p, const uint8_t *bytes) {
 
 picture *picture_new(picture_setup setup) {
   picture *p = calloc(1, sizeof *p);
-  if (!p || setup.cards < 3 || setup.cards > APOLLO_MAX_REPLICAS || setup.rounds > APOLLO_MAX_ROUNDS) {
-    free(p);
+  if (!p) return NULL;
+  *p = (picture){.setup = setup, .to = UINT32_MAX};
+  int good = setup.cards >= 3 && setup.cards <= APOLLO_MAX_REPLICAS && setup.rounds <= APOLLO_MAX_ROUNDS;
+  p->by_round = good ? malloc((setup.rounds + 1) * sizeof *p->by_round) : NULL;
+  p->first = good ? malloc((setup.rounds + 1) * sizeof *p->first) : NULL;
+  if (!p->by_round || !p->first) {
+    picture_free(p);
     return NULL;
   }
-  *p = (picture){.setup = setup, .to = UINT32_MAX};
-  p->by_round = malloc((setup.rounds + 1) * sizeof *p->by_round);
-  p->first = malloc((setup.rounds + 1) * sizeof *p->first);
-  p->failed = !p->by_round || !p->first;
-  for (uint32_t r = 0; r <= setup.rounds && !p->failed; r++) {
+  for (uint32_t r = 0; r <= setup.rounds; r++) {
     p->by_round[r] = NOWHERE;
     p->first[r] = (first_commit){NOWHERE, NOWHERE};
   }
@@ -68,7 +69,7 @@ picture *picture_new(picture_setup setup) {
 
 void picture_free(picture *p) {
   if (!p) return;
-  list *all[] = {&p->frames, &p->events, &p->moments, &p->phases, &p->words};
+  list *all[] = {&p->frames, &p->events, &p->moments, &p->phases, &p->linked};
   for (size_t k = 0; k < sizeof all / sizeof *all; k++) free(all[k]->at);
   free(p->by_round);
   free(p->first);
@@ -98,10 +99,14 @@ static int now(const picture *p) { return (int)p->moments.count - 1; }
 
 size_t events_end(const picture *p, int m) { return m < now(p) ? moment_at(p, m + 1)->first : p->events.count; }
 
+int is_dot(const event *e) {
+  int idle = e->kind == PICTURE_TICK && e->number == APOLLO_TAKEN && e->was == e->round && e->outs.count == 0;
+  return !e->is_lie && (idle || e->kind == PICTURE_NOTHING);
+}
+
 int is_quiet(const picture *p, const event *e) {
-  if (e->is_lie) return p->is_done && !frame_at(p, word_at(p, e->outs, 0))->handed;
-  return e->kind == PICTURE_NOTHING ||
-         (e->kind == PICTURE_TICK && (e->number == 0 || e->again) && e->was == e->round && e->outs.count == 0);
+  if (e->is_lie) return p->is_done && !frame_at(p, linked_at(p, e->outs, 0))->handed;
+  return is_dot(e) || (e->kind == PICTURE_TICK && e->number != APOLLO_TAKEN && e->again);
 }
 
 int is_quiet_moment(const picture *p, int m) {
@@ -164,7 +169,7 @@ static void commit(picture *p, event *e, int frame) {
   if (first->frame == NOWHERE) *first = (first_commit){frame, e->card};
   if (first->frame == frame || c->parted) return;
   c->parted = 1;
-  e->parts = first->card;
+  e->parts_from = first->card;
 }
 
 /* What became of rounds in a call that was taken: those that R passed without a block, and those that were committed. */
@@ -197,9 +202,15 @@ static void note_mark(picture *p, event *e, const picture_call *call) {
   for (e->marks = 0; !(fresh >> e->marks & 1);) e->marks++;
 }
 
+/* Is it a call of a card of this run, with a record that the run's log and rounds go with? */
+static int belongs(const picture *p, const picture_call *call) {
+  uint32_t last = call->record->last_round.value;
+  return call->card >= 0 && call->card < p->setup.cards && last <= p->setup.rounds && call->record->round.value <= last + 1;
+}
+
 void picture_add(picture *p, const picture_call *call) {
+  if (p->failed || p->moments.count == 0 || !belongs(p, call)) return;
   lane_state *c = &p->cards[call->card];
-  if (p->failed || p->moments.count == 0) return;
   const apollo_replica *r = call->record;
   uint32_t last = r->last_round.value;
   event *e = add(p, &p->events, sizeof *e), fresh = {.card = call->card, .moment = now(p), .kind = call->kind, .number = call->number};
@@ -208,15 +219,15 @@ void picture_add(picture *p, const picture_call *call) {
   fresh.was = call->kind == PICTURE_OPEN || !c->opened ? 1 : c->record.round.value;
   fresh.tip = r->tip_round.value;
   fresh.committed = r->committed_round.value;
-  fresh.leader = fresh.round < 1 || fresh.round > last ? NOWHERE : r->rotation[(fresh.round - 1) % (uint32_t)p->setup.cards];
-  fresh.marks = fresh.parts = fresh.column = NOWHERE;
+  fresh.leader = fresh.round < 1 || fresh.round > last ? NOWHERE : leader_of(p, r->rotation, fresh.round);
+  fresh.marks = fresh.parts_from = fresh.column = NOWHERE;
   fresh.again = call->kind == PICTURE_OPEN ? c->opened : c->number == call->number;
   note_frames(p, &fresh, call);
   if (call->number == APOLLO_TAKEN && call->kind != PICTURE_FETCH && call->kind != PICTURE_NOTHING) note_rounds(p, &fresh, call);
   note_mark(p, &fresh, call);
   if (!p->failed) *e = fresh;
   c->record = *r;
-  c->opened |= call->kind == PICTURE_OPEN;
+  c->opened |= call->kind == PICTURE_OPEN && call->number == APOLLO_TAKEN;
   if (call->kind != PICTURE_FETCH && call->kind != PICTURE_NOTHING) c->number = call->number;
 }
 
@@ -226,7 +237,7 @@ void picture_lie(picture *p, int card, const uint8_t *bytes) {
   if (p->failed || frame_at(p, frame)->emitted != NOWHERE) return;
   event *e = add(p, &p->events, sizeof *e);
   const lane_state *c = &p->cards[card];
-  *e = (event){.card = card, .moment = now(p), .is_lie = 1, .marks = NOWHERE, .parts = NOWHERE, .column = NOWHERE};
+  *e = (event){.card = card, .moment = now(p), .is_lie = 1, .marks = NOWHERE, .parts_from = NOWHERE, .column = NOWHERE};
   e->was = e->round = c->record.round.value;
   e->tip = c->record.tip_round.value;
   e->committed = c->record.committed_round.value;

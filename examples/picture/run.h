@@ -23,7 +23,7 @@ typedef struct {
   int next;    /* another frame of that round, or NOWHERE */
 } seen_frame;
 
-/* A part of `picture.links`. */
+/* Some of `picture.linked`: places of frames, or rounds. */
 typedef struct {
   size_t at, count;
 } links;
@@ -40,7 +40,7 @@ typedef struct {
   links ins, outs, commits;            /* frames */
   links skips;                         /* rounds passed without a block */
   int marks;                           /* the card that it marks, or NOWHERE */
-  int parts;                           /* the card from whose list this one's parts here, or NOWHERE */
+  int parts_from;                      /* the card from whose list this one's parts here, or NOWHERE */
   int column;                          /* where it is drawn, or NOWHERE */
 } event;
 
@@ -73,25 +73,33 @@ typedef struct {
 
 struct picture {
   picture_setup setup;
-  list frames, events, moments, phases, words; /* seen_frame, event, moment, phase, int */
-  int *by_round;                               /* the newest frame of each round, 0 for what is none */
-  first_commit *first;                         /* by height */
+  list frames, events, moments, phases, linked; /* seen_frame, event, moment, phase, int */
+  int *by_round;                                /* the newest frame of each round, 0 for what is none */
+  first_commit *first;                          /* by height */
   lane_state cards[APOLLO_MAX_REPLICAS];
   uint32_t from, to;
   int is_done; /* the run, and the picture is drawn */
   int failed;  /* no memory: nothing is written */
   event scratch;
+  char why[80]; /* there is no picture */
 };
 
 static inline seen_frame *frame_at(const picture *p, int k) { return (seen_frame *)p->frames.at + k; }
 static inline event *event_at(const picture *p, size_t k) { return (event *)p->events.at + k; }
 static inline moment *moment_at(const picture *p, int k) { return (moment *)p->moments.at + k; }
 static inline phase *phase_at(const picture *p, size_t k) { return (phase *)p->phases.at + k; }
-static inline int word_at(const picture *p, links l, size_t k) { return ((int *)p->words.at)[l.at + k]; }
+static inline int linked_at(const picture *p, links l, size_t k) { return ((int *)p->linked.at)[l.at + k]; }
+
+/* Who leads a round. */
+static inline int leader_of(const picture *p, const uint8_t *rotation, uint32_t round) {
+  return rotation[(round - 1) % (uint32_t)p->setup.cards];
+}
 
 /* The events of a moment: from its first up to this one. */
 size_t events_end(const picture *p, int m);
-/* Nothing happens: a tick without effect or news, no frame that waited, or a lie that in the end was handed to no card. */
+/* Nothing comes of it: a tick without effect, or no frame that waited. */
+int is_dot(const event *e);
+/* No news: that, a tick that is refused as the card's last call was, or a lie that in the end was handed to no card. */
 int is_quiet(const picture *p, const event *e);
 int is_quiet_moment(const picture *p, int m);
 /* Is a committed block another than the first that was committed at its height? */

@@ -16,21 +16,20 @@ colour colour_of(int card) {
 }
 
 /* Cards 8 to 14 have the colours of 0 to 6 and a thick edge. */
-static double edge(int card) { return card < 8 ? 1 : 2.5; }
+const char *edge_of(int card) { return card < 8 ? "1" : "2.5"; }
 
-static void put_rect(svg *s, int x, int y, int w, int h, int round, const char *fill, const char *stroke, double width, int dashed) {
+static void put_rect(svg *s, int x, int y, int w, int h, int round, const char *fill, const char *stroke, const char *width,
+                     int dashed) {
   svg_put(s, "<rect x=\"%d\" y=\"%d\" width=\"%d\" height=\"%d\"", x, y, w, h);
   if (round) svg_put(s, " rx=\"%d\"", round);
-  svg_put(s, " fill=\"%s\" stroke=\"%s\"", fill, stroke);
-  if (width != 1) svg_put(s, " stroke-width=\"%.1f\"", width);
-  svg_put(s, "%s/>\n", dashed ? " stroke-dasharray=\"3 2\"" : "");
+  svg_put(s, " fill=\"%s\" stroke=\"%s\" stroke-width=\"%s\"%s/>\n", fill, stroke, width, dashed ? " stroke-dasharray=\"3 2\"" : "");
 }
 
 void draw_block(drawing *d, int x, int y, const seen_frame *f, int lie) {
   colour c = colour_of(f->signer);
   char text[TEXT];
   d->used[lie ? SIGN_LIE : SIGN_BLOCK] = 1;
-  put_rect(&d->s, x, y, box_width(f), 24, 3, c.fill, lie ? dark_red : c.dark, lie ? 2 : edge(f->signer), lie);
+  put_rect(&d->s, x, y, box_width(f), 24, 3, c.fill, lie ? dark_red : c.dark, lie ? "2" : edge_of(f->signer), lie);
   snprintf(text, TEXT, "round %u", f->round);
   svg_text(&d->s, x + 3, y + 10, FONT_BOLD, c.ink, NULL, text);
   snprintf(text, TEXT, "height %u", f->height);
@@ -38,15 +37,15 @@ void draw_block(drawing *d, int x, int y, const seen_frame *f, int lie) {
 }
 
 /* Six corners, so that it is not taken for a block where there are no colours. */
-static void put_hexagon(svg *s, int x, int y, int w, int h, const char *stroke, double width, int dashed) {
-  svg_put(s, "<path d=\"M%d %dh%dl5 %dl-5 %dh%dl-5 -%dz\" fill=\"#fff\" stroke=\"%s\" stroke-width=\"%.1f\"%s/>\n", x + 5, y, w - 10,
+static void put_hexagon(svg *s, int x, int y, int w, int h, const char *stroke, const char *width, int dashed) {
+  svg_put(s, "<path d=\"M%d %dh%dl5 %dl-5 %dh%dl-5 -%dz\" fill=\"#fff\" stroke=\"%s\" stroke-width=\"%s\"%s/>\n", x + 5, y, w - 10,
           h / 2, h / 2, 10 - w, h / 2, stroke, width, dashed ? " stroke-dasharray=\"3 2\"" : "");
 }
 
 void draw_blame(drawing *d, int x, int y, const seen_frame *f, int lie) {
   char text[TEXT];
   d->used[lie ? SIGN_LIE : SIGN_BLAME] = 1;
-  put_hexagon(&d->s, x, y, box_width(f), 16, lie ? dark_red : colour_of(f->signer).dark, lie ? 2 : 1.5, lie);
+  put_hexagon(&d->s, x, y, box_width(f), 16, lie ? dark_red : colour_of(f->signer).dark, lie ? "2" : "1.5", lie);
   snprintf(text, TEXT, "blame %u", f->round);
   svg_text(&d->s, x + 4, y + 12, FONT_BOLD, NULL, NULL, text);
 }
@@ -56,22 +55,26 @@ void draw_token(drawing *d, int x, int y, const seen_frame *f, const char *text)
   int w = token_width(text);
   d->used[SIGN_HANDED] = 1;
   const char *line = f->lie ? dark_red : c.dark;
-  if (f->kind == APOLLO_BLOCK) put_rect(&d->s, x, y, w, 16, 8, c.fill, line, f->lie ? 2 : edge(f->signer), f->lie);
-  else put_hexagon(&d->s, x, y, w, 16, line, f->lie ? 2 : 1.5, f->lie);
+  if (f->kind == APOLLO_BLOCK) put_rect(&d->s, x, y, w, 16, 8, c.fill, line, f->lie ? "2" : edge_of(f->signer), f->lie);
+  else put_hexagon(&d->s, x, y, w, 16, line, f->lie ? "2" : "1.5", f->lie);
   svg_text(&d->s, x + (w - svg_width(FONT_BOLD, text)) / 2, y + 12, FONT_BOLD, f->kind == APOLLO_BLOCK ? c.ink : NULL, NULL, text);
 }
 
 void draw_bundle(drawing *d, int x, int y, const char *text) {
-  put_rect(&d->s, x, y, token_width(text), 16, 8, "#fff", "#000", 2, 0);
+  d->used[SIGN_MANY] = 1;
+  put_rect(&d->s, x, y, token_width(text), 16, 8, "#fff", "#000", "2", 0);
   svg_text(&d->s, x + 4, y + 12, FONT_BOLD, NULL, NULL, text);
 }
 
 void draw_cell(drawing *d, int x, int y, const seen_frame *f, int other, const char *text) {
-  colour c = colour_of(f->signer);
-  int w = token_width(text);
+  int w = token_width(text), lie = f && f->lie;
   d->used[SIGN_LIST] = 1;
-  put_rect(&d->s, x, y, w, 14, 0, c.fill, other || f->lie ? dark_red : "#000", other ? 2.5 : f->lie ? 2 : 1, f->lie);
-  svg_text(&d->s, x + (w - svg_width(FONT_BOLD, text)) / 2, y + 11, FONT_BOLD, c.ink, NULL, text);
+  put_rect(&d->s, x, y, w, 14, 0, f ? colour_of(f->signer).fill : "#fff", other || lie ? dark_red : "#000",
+           other ? "2.5"
+           : lie ? "2"
+                 : "1",
+           lie);
+  svg_text(&d->s, x + (w - svg_width(FONT_BOLD, text)) / 2, y + 11, FONT_BOLD, f ? colour_of(f->signer).ink : NULL, NULL, text);
 }
 
 void draw_cross(drawing *d, int x, int y) {
@@ -101,6 +104,8 @@ static const char *const meanings[SIGNS] = {"a block, put out by its round's lea
                                             "a blame: this card got no block of that round in time",
                                             "a block, a blame: from where it was put out to where it came",
                                             "handed in to the card: a block, a blame of that round",
+                                            "many blocks or blames in one call",
+                                            "put out before this part: the arrow comes from its card's lane",
                                             "the round that the card waits for, in the colour of its leader",
                                             "a tick: time passes, and nothing comes of it",
                                             "nothing waited for the card",
@@ -111,7 +116,7 @@ static const char *const meanings[SIGNS] = {"a block, put out by its round's lea
                                             "marked: that card signed two blocks for one round",
                                             "a lie: signed, though no call put it out",
                                             "for a while the card is not as it should be",
-                                            "folded: a stretch in which nothing comes of the ticks"};
+                                            "folded: ticks without effect, or refused as before"};
 
 static void put_sample_arrows(drawing *d, int x, int y) {
   for (int k = 0; k < 2; k++) {
@@ -131,7 +136,10 @@ static void put_sample(drawing *d, sign which, int x, int y) {
   if (which == SIGN_ARROWS) put_sample_arrows(d, x, y);
   if (which == SIGN_HANDED) draw_token(d, x, y + 4, &block, "3");
   if (which == SIGN_HANDED) draw_token(d, x + 22, y + 4, &blame, "2");
-  if (which == SIGN_BAND) put_rect(s, x, y + 2, SAMPLE, 20, 0, colour_of(leads[3 % d->p->setup.cards]).pale, "#ccc", 1, 0);
+  if (which == SIGN_MANY) draw_bundle(d, x, y + 4, "7 blocks");
+  if (which == SIGN_EARLIER) svg_put(s, "<path d=\"M%d %dv20\" stroke=\"#999\" fill=\"none\"/>\n", x, y + 2);
+  if (which == SIGN_EARLIER) draw_arrow(d, x, y + 12, x + SAMPLE, y + 12, &block);
+  if (which == SIGN_BAND) put_rect(s, x, y + 2, SAMPLE, 20, 0, colour_of(leads[3 % d->p->setup.cards]).pale, "#ccc", "1", 0);
   if (which == SIGN_BAND) svg_text(s, x + 3, y + 16, FONT_PLAIN, "#333", NULL, "waits: 4");
   if (which == SIGN_DOT || which == SIGN_NOTHING)
     svg_put(s, "<circle cx=\"%d\" cy=\"%d\" r=\"3\" fill=\"%s\" stroke=\"#333\"/>\n", x + 6, y + 12,
@@ -145,7 +153,7 @@ static void put_sample(drawing *d, sign which, int x, int y) {
   if (which == SIGN_PARTED) svg_text(s, x + 21, y + 16, FONT_BOLD, dark_red, NULL, "\xE2\x89\xA0 ..");
   if (which == SIGN_MARK) draw_flag(d, x, y + 7, 0);
   if (which == SIGN_LIE) draw_block(d, x, y, &block, 1);
-  if (which == SIGN_PHASE) put_rect(s, x, y + 6, SAMPLE, 12, 0, "url(#away)", "#555", 1, 0);
+  if (which == SIGN_PHASE) put_rect(s, x, y + 6, SAMPLE, 12, 0, "url(#away)", "#555", "1", 0);
   if (which == SIGN_FOLD) svg_put(s, "<rect x=\"%d\" y=\"%d\" width=\"%d\" height=\"22\" fill=\"url(#fold)\"/>\n", x, y + 1, SAMPLE);
 }
 

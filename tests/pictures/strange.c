@@ -50,11 +50,11 @@ static void expect_written(picture *p, const char *name) {
   picture_free(p);
 }
 
-/* No picture, with a reason, and the old file as it was. */
-static void expect_none(picture *p, const char *name) {
+/* No picture, with this reason, and the old file as it was. */
+static void expect_none(picture *p, const char *name, const char *reason) {
   keep_old(name);
   const char *why = picture_write(p, path_of(name));
-  EXPECT(why && strcmp(why, "nothing happens that could be drawn") == 0);
+  EXPECT(why && strncmp(why, reason, strlen(reason)) == 0);
   EXPECT(strcmp(contents(name), "old") == 0);
   EXPECT(remove(path_of(name)) == 0);
   EXPECT(picture_write(p, path_of(name)) && !contents(name));
@@ -165,16 +165,16 @@ static void wide_texts(void) {
 
 static void few_moments(void) {
   picture *p = fresh(3, "no moment", "");
-  expect_none(p, "none.svg");
+  expect_none(p, "none.svg", "nothing happens that could be drawn");
   p = fresh(3, "calls before any moment", "");
   open_all(p, 3);
   picture_lie(p, 0, sent[0]);
   picture_phase(p, 0, "deaf");
-  expect_none(p, "none.svg");
+  expect_none(p, "none.svg", "nothing happens that could be drawn");
   p = fresh(3, "a window with nothing in it", "");
   relay(p, 3, "", NULL);
   picture_window(p, 50, 60);
-  expect_none(p, "none.svg");
+  expect_none(p, "none.svg", "the run ends with tick ");
   p = fresh(3, "one moment without a call", "");
   picture_moment(p, 0, "");
   expect_written(p, "one-moment.svg");
