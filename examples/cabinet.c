@@ -613,8 +613,8 @@ static void begin_picture(void) {
       "A lane for each card, time to the right (not to scale), a column for each tick in which something happens. An arrow ends where a "
       "card hands the frame to its library, whoever brought it; what was lost on the way, and questions, are not drawn.";
   picture_setup setup = {.cards = cabinet.n, .rounds = cabinet.rounds, .unit = "tick", .title = title, .note = note};
-  snprintf(title, sizeof title, "A cabinet of %d cards, fault %s, seed %u, %u rounds, a timeout of %u ticks", cabinet.n,
-           fault_names[cabinet.kind], cabinet.first_seed, cabinet.rounds, cabinet.timeout);
+  snprintf(title, sizeof title, "A cabinet: %d cards, f = %d may fail; fault %s, seed %u, %u rounds, a timeout of %u ticks", cabinet.n,
+           cabinet.f, fault_names[cabinet.kind], cabinet.first_seed, cabinet.rounds, cabinet.timeout);
   memcpy(setup.rotation, cabinet.rotation, sizeof setup.rotation);
   cabinet.picture = picture_new(setup);
   if (!cabinet.picture) stop("no memory");

@@ -84,6 +84,20 @@ static void put_folds(drawing *d) {
   if (folds > 0) put_lines(d, FONT_NOTE, text);
 }
 
+/* Where lists part, the first time that is drawn. */
+static void put_parting(drawing *d) {
+  const picture *p = d->p;
+  char text[2 * TEXT];
+  for (size_t k = 0; k < p->events.count; k++) {
+    const event *e = event_at(p, k);
+    if (e->parts_from == NOWHERE || e->column == NOWHERE) continue;
+    snprintf(text, sizeof text, "THE LISTS PART at %.40s %u: card %d has another block in a place of its list than card %d has.",
+             p->setup.unit, moment_at(p, e->moment)->number, e->card, e->parts_from);
+    put_lines(d, FONT_BOLD, text);
+    return;
+  }
+}
+
 /* What the picture leaves out. */
 static void put_remarks(drawing *d) {
   const picture *p = d->p;
@@ -130,6 +144,7 @@ static void draw(drawing *d) {
   put_lines(d, FONT_NOTE, setup->note);
   make_columns(d);
   make_parts(d);
+  put_parting(d);
   put_remarks(d);
   skip_to_window(d);
   draw_lanes(d);
