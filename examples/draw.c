@@ -24,11 +24,10 @@ static uint8_t sent[MOST_SENT][APOLLO_FRAME]; /* a blame and a block for each ca
 static int sent_count;
 static uint8_t out[APOLLO_OUT];
 
-static const char note[] = "A lane for each card, time to the right (not to scale), a column for each command: t i is a tick at card "
-                           "i, d i hands card i the oldest "
-                           "block or blame that waits for it. Card 0 leads round 1, card 1 round 2, card 2 round 3, then card 0 again. "
-                           "A card for which there is no "
-                           "command does nothing: it is dead.";
+static const char note[] =
+    "A lane for each card, time to the right (not to scale), a column for each command: t i is a tick at card i, d i hands card i the "
+    "oldest block or blame that waits for it. Card 0 leads round 1, card 1 round 2, card 2 round 3, then card 0 again. A card for which "
+    "there is no command does nothing: it is dead.";
 
 /* After a call: keeps the record, and hands what the card emitted to the others' queues. */
 static void settle(picture *p, int i, picture_kind kind, apollo_answer a, const uint8_t *in) {
@@ -98,7 +97,7 @@ static int read_line(char line[5]) {
 
 /* Obeys all commands. How many lines were none, or -1 if there was no line at all. */
 static int obey(picture *p) {
-  char line[5];
+  char line[5] = "";
   int len, wrong = 0;
   uint32_t number = 0;
   while ((len = read_line(line)) >= 0) {
@@ -149,13 +148,13 @@ int main(int argc, char **argv) {
     fputs("draw: apollo.h and libhost.a are of different versions\n", stderr);
     return 2;
   }
-  picture *p = picture_new(
-      (picture_setup){.cards = CARDS,
-                      .rounds = T,
-                      .rotation = {0, 1, 2},
-                      .unit = "command",
-                      .title = "A rehearsal: three cards, of which one may fail (f = 1); six rounds; a timeout of two ticks",
-                      .note = note});
+  picture_setup setup = {.cards = CARDS,
+                         .rounds = T,
+                         .unit = "command",
+                         .title = "A rehearsal: three cards, of which one may fail (f = 1); six rounds; a timeout of two ticks",
+                         .note = note};
+  memcpy(setup.rotation, rotation, sizeof rotation);
+  picture *p = picture_new(setup);
   if (!p) return fail(argv[1], "no memory");
   open_all(p);
   int status = draw(p, argv[1]);

@@ -85,7 +85,8 @@ int box_width(const seen_frame *f);                             /* of a block or
 int emitted_of(const picture *p, const event *e, uint8_t kind); /* the frame of that kind that it emitted, or NOWHERE */
 
 /* lanes.c */
-void pass_event(drawing *d, const event *e); /* how its card stands after it */
+void pass_event(drawing *d, const event *e); /* how its card stands after it, */
+void pass_mark(drawing *d, const event *e);  /* and whom it marks */
 void draw_part(drawing *d, int first, int end);
 
 /* signs.c */

@@ -30,7 +30,9 @@ static void note_frame(const picture *p, fate *fates, const event *e, int frame)
 
 static void note_commit(const picture *p, fate *fates, int k, int frame) {
   const event *e = event_at(p, (size_t)k);
-  fate *t = &fates[frame_at(p, frame)->round];
+  uint32_t round = frame_at(p, frame)->round;
+  if (round < 1 || round > p->setup.rounds) return; /* no call made such a log */
+  fate *t = &fates[round];
   t->shown |= e->column != NOWHERE;
   t->other |= is_other(p, e, frame);
   if (t->safe >> e->card & 1) return; /* a card that was opened again */

@@ -333,17 +333,15 @@ void pass_event(drawing *d, const event *e) {
   c->listed = listed + (uint32_t)e->commits.count;
 }
 
-static void note_marks(drawing *d) {
-  size_t k = first_event(d);
-  for (const event *e; (e = next_event(d, &k)); k++)
-    if (e->marks != NOWHERE) d->marked_by[e->marks] |= (uint16_t)(1u << e->card);
+void pass_mark(drawing *d, const event *e) {
+  if (e->marks != NOWHERE) d->marked_by[e->marks] |= (uint16_t)(1u << e->card);
 }
 
 void draw_part(drawing *d, int first, int end) {
   d->first = first;
   d->end = end;
   d->right = column_at(d, end - 1)->x + column_at(d, end - 1)->width + 2;
-  note_marks(d);
+  for (size_t k = first_event(d); next_event(d, &k); k++) pass_mark(d, event_at(d->p, k));
   int height = place_rows(d);
   if (d->y % PAGE + height > PAGE) {
     d->y += PAGE - d->y % PAGE;

@@ -132,9 +132,8 @@ static void draw_lanes(drawing *d) {
 static void skip_to_window(drawing *d) {
   const picture *p = d->p;
   for (size_t k = 0; k < p->events.count && moment_at(p, event_at(p, k)->moment)->number < p->from; k++) {
-    const event *e = event_at(p, k);
-    pass_event(d, e);
-    if (e->marks != NOWHERE) d->marked_by[e->marks] |= (uint16_t)(1u << e->card);
+    pass_event(d, event_at(p, k));
+    pass_mark(d, event_at(p, k));
   }
 }
 
@@ -182,11 +181,12 @@ static mode_t new_mode(void) {
 
 /* Under a name of its own first, which takes the file's place when all is written. */
 static int replace_file(const char *path, mode_t mode, const svg *head, const svg *body) {
+  static const char open_letters[] = ".XXXXXX"; /* mkstemp puts others in their place */
   size_t len = strlen(path);
-  char *beside = malloc(len + sizeof ".XXXXXX");
+  char *beside = malloc(len + sizeof open_letters);
   if (!beside) return 0;
   memcpy(beside, path, len);
-  memcpy(beside + len, ".XXXXXX", sizeof ".XXXXXX");
+  memcpy(beside + len, open_letters, sizeof open_letters);
   int file = mkstemp(beside);
   FILE *to = file < 0 ? NULL : fdopen(file, "wb");
   int good = to && fchmod(file, mode) == 0;
@@ -217,6 +217,7 @@ const char *picture_write(picture *p, const char *path) {
   drawing d = {.p = p, .y = 4};
   svg head = {0};
   const char *why = "no memory";
+  uint32_t to = p->to; /* a long picture ends earlier */
   int some = 0;
   for (int m = 0; m < (int)p->moments.count; m++) some |= in_window(p, m) > 0;
   if (p->failed) return why;
@@ -229,6 +230,8 @@ const char *picture_write(picture *p, const char *path) {
   svg_put(&d.s, "</svg>\n");
   put_head(&head, &d);
   if (!d.s.failed && !head.failed) why = put_file(path, &head, &d.s) ? NULL : strerror(errno);
+  p->to = to;
+  p->is_done = 0;
   free(d.columns.at);
   free(d.s.text);
   free(head.text);

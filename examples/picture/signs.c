@@ -68,12 +68,9 @@ void draw_bundle(drawing *d, int x, int y, const char *text) {
 
 void draw_cell(drawing *d, int x, int y, const seen_frame *f, int other, const char *text) {
   int w = token_width(text), lie = f && f->lie;
+  const char *thin = lie ? "2" : "1", *edge = other || lie ? dark_red : "#000";
   d->used[SIGN_LIST] = 1;
-  put_rect(&d->s, x, y, w, 14, 0, f ? colour_of(f->signer).fill : "#fff", other || lie ? dark_red : "#000",
-           other ? "2.5"
-           : lie ? "2"
-                 : "1",
-           lie);
+  put_rect(&d->s, x, y, w, 14, 0, f ? colour_of(f->signer).fill : "#fff", edge, other ? "2.5" : thin, lie);
   svg_text(&d->s, x + (w - svg_width(FONT_BOLD, text)) / 2, y + 11, FONT_BOLD, f ? colour_of(f->signer).ink : NULL, NULL, text);
 }
 

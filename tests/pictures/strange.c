@@ -230,15 +230,44 @@ static void lies(void) {
   }
 }
 
-/* Written twice it is the same. */
+/* Written twice it is the same, */
+static void expect_twice(picture *p, const char *name) {
+  EXPECT(!picture_write(p, path_of(name)));
+  char *first = strdup(contents(name));
+  expect_written(p, name);
+  EXPECT(first && strcmp(first, contents(name)) == 0);
+  free(first);
+}
+
+/* also where it is too long, so that it ends before the run. */
 static void twice(void) {
   picture *p = fresh(7, "Twice", "");
   relay(p, 7, "x", "deaf");
-  EXPECT(!picture_write(p, path_of("twice.svg")));
-  char *first = strdup(contents("twice.svg"));
-  expect_written(p, "twice.svg");
-  EXPECT(first && strcmp(first, contents("twice.svg")) == 0);
-  free(first);
+  expect_twice(p, "twice.svg");
+  p = fresh(3, "Twice, and too long", "");
+  for (uint32_t m = 0; m < 6000; m++) {
+    picture_moment(p, m, "");
+    if (m == 0) open_all(p, 3);
+    picture_phase(p, 1, m % 2 ? "deaf" : NULL);
+  }
+  expect_twice(p, "too-long.svg");
+  EXPECT(strstr(contents("too-long.svg"), ">TOO LONG: "));
+}
+
+/* A log that no call made, with a round in it that there is not. */
+static void wrong_log(void) {
+  static uint8_t log[APOLLO_FRAME * T];
+  picture *p = fresh(3, "A wrong log", "");
+  memset(log, APOLLO_BLOCK, sizeof log);
+  picture_moment(p, 0, "");
+  open_all(p, 3);
+  apollo_replica record = cards[1].record;
+  record.round.value = 9;
+  record.committed_round.value = 7;
+  picture_moment(p, 1, "");
+  picture_add(p, &(picture_call){.card = 1, .kind = PICTURE_BRANCH, .record = &record, .log = log});
+  EXPECT(!picture_write(p, path_of("wrong-log.svg")) && remove(path_of("wrong-log.svg")) == 0);
+  picture_free(p);
 }
 
 int main(int argc, char **argv) {
@@ -253,5 +282,6 @@ int main(int argc, char **argv) {
   junk_frames();
   lies();
   twice();
+  wrong_log();
   return 0;
 }
