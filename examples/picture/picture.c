@@ -202,7 +202,7 @@ static int replace_file(const char *path, mode_t mode, const svg *head, const sv
 static int put_file(const char *path, const svg *head, const svg *body) {
   struct stat old, link;
   if (stat(path, &old) != 0) {
-    int why = errno, is_new = lstat(path, &link) != 0; /* else it is a link to nothing */
+    int why = errno, is_new = *path && lstat(path, &link) != 0; /* else it is no name, or a link to nothing */
     errno = why;
     return is_new && replace_file(path, new_mode(), head, body);
   }
