@@ -20,13 +20,15 @@ use Rattle.apollo.specs.Masks.{mask, certified, gap}
 use Rattle.apollo.specs.Replica.{leads}
 use Rattle.apollo.specs.Enter.{State, Effect, commit, tipped, holding, entered, proposing, enterRound}
 use Rattle.apollo.specs.Outcome.{refused, taken}
-use Rattle.apollo.specs.Branch.{lastOf, childOf, firstUncertified, storeAll, grown, adopting, placed}
+use Rattle.apollo.specs.BlockRun.{lastOf, childOf, block, blocks}
+use Rattle.apollo.specs.Branch.{firstUncertified, storeAll, grown, adopting, placed}
 use Rattle.apollo.specs.Calls.{branchCall}
-use Rattle.apollo.specs.BenchSheet.{turn, Callable, ParentIn, Item9, Item10, Held, number, place, newRound, block, blocks}
+use Rattle.apollo.specs.BenchSheet.{turn, Callable, ParentIn, Item9, Item10, Held, number, place, newRound}
 use Rattle.apollo.proofs.Tests.{and-true, both, cond-true, cond-false, same-of, different}
 use Rattle.apollo.proofs.Validity.{Valid, valid}
 use Rattle.apollo.proofs.Slots.{slot-length, length-store, store-same, store-other, length-clear, clear-low, clear-high, take-slots, slot-take}
-use Rattle.apollo.proofs.Judging.{fresh-branch, attaches, block-length}
+use Rattle.apollo.proofs.BlockRun.{block-length, blocks-parts, blocks-of, blocks-none, blocks-one}
+use Rattle.apollo.proofs.Judging.{fresh-branch, attaches}
 use Rattle.apollo.proofs.BenchCommit.{slots-filled, committed-2, mask-1, mask-3}
 
 -- the answers of a branch that attaches to round a
@@ -58,11 +60,11 @@ module _ {s : State} {out : List ℕ} (c : Callable s out) (entry : List ℕ) (l
     (good : block (setupOf (s .replica)) x ≡ true) (now : round x ≡ s .replica .round .0) (p : ℕ) (low : 1 ≤ p)
     (parent : ParentIn (s .log) x p) where
   on-parent : branchCall s x entry out ≡ placed sha256 entry out s x [] (some p)
-  unfolding lastOf blocks flatten
+  unfolding lastOf flatten
   on-parent =
       let f : Valid (s .replica) (s .log) = valid (s .replica) (s .log) (c .valid) in
       let last : 1 ≤ s .replica .«last_round» .0 = f .setup .last-least in
-      ap (λ (b : List ℕ). branchCall s b entry out) (sym (append-nil x)) ∙ fresh-branch c entry l x [] last good (omega arith)
+      ap (λ (b : List ℕ). branchCall s b entry out) (sym (append-nil x)) ∙ fresh-branch c entry l x [] last (blocks-one _ x good) (omega arith)
       ∙ ap (placed sha256 entry out s x []) (attaches (s .log) x p low parent)
 
 first-short : (k : ℕ) → cond (eqb k 0) 0 k ≡ k
@@ -275,24 +277,21 @@ module _ (log y : List ℕ) (size : 2048 ≤ length log) (whole : length y ≡ 5
 module _ {s : State} {out : List ℕ} (h : Item10 s out) (entry : List ℕ) (l : length entry ≤ 400)
     (held : Held (setupOf (s .replica)) (s .log)) (y : List ℕ) (good : block (setupOf (s .replica)) y ≡ true)
     (child : linked (slot (s .log) 3) y ≡ true) (four : round y ≡ 4) where
-  branch-10 : blocks (setupOf (s .replica)) (slot (s .log) 1) (slot (s .log) 2 ∷ slot (s .log) 3 ∷ y ∷ []) ≡ true
-  unfolding blocks childOf
+  branch-10 : blocks (setupOf (s .replica)) none (slot (s .log) 1 ∷ slot (s .log) 2 ∷ slot (s .log) 3 ∷ y ∷ []) ≡ true
+  unfolding childOf
   branch-10 =
       let u : Setup = setupOf (s .replica) in
       let a : List ℕ = slot (s .log) 1 in
       let b : List ℕ = slot (s .log) 2 in
       let c : List ℕ = slot (s .log) 3 in
       let third : round c ≡ 3 = held .third in
-      let p = and-true (block u a) (childOf a b && blocks u b (c ∷ [])) (held .linked) in
-      let q = and-true (childOf a b) (blocks u b (c ∷ [])) (p .1) in
-      let r = and-true (block u b) (childOf b c && block u c) (q .1) in
-      let t = and-true (childOf b c) (block u c) (r .1) in
-      both (block u a) _ (p .0)
-      (both (childOf a b) _ (q .0)
-      (both (block u b) _ (r .0)
-      (both (childOf b c) _ (t .0)
-      (both (block u c) _ (t .1)
-      (both (childOf c y) _ (both (linked c y) (ltb (round c) (round y)) child (lt-ltb (round c) (round y) (omega arith))) good)))))
+      let p = blocks-parts u none a (b ∷ c ∷ []) (held .linked) in
+      let q = blocks-parts u (some a) b (c ∷ []) (p .2) in
+      let r = blocks-parts u (some b) c [] (q .2) in
+      let d : childOf c y ≡ true = both (linked c y) (ltb (round c) (round y)) child (lt-ltb (round c) (round y) (omega arith)) in
+      blocks-of u none a (b ∷ c ∷ y ∷ []) (p .0) refl
+      (blocks-of u (some a) b (c ∷ y ∷ []) (q .0) (q .1)
+      (blocks-of u (some b) c (y ∷ []) (r .0) (r .1) (blocks-of u (some c) y [] good d (blocks-none u (some y)))))
 
   attached-10 : attach (s .log) (slot (s .log) 1) (round (slot (s .log) 1) - 1) ≡ some 0
   unfolding attach

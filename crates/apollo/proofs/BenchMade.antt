@@ -21,16 +21,18 @@ use Rattle.apollo.specs.Masks.{bit, mask, addBlame}
 use Rattle.apollo.specs.Replica.{fresh, leads, validNumbers, validSetup, withCommitted}
 use Rattle.apollo.specs.Enter.{State, Effect, commitLimit, commit, tipped, hearing, holding, entered, ownBlock, proposing, enterRound, settle}
 use Rattle.apollo.specs.Outcome.{taken}
-use Rattle.apollo.specs.Branch.{lastOf, firstUncertified, storeAll, grown, adopting, placed}
+use Rattle.apollo.specs.BlockRun.{lastOf, block}
+use Rattle.apollo.specs.Branch.{firstUncertified, storeAll, grown, adopting, placed}
 use Rattle.apollo.specs.Single.{oneBlame}
 use Rattle.apollo.specs.Calls.{openCall, branchCall, blameCall}
-use Rattle.apollo.specs.BenchSheet.{turn, after, Callable, block, blocks}
+use Rattle.apollo.specs.BenchSheet.{turn, after, Callable}
 use Rattle.apollo.proofs.Single.{blame-one}
 use Rattle.apollo.proofs.Tests.{both, cond-true, cond-false, same-of}
 use Rattle.apollo.proofs.Rotation.{turn-rotation, padded-valid, turn-seat}
 use Rattle.apollo.proofs.Validity.{Valid, valid, valid-of}
 use Rattle.apollo.proofs.Slots.{length-zeros, length-store, store-same, store-other, length-clear, clear-low, take-slots}
 use Rattle.apollo.proofs.Judging.{passes, fresh-branch, attaches}
+use Rattle.apollo.proofs.BlockRun.{blocks-one}
 use Rattle.apollo.proofs.Made.{block-length, block-made, block-round, block-height, block-kind, block-parent, blame-length, blame-round, blame-form, blame-checked}
 use Rattle.apollo.proofs.BenchOpen.{open-fits}
 use Rattle.apollo.proofs.BenchBranches.{adopts, skips-none, grown-low}
@@ -356,7 +358,7 @@ module _ (id n : ℕ) (log masks : List ℕ) (l : n < 5) (h : Holds log n) (c : 
   taken-x =
       let e : round x ≡ n + 1 = at-x in
       ap (λ (b : List ℕ). branchCall (state id n log masks) b [] out) (sym (append-nil x))
-      ∙ fresh-branch c [] (omega arith) x [] (omega arith) (unfold blocks in child-x .good) (omega arith)
+      ∙ fresh-branch c [] (omega arith) x [] (omega arith) (blocks-one _ x (child-x .good)) (omega arith)
       ∙ ap (placed sha256 [] out (state id n log masks) x []) attached
       ∙ adopts [] out (state id n log masks) x [] n
       (skips-none (setup 1 6 (turn 1)) masks x n [] e ∙ (unfold firstUncertified in refl))

@@ -23,7 +23,8 @@ use Rattle.apollo.specs.Outcome.{Outcome, refused, taken, guarded}
 use Rattle.apollo.specs.Open.{openWith}
 use Rattle.apollo.specs.Tick.{tickWith}
 use Rattle.apollo.specs.Calls.{openCall, tickCall}
-use Rattle.apollo.specs.BenchSheet.{turn, after, number, newRound, block}
+use Rattle.apollo.specs.BenchSheet.{turn, after, number, newRound}
+use Rattle.apollo.specs.BlockRun.{block}
 use Rattle.apollo.proofs.Tests.{both, cond-true, cond-false}
 use Rattle.apollo.proofs.Rotation.{turn-rotation, turn-seat, padded-valid}
 use Rattle.apollo.proofs.Validity.{ValidSetup, valid-setup, valid-of}

@@ -18,14 +18,16 @@ use Rattle.apollo.specs.Enter.{State}
 use Rattle.apollo.specs.declared.Verdict.{Verdict}
 use Rattle.apollo.specs.Judging.{fault}
 use Rattle.apollo.specs.Outcome.{refused, taken}
-use Rattle.apollo.specs.Branch.{lastOf, childOf, firstUncertified, grown, faulty, judged, judgedAll, placed, branched, branchWith}
+use Rattle.apollo.specs.BlockRun.{lastOf, blocks, judgedRun}
+use Rattle.apollo.specs.Branch.{firstUncertified, grown, placed, branched, branchWith}
 use Rattle.apollo.specs.Blame.{handing}
 use Rattle.apollo.specs.Tick.{tickWith}
 use Rattle.apollo.specs.Calls.{branchCall, blameCall, tickCall}
 use Rattle.apollo.specs.Single.{oneBlame}
-use Rattle.apollo.specs.BenchSheet.{Callable, blocks, number}
+use Rattle.apollo.specs.BenchSheet.{Callable, number}
 use Rattle.apollo.proofs.Tests.{by-cond}
 use Rattle.apollo.proofs.Single.{blame-one}
+use Rattle.apollo.proofs.BlockRun.{run-number}
 use Rattle.apollo.proofs.Judging.{passes, too-long, stale-branch, fresh-branch}
 
 -- after 10 a branch is answered 0, 11, 12 or 13
@@ -41,7 +43,7 @@ placed-number P p0 p11 p12 p13 entry out s x xs (some a) =
 
 module _ {s : State} {out : List ℕ} (c : Callable s out) (entry : List ℕ) (l : length entry ≤ 400) (x : List ℕ)
     (xs : List (List ℕ)) (three : s .replica .round .0 ≡ 3) (fit : length (x ∷ xs) ≤ s .replica .«last_round» .0)
-    (good : blocks (setupOf (s .replica)) x xs ≡ true) where
+    (good : blocks (setupOf (s .replica)) none (x ∷ xs) ≡ true) where
   pub ends-in-2 : round (lastOf x xs) ≡ 2 → number (branchCall s (flatten (x ∷ xs)) entry out) ≡ 10
   unfolding refused
   ends-in-2 e = ap number (stale-branch c entry l x xs fit good (omega arith))
@@ -52,26 +54,6 @@ module _ {s : State} {out : List ℕ} (c : Callable s out) (entry : List ℕ) (l
       (placed-number (λ k. ¬ (k ≡ 10)) (λ z. omega arith) (λ z. omega arith) (λ z. omega arith) (λ z. omega arith) entry out s x
       xs (attach (s .log) x (round x - 1)))
 
--- the frames of a branch are answered 0, 7, 8 or 9
-module _ (P : ℕ → Type 0) (p0 : P 0) (p7 : P 7) (p8 : P 8) (p9 : P 9) (s : Setup) where
-  faulty-number : (x : List ℕ) → P (faulty sha256 s x)
-  unfolding fault
-  faulty-number x =
-      by-cond P (not (checked sha256 x)) (λ _. p7) (λ _. by-cond P (not (blockForm s x)) (λ _. p8) (λ _. p0))
-
-  judged-number : (k : ℕ) (x : List ℕ) (xs : List (List ℕ)) → P (judged sha256 s k x xs .number)
-  unfolding judged
-  judged-number k x [] = p0
-  judged-number k x (y ∷ ys) =
-      let ih : P (judged sha256 s (k + 1) y ys .number) = judged-number (k + 1) y ys in
-      by-cond (λ (v : Verdict). P (v .number)) (eqb (faulty sha256 s y) 0)
-      (λ _. by-cond (λ (v : Verdict). P (v .number)) (childOf x y) (λ _. ih) (λ _. p9)) (λ _. faulty-number y)
-
-  all-number : (x : List ℕ) (xs : List (List ℕ)) → P (judgedAll sha256 s x xs .number)
-  unfolding judgedAll
-  all-number x xs =
-      by-cond (λ (v : Verdict). P (v .number)) (eqb (faulty sha256 s x) 0) (λ _. judged-number 1 x xs) (λ _. faulty-number x)
-
 Not5 : ℕ → Type 0
 Not5 k = ¬ (k ≡ 5)
 
@@ -79,12 +61,13 @@ branched-not-5 : (entry out : List ℕ) (s : State) (xs : List (List ℕ)) → N
 unfolding branched refused Not5
 branched-not-5 entry out s [] = λ e. omega arith
 branched-not-5 entry out s (x ∷ xs) =
-    let all : Verdict = judgedAll sha256 (setupOf (s .replica)) x xs in
+    let all : Verdict = judgedRun sha256 (setupOf (s .replica)) 0 none (x ∷ xs) in
     by-cond (λ o. Not5 (number o)) (eqb (all .number) 0)
     (λ _. by-cond (λ o. Not5 (number o)) (ltb (round (lastOf x xs)) (s .replica .round .0)) (λ _ e. omega arith)
     (λ _. placed-number Not5 (λ e. omega arith) (λ e. omega arith) (λ e. omega arith) (λ e. omega arith) entry out s x xs
     (attach (s .log) x (round x - 1))))
-    (λ _. all-number Not5 (λ e. omega arith) (λ e. omega arith) (λ e. omega arith) (λ e. omega arith) (setupOf (s .replica)) x xs)
+    (λ _. run-number Not5 (λ e. omega arith) (λ e. omega arith) (λ e. omega arith) (λ e. omega arith) (setupOf (s .replica)) 0 none
+    (x ∷ xs))
 
 one-not-5 : (s : State) (x entry out : List ℕ) → Not5 (number (oneBlame s x entry out))
 unfolding oneBlame refused taken Not5

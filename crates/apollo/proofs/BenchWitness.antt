@@ -3,6 +3,7 @@
 use Prim.Native.Nat.{ℕ, _+_, _≤_, _<_}
 use mathlib.Core.Path.{_≡_, refl, sym, subst}
 use mathlib.Core.List.{List, [], _∷_}
+use mathlib.Core.Option.{none, some}
 use mathlib.Core.Bool.{true, false}
 use native.Mathlib.Omega.{arith}
 use lib.ListN.{length, length-set}
@@ -10,6 +11,7 @@ use lib.Dec.{ltb}
 use borrow.Author.Tests.{lt-ltb, ne-eqb}
 use Rattle.sha256.specs.Fips.{sha256}
 use Rattle.apollo.specs.Bytes.{zeros}
+use Rattle.apollo.specs.declared.Setup.{Setup}
 use Rattle.apollo.specs.Rotation.{inTurn, padded}
 use Rattle.apollo.specs.Setup.{setupOf, leader, setup}
 use Rattle.apollo.specs.Frame.{round, height, linked, makeBlame}
@@ -17,10 +19,11 @@ use Rattle.apollo.specs.Log.{slot, filled}
 use Rattle.apollo.specs.Masks.{bit, setBit, mask, addBlame}
 use Rattle.apollo.specs.Replica.{leads}
 use Rattle.apollo.specs.Enter.{State}
-use Rattle.apollo.specs.Branch.{childOf}
+use Rattle.apollo.specs.BlockRun.{childOf, block}
 use Rattle.apollo.specs.Calls.{branchCall, blameCall}
-use Rattle.apollo.specs.BenchSheet.{turn, chainRounds, after, ParentIn, Item9, Item10, Held, block, blocks}
+use Rattle.apollo.specs.BenchSheet.{turn, chainRounds, after, ParentIn, Item9, Item10, Held}
 use Rattle.apollo.proofs.Tests.{both}
+use Rattle.apollo.proofs.BlockRun.{blocks-of, blocks-none}
 use Rattle.apollo.proofs.Slots.{length-zeros}
 use Rattle.apollo.proofs.BenchMade.{child, Child, children, unrelated, blk, Sized, sized, next, Holds, record-of, out, slot-full, renewed, callable, Made, opening, opening-0, opening-1, branch-waits, branch-leads, hears}
 
@@ -164,8 +167,8 @@ module _ (log : List ℕ) (h : Holds log 3) where
       rw (f1, f2, f3)
 
   held-3-blocks : Held (setup 1 6 (turn 1)) log
-  unfolding blocks
   held-3-blocks =
+      let u : Setup = setup 1 6 (turn 1) in
       let c1 : Child 1 1 (blk 0) (blk 1) = next 0 (omega arith) in
       let c2 : Child 2 2 (blk 1) (blk 2) = next 1 (omega arith) in
       let c3 : Child 3 3 (blk 2) (blk 3) = next 2 (omega arith) in
@@ -182,11 +185,9 @@ module _ (log : List ℕ) (h : Holds log 3) where
         root = rw s1 (unfold blk in c1 .on);
         linked =
             rw (s1, s2, s3)
-            (both (block (setup 1 6 (turn 1)) (blk 1)) _ (c1 .good)
-            (both (childOf (blk 1) (blk 2)) _ (child-of (blk 1) (blk 2) c2 (omega arith))
-            (both (block (setup 1 6 (turn 1)) (blk 2)) _ (c2 .good)
-            (both (childOf (blk 2) (blk 3)) _ (child-of (blk 2) (blk 3) c3 (omega arith))
-            (c3 .good)))));
+            (blocks-of u none (blk 1) (blk 2 ∷ blk 3 ∷ []) (c1 .good) refl
+            (blocks-of u (some (blk 1)) (blk 2) (blk 3 ∷ []) (c2 .good) (child-of (blk 1) (blk 2) c2 (omega arith))
+            (blocks-of u (some (blk 2)) (blk 3) [] (c3 .good) (child-of (blk 2) (blk 3) c3 (omega arith)) (blocks-none u (some (blk 3))))));
       }
 
 met-10 : (s : State) (m : ℕ) (masks : List ℕ) → Made s 1 3 masks → length masks ≡ 6 → mask masks 2 ≡ m → mask masks 3 ≡ m → Met10 s m

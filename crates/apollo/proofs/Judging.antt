@@ -3,7 +3,7 @@
 use Prim.Native.Nat.{ℕ, zero, suc, _+_, _-_, _*_, _/_, _%_, _≤_, _<_}
 use mathlib.Core.Path.{_≡_, refl, sym, ap, _∙_, subst}
 use mathlib.Core.List.{List, [], _∷_, _++_, flatten}
-use mathlib.Core.Option.{some}
+use mathlib.Core.Option.{none, some}
 use mathlib.Core.Bool.{Bool, true, false, _&&_, not, cond}
 use native.Mathlib.Omega.{arith}
 use lib.ListN.{length, take, drop, length-append}
@@ -20,10 +20,12 @@ use Rattle.apollo.specs.Enter.{State}
 use Rattle.apollo.specs.declared.Verdict.{Verdict}
 use Rattle.apollo.specs.Judging.{noRefusal, fault}
 use Rattle.apollo.specs.Outcome.{Outcome, refused, guarded}
-use Rattle.apollo.specs.Branch.{lastOf, childOf, faulty, judged, judgedAll, placed, branched, branchWith}
-use Rattle.apollo.specs.BenchSheet.{Callable, ParentIn, block, blocks}
+use Rattle.apollo.specs.BlockRun.{lastOf, blocks, judgedRun}
+use Rattle.apollo.specs.Branch.{placed, branched, branchWith}
+use Rattle.apollo.specs.BenchSheet.{Callable, ParentIn}
 use Rattle.apollo.proofs.Tests.{and-true, both, cond-true, cond-false}
 use Rattle.apollo.proofs.Frames.{whole-of}
+use Rattle.apollo.proofs.BlockRun.{judged-blocks, run-length, run-frames}
 
 module _ {s : State} {out : List ℕ} (c : Callable s out) (entry : List ℕ) where
   before-entry : (o : Outcome)
@@ -45,97 +47,27 @@ module _ {s : State} {out : List ℕ} (c : Callable s out) (entry : List ℕ) wh
   pub too-long : 400 < length entry → (o : Outcome) → guarded s entry out o ≡ refused s out 5 0
   too-long l o = before-entry o ∙ cond-true _ _ (lt-ltb 400 (length entry) l)
 
--- a block frame is whole, and passes 7 and 8
-pub block-of : (s : Setup) (x : List ℕ) → length x ≡ 512 → checked sha256 x ≡ true → blockForm s x ≡ true → block s x ≡ true
-unfolding block
-block-of s x l c f =
-    both (eqb (length x) 512) _ (eq-eqb (length x) 512 l) (both (checked sha256 x) (blockForm s x) c f)
-
-pub block-parts : (s : Setup) (x : List ℕ) → block s x ≡ true → (checked sha256 x ≡ true) × (blockForm s x ≡ true)
-unfolding block
-block-parts s x e = and-true (checked sha256 x) (blockForm s x) (and-true (eqb (length x) 512) (checked sha256 x && blockForm s x) e .1)
-
-pub block-length : (s : Setup) (x : List ℕ) → block s x ≡ true → length x ≡ 512
-unfolding block
-block-length s x e = eqb-true (length x) 512 (and-true (eqb (length x) 512) (checked sha256 x && blockForm s x) e .0)
-
-faultless : (s : Setup) (x : List ℕ) → block s x ≡ true → faulty sha256 s x ≡ 0
-unfolding fault
-faultless s x e =
-    let q = block-parts s x e in
-    cond-false _ _ (ap not (q .0)) ∙ cond-false _ _ (ap not (q .1))
-
-blocks-head : (s : Setup) (x : List ℕ) (xs : List (List ℕ)) → blocks s x xs ≡ true → block s x ≡ true
-unfolding blocks
-blocks-head s x [] e = e
-blocks-head s x (y ∷ ys) e = and-true (block s x) (childOf x y && blocks s y ys) e .0
-
-judged-blocks : (s : Setup) (k : ℕ) (x : List ℕ) (xs : List (List ℕ)) → blocks s x xs ≡ true
-    → judged sha256 s k x xs ≡ noRefusal
-unfolding blocks judged
-judged-blocks s k x [] e = refl
-judged-blocks s k x (y ∷ ys) e =
-    let p = and-true (block s x) (childOf x y && blocks s y ys) e in
-    let q = and-true (childOf x y) (blocks s y ys) (p .1) in
-    cond-true _ _ (eq-eqb (faulty sha256 s y) 0 (faultless s y (blocks-head s y ys (q .1)))) ∙ cond-true _ _ (q .0)
-    ∙ judged-blocks s (k + 1) y ys (q .1)
-
-judged-whole : (s : Setup) (x : List ℕ) (xs : List (List ℕ)) → blocks s x xs ≡ true
-    → judgedAll sha256 s x xs ≡ noRefusal
-unfolding judgedAll
-judged-whole s x xs e =
-    cond-true _ _ (eq-eqb (faulty sha256 s x) 0 (faultless s x (blocks-head s x xs e))) ∙ judged-blocks s 1 x xs e
-
--- the frames of a branch, read back from its bytes
-branch-length : (s : Setup) (x : List ℕ) (xs : List (List ℕ)) → blocks s x xs ≡ true
-    → length (flatten (x ∷ xs)) ≡ 512 * length (x ∷ xs)
-unfolding blocks flatten
-branch-length s x [] e = let l : length x ≡ 512 = block-length s x e in simp (length-append, l) refl
-branch-length s x (y ∷ ys) e =
-    let p = and-true (block s x) (childOf x y && blocks s y ys) e in
-    let q = and-true (childOf x y) (blocks s y ys) (p .1) in
-    let l : length x ≡ 512 = block-length s x (p .0) in
-    let h : length (flatten (y ∷ ys)) ≡ 512 * length (y ∷ ys) = branch-length s y ys (q .1) in
-    length-append x (flatten (y ∷ ys)) ∙ (omega arith)
-
-frame-first : (x : List ℕ) (xs : List (List ℕ)) → length x ≡ 512 → frames (length xs) (flatten xs) ≡ xs
-    → frames (length (x ∷ xs)) (flatten (x ∷ xs)) ≡ x ∷ xs
-unfolding frames flatten
-frame-first x xs l e =
-    let t : take 512 (x ++ flatten xs) ≡ x = take-at x (flatten xs) 512 l in
-    let d : drop 512 (x ++ flatten xs) ≡ flatten xs = drop-at x (flatten xs) 512 l in
-    rw (t, d, e)
-
-branch-frames : (s : Setup) (x : List ℕ) (xs : List (List ℕ)) → blocks s x xs ≡ true
-    → frames (length (x ∷ xs)) (flatten (x ∷ xs)) ≡ x ∷ xs
-unfolding blocks
-branch-frames s x [] e = frame-first x [] (block-length s x e) (unfold frames in refl)
-branch-frames s x (y ∷ ys) e =
-    let p = and-true (block s x) (childOf x y && blocks s y ys) e in
-    let q = and-true (childOf x y) (blocks s y ys) (p .1) in
-    frame-first x (y ∷ ys) (block-length s x (p .0)) (branch-frames s y ys (q .1))
-
 module _ {s : State} {out : List ℕ} (c : Callable s out) (entry : List ℕ) (l : length entry ≤ 400) (x : List ℕ)
     (xs : List (List ℕ)) (fit : length (x ∷ xs) ≤ s .replica .«last_round» .0)
-    (good : blocks (setupOf (s .replica)) x xs ≡ true) where
+    (good : blocks (setupOf (s .replica)) none (x ∷ xs) ≡ true) where
   reads : branchWith sha256 s (flatten (x ∷ xs)) entry out ≡ branched sha256 entry out s (x ∷ xs)
   unfolding branchWith
   reads =
       let T : ℕ = s .replica .«last_round» .0 in
       let k : ℕ = length (x ∷ xs) in
       let b : List ℕ = flatten (x ∷ xs) in
-      let size : length b ≡ 512 * k = branch-length (setupOf (s .replica)) x xs good in
+      let size : length b ≡ 512 * k = run-length (setupOf (s .replica)) none (x ∷ xs) good in
       let one : 1 ≤ k = omega arith in
       let n : length b / 512 ≡ k = omega arith in
       let rest : length b % 512 ≡ 0 = omega arith in
       passes c entry l _
       ∙ cond-true _ _ (whole-of T b (record { even = rest; some = omega arith; few = omega arith }))
-      ∙ ap (branched sha256 entry out s) (ap (λ i. frames i b) n ∙ branch-frames (setupOf (s .replica)) x xs good)
+      ∙ ap (branched sha256 entry out s) (ap (λ i. frames i b) n ∙ run-frames (setupOf (s .replica)) none (x ∷ xs) good)
 
-  verdict : eqb (judgedAll sha256 (setupOf (s .replica)) x xs .number) 0 ≡ true
+  verdict : eqb (judgedRun sha256 (setupOf (s .replica)) 0 none (x ∷ xs) .number) 0 ≡ true
   verdict =
-      eq-eqb (judgedAll sha256 (setupOf (s .replica)) x xs .number) 0
-      (ap (λ (v : Verdict). v .number) (judged-whole (setupOf (s .replica)) x xs good))
+      eq-eqb (judgedRun sha256 (setupOf (s .replica)) 0 none (x ∷ xs) .number) 0
+      (ap (λ (v : Verdict). v .number) (judged-blocks (setupOf (s .replica)) 0 none (x ∷ xs) good))
 
   -- a branch of good frames is stale if it ends below R
   pub stale-branch : round (lastOf x xs) < s .replica .round .0

@@ -6,6 +6,7 @@ pub mod Slots
 pub mod Frames
 pub mod Fetch
 pub mod Fault
+pub mod BlockRun
 pub mod Single
 pub mod Judging
 pub mod Made

@@ -14,7 +14,7 @@ use Rattle.apollo.specs.Bytes.{part, number2, number4, bytes2, bytes4, z
 use Rattle.apollo.specs.declared.Setup.{Setup}
 use Rattle.apollo.specs.Setup.{replicas, leader}
 use Rattle.apollo.specs.Frame.{kind, signer, entryLength, round, height, parent, digest, blockForm, blameForm, blockHead, blameHead, checked, sealed, makeBlock, makeBlame}
-use Rattle.apollo.specs.BenchSheet.{block}
+use Rattle.apollo.specs.BlockRun.{block}
 use Rattle.apollo.proofs.Tests.{both, same-of, within-of}
 use Rattle.apollo.proofs.Slots.{length-zeros}
 

@@ -4,6 +4,7 @@
 use Prim.Native.Nat.{ℕ, zero, suc, _+_, _*_, _≤_, _<_}
 use mathlib.Core.Path.{_≡_}
 use mathlib.Core.List.{List, [], _∷_, _++_, flatten}
+use mathlib.Core.Option.{none}
 use mathlib.Core.Bool.{Bool, true, false, _&&_, cond}
 use lib.ListN.{length, take}
 use lib.Dec.{eqb}
@@ -17,8 +18,8 @@ use Rattle.apollo.specs.Log.{genesis, slot, filled}
 use Rattle.apollo.specs.Masks.{mask, addBlame, certified}
 use Rattle.apollo.specs.Replica.{fresh, validSetup, validReplica, validMasks}
 use Rattle.apollo.specs.Enter.{State, commit}
+use Rattle.apollo.specs.BlockRun.{lastOf, block, blocks}
 use Rattle.apollo.specs.Outcome.{Outcome}
-use Rattle.apollo.specs.Branch.{lastOf, childOf}
 use Rattle.apollo.specs.Calls.{openCall, branchCall, blameCall, tickCall}
 
 -- "the old turn" of 2f + 1 cards
@@ -60,15 +61,6 @@ pub record Callable (s : State) (out : List ℕ) : Type 0 where
   pub lent : validMasks (s .replica) (s .masks) ≡ true
   pub running : s .replica .round .0 ≤ s .replica .«last_round» .0
   pub room : 1024 ≤ length out
-
--- a whole frame that passes 7 and 8
-unfoldable pub block : Setup → List ℕ → Bool
-block s x = eqb (length x) 512 && (checked sha256 x && blockForm s x)
-
--- x and the frames after it pass 7, 8 and 9
-unfoldable pub blocks : Setup → (x : List ℕ) (xs : List (List ℕ)) → Bool
-blocks s x [] = block s x
-blocks s x (y ∷ ys) = block s x && (childOf x y && blocks s y ys)
 
 -- the parent of x is in round p: that slot is filled and x fits it, and no filled slot between the two fits
 pub record ParentIn (log x : List ℕ) (p : ℕ) : Type 0 where
@@ -120,7 +112,7 @@ pub record Held (s : Setup) (log : List ℕ) : Type 0 where
   pub second : round (slot log 2) ≡ 2
   pub third : round (slot log 3) ≡ 3
   pub root : linked genesis (slot log 1) ≡ true
-  pub linked : blocks s (slot log 1) (slot log 2 ∷ slot log 3 ∷ []) ≡ true
+  pub linked : blocks s none (slot log 1 ∷ slot log 2 ∷ slot log 3 ∷ []) ≡ true
 
 pub record BenchSheet : Type 0 where
   pub item-1 : (T : ℕ)
@@ -144,7 +136,7 @@ pub record BenchSheet : Type 0 where
   -- a branch of x and xs, whole frames that pass the tests before 10
   pub item-6 : (s : State) (x : List ℕ) (xs : List (List ℕ)) (entry out : List ℕ) → Callable s out → length entry ≤ 400
       → s .replica .round .0 ≡ 3 → length (x ∷ xs) ≤ s .replica .«last_round» .0
-      → blocks (setupOf (s .replica)) x xs ≡ true
+      → blocks (setupOf (s .replica)) none (x ∷ xs) ≡ true
       → (round (lastOf x xs) ≡ 2 → number (branchCall s (flatten (x ∷ xs)) entry out) ≡ 10)
       × (round (lastOf x xs) ≡ 3 → ¬ (number (branchCall s (flatten (x ∷ xs)) entry out) ≡ 10))
   -- open, then branch, blame and tick

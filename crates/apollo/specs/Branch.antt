@@ -1,30 +1,21 @@
 -- Document 01, "Hand in a branch".
-use Prim.Native.Nat.{ℕ, _+_, _-_, _*_}
+use Prim.Native.Nat.{ℕ, _-_, _*_}
 use mathlib.Core.List.{List, [], _∷_}
 use mathlib.Core.Option.{Option, none, some}
-use mathlib.Core.Bool.{Bool, _&&_, cond}
+use mathlib.Core.Bool.{cond}
 use lib.ListN.{take}
 use lib.Dec.{eqb, ltb}
 use Rattle.apollo.specs.Bytes.{same}
 use Rattle.apollo.specs.declared.Setup.{Setup}
 use Rattle.apollo.specs.declared.Verdict.{Verdict}
 use Rattle.apollo.specs.Setup.{setupOf}
-use Rattle.apollo.specs.Frame.{round, height, framesOf, wholeFrames, blockForm, linked}
+use Rattle.apollo.specs.Frame.{round, height, framesOf, wholeFrames}
 use Rattle.apollo.specs.Log.{store, clearAbove, attach}
 use Rattle.apollo.specs.Masks.{gap}
 use Rattle.apollo.specs.Enter.{State, Effect, holding, enterRound}
-use Rattle.apollo.specs.Judging.{verdict, noRefusal, fault}
+use Rattle.apollo.specs.BlockRun.{lastOf, judgedRun}
 use Rattle.apollo.specs.Outcome.{Outcome, refused, taken, guarded}
-use Rattle.apollo.specs.Refusal.{badLength, notChild, stale, unattached, revertsCommitted, notCertified}
-
--- the last frame of a branch of x and the frames after it
-unfoldable pub lastOf : (x : List ℕ) (xs : List (List ℕ)) → List ℕ
-lastOf x [] = x
-lastOf x (y ∷ ys) = lastOf y ys
-
--- frame y is the child of frame x
-unfoldable pub childOf : (x y : List ℕ) → Bool
-childOf x y = linked x y && ltb (round x) (round y)
+use Rattle.apollo.specs.Refusal.{badLength, stale, unattached, revertsCommitted, notCertified}
 
 -- the first skipped round that is not certified, for frames on a parent in round lo; 0 if none
 unfoldable pub firstUncertified : Setup → (masks : List ℕ) (lo : ℕ) → List (List ℕ) → ℕ
@@ -43,21 +34,6 @@ unfoldable pub grown : (log : List ℕ) (a : ℕ) → List (List ℕ) → List �
 grown log a xs = storeAll (clearAbove log a) xs
 
 module _ (hash : List ℕ → List ℕ) where
-  -- 7 and 8 of one frame
-  abbrev pub faulty : Setup → List ℕ → ℕ
-  faulty s = fault hash (blockForm s)
-
-  -- 7, 8 and 9 of the frames after x, from index k on
-  unfoldable pub judged : Setup → (k : ℕ) (x : List ℕ) → List (List ℕ) → Verdict
-  judged s k x [] = noRefusal
-  judged s k x (y ∷ ys) =
-      cond (eqb (faulty s y) 0) (cond (childOf x y) (judged s (k + 1) y ys) (verdict notChild k))
-      (verdict (faulty s y) k)
-
-  -- 7, 8 and 9 of all frames
-  unfoldable pub judgedAll : Setup → (x : List ℕ) (xs : List (List ℕ)) → Verdict
-  judgedAll s x xs = cond (eqb (faulty s x) 0) (judged s 1 x xs) (verdict (faulty s x) 0)
-
   -- the branch is taken on round a
   unfoldable pub adopting : (entry : List ℕ) → State → (a : ℕ) (x : List ℕ) (xs : List (List ℕ)) → Effect
   adopting entry s a x xs =
@@ -77,7 +53,7 @@ module _ (hash : List ℕ → List ℕ) where
   unfoldable pub branched : (entry out : List ℕ) → State → List (List ℕ) → Outcome
   branched entry out s [] = refused s out badLength 0
   branched entry out s (x ∷ xs) =
-      let all : Verdict = judgedAll (setupOf (s .replica)) x xs in
+      let all : Verdict = judgedRun hash (setupOf (s .replica)) 0 none (x ∷ xs) in
       cond (eqb (all .number) 0)
       (cond (ltb (round (lastOf x xs)) (s .replica .round .0)) (refused s out stale 0)
       (placed entry out s x xs (attach (s .log) x (round x - 1))))

@@ -8,6 +8,7 @@ pub mod Replica
 pub mod Enter
 pub mod Refusal
 pub mod Judging
+pub mod BlockRun
 pub mod Outcome
 pub mod Open
 pub mod Branch

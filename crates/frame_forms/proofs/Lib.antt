@@ -1,3 +1,3 @@
 pub mod Forms
 pub mod Facts
-pub mod Fault
+pub mod Judging

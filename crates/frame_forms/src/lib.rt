@@ -1,10 +1,17 @@
-// One frame judged in place: its check, its form as a block or as a blame, and 7 and 8 by these. Every function takes slices of any length.
+// One frame judged in place: its check, its form, a block's or a blame's, and 7 and 8 by these. Every function takes slices of any length.
 use apollo::Setup;
 ghost use mathlib.Core.Path.{_≡_};
 ghost use Rattle.apollo.specs.Bytes as Bytes;
 ghost use Rattle.apollo.specs.Frame as Frame;
 ghost use Rattle.apollo.specs.Judging.{fault};
 ghost use Rattle.sha256.specs.Fips.{sha256};
+ghost use Rattle.frame_forms.specs.Forms.{formOf};
+
+// The form that a frame is to have.
+pub enum Form {
+    Block,
+    Blame,
+}
 
 fn within(lo: u32, n: u32, hi: u32) -> bool
     ensures { λ r. ⌜ r ≡ Bytes.within lo n hi ⌝ }
@@ -66,27 +73,24 @@ pub fn blame_form(s: Setup, x: &[u8]) -> bool
     slices::is_blank(x, 8, 480)
 }
 
-// 7 and 8 of a block, 0 if it is refused by neither.
-pub fn block_fault(s: Setup, x: &[u8]) -> u8
-    ensures { λ k. ⌜ k ≡ fault sha256 (Frame.blockForm s) (now (x .entry)) ⌝ }
+// x has that form.
+fn has_form(form: Form, s: Setup, x: &[u8]) -> bool
+    ensures { λ r. ⌜ r ≡ formOf form s (now (x .entry)) ⌝ }
 {
-    if !checked(x) {
-        return apollo::refusal::BAD_DIGEST;
+    match form {
+        Form::Block => block_form(s, x),
+        Form::Blame => blame_form(s, x),
     }
-    if !block_form(s, x) {
-        return apollo::refusal::BAD_FORM;
-    }
-    0
 }
 
-// 7 and 8 of a blame, 0 if it is refused by neither.
-pub fn blame_fault(s: Setup, x: &[u8]) -> u8
-    ensures { λ k. ⌜ k ≡ fault sha256 (Frame.blameForm s) (now (x .entry)) ⌝ }
+// 7 and 8 of a frame that is to have that form, 0 if it is refused by neither.
+pub fn fault(form: Form, s: Setup, x: &[u8]) -> u8
+    ensures { λ k. ⌜ k ≡ fault sha256 (formOf form s) (now (x .entry)) ⌝ }
 {
     if !checked(x) {
         return apollo::refusal::BAD_DIGEST;
     }
-    if !blame_form(s, x) {
+    if !has_form(form, s, x) {
         return apollo::refusal::BAD_FORM;
     }
     0
