@@ -2,18 +2,19 @@
 use mathlib.Core.Path.{_≡_, refl, sym, _∙_}
 use mathlib.Core.Bool.{Bool, true, false, not, cond}
 use mathlib.Core.List.{List}
-use Prim.Native.Nat.{ℕ, _+_, _-_, _*_, _≤_, _<_}
+use Prim.Native.Nat.{ℕ, zero, suc, _+_, _-_, _*_, _≤_, _<_}
 use native.Mathlib.Omega.{arith}
 use lib.Dec.{eqb}
 use lib.ListN.{length}
-use borrow.Author.Tests.{eq-eqb, ne-eqb}
+use borrow.Author.Tests.{eq-eqb, ne-eqb, eqb-false, leb-true, not-false}
 use Rattle.apollo.specs.declared.Replica.{Replica}
 use Rattle.apollo.specs.declared.Part.{Part}
 use Rattle.apollo.specs.Bytes.{part}
 use Rattle.apollo.specs.Frame.{entryLength}
 use Rattle.apollo.specs.Log.{slot}
 use Rattle.apollo.specs.Replica.{validReplica}
-use Rattle.apollo.specs.Read.{ReadOutcome, partOf, lowest, readCall}
+use Rattle.apollo.specs.Read.{ReadOutcome, partOf, readable, lowest, readCall}
+use Rattle.apollo.proofs.Tests.{and-second, by-cond}
 use Rattle.apollo.proofs.Validity.{Valid, valid}
 use Rattle.log.specs.Slots.{slotPart}
 use Rattle.log.proofs.Search.{slot-part}
@@ -56,3 +57,25 @@ unfolding readCall
 read-bytes r log h =
     let q : ℕ = lowest log h 0 (r .«committed_round» .0) in
     shown log (not (validReplica r log)) (eqb q 0) 2 15 0 (512 * (q - 1) + 44) (entryLength (slot log q)) (readCall r log h) refl
+
+-- the lowest slot, if there is one, is one of those looked at, and readable
+lowest-found : (log : List ℕ) (h lo k : ℕ) → (lowest log h lo k ≡ 0 → ⊥)
+    → (lowest log h lo k ≤ lo + k) × (readable log h (lowest log h lo k) ≡ true)
+unfolding lowest
+lowest-found log h lo zero n = absurd (n refl)
+lowest-found log h lo (suc k) =
+    by-cond (λ q. (q ≡ 0 → ⊥) → (q ≤ lo + suc k) × (readable log h q ≡ true)) (readable log h (lo + 1)) (λ e n. (omega arith, e))
+    (λ e n. let i : (lowest log h (lo + 1) k ≤ lo + 1 + k) × (readable log h (lowest log h (lo + 1) k) ≡ true) = lowest-found log h (lo + 1) k n in
+    (omega (arith, i .0), i .1))
+
+-- the part lies in the log, whole
+pub part-fits : (r : Replica) (log : List ℕ) (h : ℕ) → readCall r log h .answer .start + readCall r log h .answer .length ≤ length log
+unfolding readCall readable
+part-fits r log h =
+    let Fits : ReadOutcome → Type 0 = λ o. o .answer .start + o .answer .length ≤ length log in
+    let q : ℕ = lowest log h 0 (r .«committed_round» .0) in
+    by-cond Fits (not (validReplica r log)) (λ e. omega arith) (λ v. by-cond Fits (eqb q 0) (λ z. omega arith) (λ n.
+    let i : (q ≤ r .«committed_round» .0) × (readable log h q ≡ true) = lowest-found log h 0 (r .«committed_round» .0) (eqb-false q 0 n) in
+    let b : 512 * r .«committed_round» .0 ≤ length log = committed-fits r log h true (sym (not-false _ v)) refl in
+    let l : entryLength (slot log q) ≤ 400 = leb-true (entryLength (slot log q)) 400 (and-second _ _ (i .1)) in
+    omega arith))

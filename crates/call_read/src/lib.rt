@@ -3,9 +3,11 @@ use apollo::Height;
 use apollo::Part;
 use apollo::Replica;
 ghost use mathlib.Core.Path.{_≡_};
-ghost use Prim.Native.Nat.{_<_};
+ghost use Prim.Native.Nat.{_+_, _≤_, _<_};
+ghost use lib.ListN.{length};
+ghost use Rattle.apollo.specs.Bytes as Bytes;
 ghost use Rattle.apollo.specs.Calls.{readCall};
-ghost use Rattle.call_read.specs.Answers.{noPart, entryPart};
+ghost use Rattle.call_read.specs.Answers.{noPart, entryPart, placeIn};
 
 fn no_part(number: u8) -> Part
     ensures { λ p. ⌜ p ≡ noPart number ⌝ }
@@ -44,12 +46,24 @@ pub fn read_part(replica: Replica, log: &[u8], height: Height) -> Part
     entry_part(log, r)
 }
 
-// The entry at a committed height, as a part of the lent log, empty if refused.
+// The part p of the log: its bytes, in the place where they lie.
+fn cut<'a>(log: &'a [u8], p: Part) -> &'a [u8]
+    requires { ⌜ p .start + p .length ≤ length (now log) ⌝ }
+    ensures { λ x. ⌜ now x ≡ Bytes.part (now (log .entry)) (p .start) (p .length) ⌝ }
+    ensures { λ x. ⌜ x .ptr ≡ placeIn (log .entry) (p .start) ⌝ }
+{
+    let start = p.start;
+    let end = start + p.length;
+    &log[start..end]
+}
+
+// The entry at a committed height, as the part of the lent log that `read_part` tells, empty if refused.
 pub fn read<'a>(replica: Replica, log: &'a [u8], height: Height, number: &mut u8) -> &'a [u8]
     ensures { λ x. ⌜ now x ≡ readCall replica (now (log .entry)) (height .0) .bytes ⌝ }
+    ensures { λ x. ⌜ x .ptr ≡ placeIn (log .entry) (readCall replica (now (log .entry)) (height .0) .answer .start) ⌝ }
     ensures { λ _. ⌜ now (number .exit) ≡ readCall replica (now (log .entry)) (height .0) .answer .number ⌝ }
 {
     let p = read_part(replica, log, height);
     *number = p.number;
-    slices::part(log, p.start, p.length)
+    cut(log, p)
 }
