@@ -1,9 +1,9 @@
 -- The judgements as the code makes them, one refusal at a time. Assumes nothing.
-use mathlib.Core.Path.{_≡_}
+use mathlib.Core.Path.{_≡_, refl, ap, _∙_}
 use mathlib.Core.Bool.{Bool, true, false}
 use mathlib.Core.List.{List}
 use mathlib.Core.Option.{Option, none, some}
-use Prim.Native.Nat.{ℕ, _-_}
+use Prim.Native.Nat.{ℕ, zero, suc, _-_}
 use lib.Dec.{ltb}
 use borrow.Author.Tests.{eq-eqb, ne-eqb}
 use Rattle.apollo.specs.declared.Replica.{Replica}
@@ -14,9 +14,11 @@ use Rattle.apollo.specs.Log.{attach}
 use Rattle.apollo.specs.declared.Verdict.{Verdict}
 use Rattle.apollo.specs.Branch.{firstUncertified}
 use Rattle.branch_links.specs.Judged.{judgedFrames}
+use Rattle.branch_rounds.specs.declared.Gap.{Gap}
+use Rattle.branch_rounds.specs.Answers.{gapAt}
 use Rattle.branch_rounds.specs.Keeps.{keepsAll}
 use Rattle.frame.specs.Ends.{firstFrame, lastFrame}
-use Rattle.branch.specs.Judge.{refusal, accepted, judgedOn, judgedAt, judgedFirst, judgedWhole, judgedBranch}
+use Rattle.branch.specs.Judge.{refusal, accepted, placeOf, judgedOn, judgedAt, judgedFirst, judgedWhole, judgedBranch}
 
 -- 6
 module _ (r : Replica) (log masks b : List ℕ) (w : Bool) (e : w ≡ wholeFrames (r .«last_round» .0) b) where
@@ -61,6 +63,14 @@ module _ (r : Replica) (log masks b x : List ℕ) (q : Option ℕ) (f : x ≡ fi
   attached-at a n = rw n at attached-is
 
 -- 13 and 12
+placed-at : (q : ℕ) → placeOf (gapAt q) ≡ q
+unfolding gapAt
+placed-at zero = refl
+placed-at (suc q) = refl
+
+pub gap-placed : (k : Gap) (p q : ℕ) → p ≡ placeOf k → k ≡ gapAt q → p ≡ q
+gap-placed k p q e d = e ∙ (ap placeOf d ∙ placed-at q)
+
 module _ (r : Replica) (log masks b : List ℕ) (s : Setup) (q : s ≡ setupOf r) (a p : ℕ)
     (g : p ≡ firstUncertified s masks a (framesOf b)) where
   gap : p ≡ firstUncertified (setupOf r) masks a (framesOf b)

@@ -15,6 +15,8 @@ use Rattle.apollo.specs.declared.Verdict.{Verdict}
 use Rattle.apollo.specs.Branch.{firstUncertified, grown}
 use Rattle.apollo.specs.Refusal.{badLength, stale, unattached, revertsCommitted, notCertified}
 use Rattle.branch_links.specs.Judged.{judgedFrames}
+use Rattle.branch_rounds.specs.declared.Gap.{Gap}
+use Rattle.branch_rounds.specs.declared.Gap.the-variants.{Uncertified, Closed}
 use Rattle.branch_rounds.specs.Keeps.{keepsAll}
 use Rattle.branch.specs.declared.Judged.{Judged}
 use Rattle.frame.specs.Ends.{firstFrame, lastFrame}
@@ -25,6 +27,11 @@ refusal number place = record { number = number; place = place; attach = 0 }
 
 abbrev pub accepted : (a : ℕ) → Judged
 accepted a = record { number = 0; place = 0; attach = a }
+
+-- the place of 13: the skipped round that is not certified, 0 if there is none
+abbrev pub placeOf : Gap → ℕ
+placeOf (Uncertified r) = r
+placeOf Closed = 0
 
 -- 13 and 12 of a branch on round a
 unfoldable pub judgedOn : Replica → (log masks bytes : List ℕ) (a : ℕ) → Judged

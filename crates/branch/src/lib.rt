@@ -8,7 +8,6 @@ ghost use Prim.Native.Nat.{_*_, _≤_};
 ghost use lib.ListN.{length};
 ghost use lib.Dec.{ltb};
 ghost use Rattle.apollo.specs.Frame as Frame;
-ghost use Rattle.branch_rounds.specs.Answers.{gapOf};
 ghost use Rattle.frame.specs.Ends.{lastFrame};
 ghost use Rattle.branch.specs.Judge as Judge;
 
@@ -38,7 +37,7 @@ fn is_stale(round: u32, frames: &[u8]) -> bool
 
 // The first skipped round that is not certified, 0 if there is none.
 fn gap_place(gap: Gap) -> u32
-    ensures { λ p. ⌜ p ≡ gapOf gap ⌝ }
+    ensures { λ p. ⌜ p ≡ Judge.placeOf gap ⌝ }
 {
     match gap {
         Gap::Uncertified(p) => p,

@@ -1,8 +1,8 @@
--- The walk over skipped rounds: one law for each of its steps. Assumes nothing.
-use mathlib.Core.Path.{_≡_}
+-- The walk over skipped rounds: one law for each of its steps, and its answer. Assumes nothing.
+use mathlib.Core.Path.{_≡_, ap}
 use mathlib.Core.Bool.{true, false, cond}
 use mathlib.Core.List.{List}
-use Prim.Native.Nat.{ℕ, suc, _+_, _-_, _*_, _≤_, _<_}
+use Prim.Native.Nat.{ℕ, zero, suc, _+_, _-_, _*_, _≤_, _<_}
 use native.Mathlib.Omega.{arith}
 use lib.Dec.{eqb}
 use lib.ListN.{take, drop}
@@ -12,6 +12,9 @@ use Rattle.apollo.specs.Frame.{round}
 use Rattle.apollo.specs.Masks.{certified, gap}
 use Rattle.apollo.specs.Branch.{firstUncertified}
 use Rattle.frame.proofs.Frames.{rest, rest-next, rest-end, frame-part}
+use Rattle.branch_rounds.specs.declared.Gap.{Gap}
+use Rattle.branch_rounds.specs.declared.Gap.the-variants.{Uncertified, Closed}
+use Rattle.branch_rounds.specs.Answers.{gapAt}
 
 module _ (s : Setup) (masks : List ℕ) where
   -- what is left of the walk, with the rounds up to p passed on the way to a frame of round `to`, and frames xs after it
@@ -47,3 +50,13 @@ module _ (s : Setup) (masks : List ℕ) where
   pub end : (b : List ℕ) (lo n i : ℕ) → n ≤ i → 0 ≡ firstUncertified s masks lo (rest b n i)
   unfolding firstUncertified
   end b lo n i h = rw (rest-end b n i h)
+
+-- what is told: no round, and a round
+pub told-none : (q : ℕ) → 0 ≡ q → Closed ≡ gapAt q
+unfolding gapAt
+told-none q e = ap gapAt e
+
+pub told-round : (p q : ℕ) → 0 < p → p ≡ q → Uncertified p ≡ gapAt q
+unfolding gapAt
+told-round p zero h e = absurd (omega arith)
+told-round p (suc q) h e = ap Uncertified e

@@ -1,9 +1,9 @@
--- What the answer of the code means.
-use Prim.Native.Nat.{ℕ}
+-- What the code answers.
+use Prim.Native.Nat.{ℕ, zero, suc}
 use Rattle.branch_rounds.specs.declared.Gap.{Gap}
 use Rattle.branch_rounds.specs.declared.Gap.the-variants.{Uncertified, Closed}
 
--- the first skipped round that is not certified, 0 if none
-abbrev pub gapOf : Gap → ℕ
-gapOf (Uncertified r) = r
-gapOf Closed = 0
+-- the answer for the first skipped round that is not certified, 0 if there is none
+unfoldable pub gapAt : ℕ → Gap
+gapAt zero = Closed
+gapAt (suc r) = Uncertified (suc r)

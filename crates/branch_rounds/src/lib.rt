@@ -4,7 +4,7 @@ use apollo::Setup;
 ghost use mathlib.Core.Path.{_≡_};
 ghost use Rattle.apollo.specs.Frame.{framesOf};
 ghost use Rattle.apollo.specs.Branch as Branch;
-ghost use Rattle.branch_rounds.specs.Answers.{gapOf};
+ghost use Rattle.branch_rounds.specs.Answers.{gapAt};
 ghost use Rattle.branch_rounds.specs.Keeps.{keepsFrame, keepsAll};
 
 // The first skipped round that is not certified.
@@ -15,7 +15,7 @@ pub enum Gap {
 
 // The first round that the frames skip, the first of them on round a, and that is not certified.
 pub fn first_uncertified(s: Setup, masks: &[u16], a: u32, frames: &[u8]) -> Gap
-    ensures { λ g. ⌜ gapOf g ≡ Branch.firstUncertified s (now (masks .entry)) a (framesOf (now (frames .entry))) ⌝ }
+    ensures { λ g. ⌜ g ≡ gapAt (Branch.firstUncertified s (now (masks .entry)) a (framesOf (now (frames .entry)))) ⌝ }
 {
     let n = frames.len() / 512;
     let mut lo = a;

@@ -6,7 +6,7 @@ use borrow.Author.Needs.{needs}
 use borrow.Author.Tests.{not-true, not-false}
 use Rattle.apollo.specs.Branch as Branch
 use Rattle.apollo.specs.Frame as Frame
-use Rattle.branch_rounds.proofs.Walk.{onward, pass, stop, leave, enter, end}
+use Rattle.branch_rounds.proofs.Walk.{onward, pass, stop, leave, enter, end, told-none, told-round}
 use Rattle.frame.proofs.Frames.{rest, rest-start}
 use Rattle.branch_rounds.proofs.first_uncertified.Statement.{statement}
 use Rattle.branch_rounds.proofs.first_uncertified.Tie as tie
@@ -36,10 +36,10 @@ walk-again : tie.Need-walk-again Inv-loop μ-loop Inv-walk μ-walk
 walk-again c = (search needs, search needs, leave _ (c .before .before .before .before .before .before .before .before .args .masks .now) (c .before .loop .p) (c .before .before .round .result) _ (c .loop-test .left) ∙ c .before .loop .inv .1)
 
 returns : tie.Need-returns Inv-loop μ-loop Inv-walk μ-walk
-returns c = end (c .before .before .before .before .args .s) (c .before .before .before .before .args .masks .now) (c .before .before .before .before .args .frames .now) (c .before .walk .lo) _ (c .before .walk .i) (c .if1 .taken) ∙ c .before .walk .inv .2
+returns c = told-none _ (end (c .before .before .before .before .args .s) (c .before .before .before .before .args .masks .now) (c .before .before .before .before .args .frames .now) (c .before .walk .lo) _ (c .before .walk .i) (c .if1 .taken) ∙ c .before .walk .inv .2)
 
 returns-2 : tie.Need-returns-2 Inv-loop μ-loop Inv-walk μ-walk
-returns-2 c = stop (c .before .before .before .before .before .before .before .before .before .before .args .s) (c .before .before .before .before .before .before .before .before .before .before .args .masks .now) (c .before .before .before .loop .p) (c .before .before .before .before .round .result) _ (c .before .before .loop-test .taken) (sym (c .before .certified .ensures) ∙ not-true _ (c .if2 .taken)) ∙ c .before .before .before .loop .inv .1
+returns-2 c = told-round _ _ (omega arith) (stop (c .before .before .before .before .before .before .before .before .before .before .args .s) (c .before .before .before .before .before .before .before .before .before .before .args .masks .now) (c .before .before .before .loop .p) (c .before .before .before .before .round .result) _ (c .before .before .loop-test .taken) (sym (c .before .certified .ensures) ∙ not-true _ (c .if2 .taken)) ∙ c .before .before .before .loop .inv .1)
 
 pub first-uncertified-spec : {M : Type 1} → statement M
 first-uncertified-spec =
