@@ -9,8 +9,8 @@ use lib.Seq.{length-take-le, take-all}
 use lib.Dec.{eqb}
 use borrow.Author.Tests.{eqb-true, eq-eqb}
 use Rattle.apollo.specs.Bytes.{within}
-use Rattle.apollo.specs.Frame.{frames, framesOf, wholeFrames}
-use Rattle.apollo.specs.Equivocation.{first, second}
+use Rattle.apollo.specs.Frame.{frames, framesOf, firstFrame, wholeFrames}
+use Rattle.apollo.specs.Equivocation.{second}
 use Rattle.apollo.proofs.Tests.{and-true, both, within-true, within-of}
 
 -- every frame has 512 bytes
@@ -66,7 +66,7 @@ frames-one x l =
     ap (λ n. frames n x) one ∙ ap (λ y. y ∷ []) (take-all 512 x (omega arith))
 
 -- two frames
-pub pair-frames : (bytes : List ℕ) → length bytes ≡ 1024 → framesOf bytes ≡ first bytes ∷ second bytes ∷ []
+pub pair-frames : (bytes : List ℕ) → length bytes ≡ 1024 → framesOf bytes ≡ firstFrame bytes ∷ second bytes ∷ []
 unfolding frames
 pair-frames bytes l =
     let two : length bytes / 512 ≡ 2 = omega arith in

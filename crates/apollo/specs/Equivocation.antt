@@ -9,7 +9,7 @@ use Rattle.apollo.specs.declared.Verdict.{Verdict}
 use Rattle.apollo.specs.declared.Marked.{Marked}
 use Rattle.apollo.specs.Bytes.{part, same}
 use Rattle.apollo.specs.Setup.{setupOf, leader}
-use Rattle.apollo.specs.Frame.{round, digest, blockForm}
+use Rattle.apollo.specs.Frame.{round, digest, firstFrame, blockForm}
 use Rattle.apollo.specs.Replica.{withMark, validRecord}
 use Rattle.apollo.specs.Judging.{judgedEach}
 use Rattle.apollo.specs.Refusal.{badReplica, badLength, notEquivocation}
@@ -22,10 +22,7 @@ marked number place r = record { number = number; place = place; replica = r }
 abbrev pub isPair : (bytes : List ℕ) → Bool
 isPair bytes = eqb (length bytes) 1024
 
--- the first and the second of them
-abbrev pub first : (bytes : List ℕ) → List ℕ
-first bytes = part bytes 0 512
-
+-- the second of them
 abbrev pub second : (bytes : List ℕ) → List ℕ
 second bytes = part bytes 512 512
 
@@ -46,4 +43,4 @@ module _ (hash : List ℕ → List ℕ) where
   unfoldable pub equivocationWith : Replica → (bytes : List ℕ) → Marked
   equivocationWith r bytes =
       cond (not (validRecord r)) (marked badReplica 0 r)
-      (cond (isPair bytes) (accusing r (first bytes) (second bytes)) (marked badLength 0 r))
+      (cond (isPair bytes) (accusing r (firstFrame bytes) (second bytes)) (marked badLength 0 r))

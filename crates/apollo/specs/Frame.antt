@@ -41,6 +41,13 @@ frames (suc n) xs = take 512 xs ∷ frames n (drop 512 xs)
 abbrev pub framesOf : (bytes : List ℕ) → List (List ℕ)
 framesOf bytes = frames (length bytes / 512) bytes
 
+-- the first and the last of some frames, in their bytes
+abbrev pub firstFrame : (bytes : List ℕ) → List ℕ
+firstFrame bytes = part bytes 0 512
+
+abbrev pub lastFrame : (bytes : List ℕ) → List ℕ
+lastFrame bytes = part bytes (length bytes - 512) 512
+
 -- 1 to `most` whole frames
 unfoldable pub wholeFrames : (most : ℕ) (bytes : List ℕ) → Bool
 wholeFrames most bytes = eqb (length bytes % 512) 0 && within 1 (length bytes / 512) most

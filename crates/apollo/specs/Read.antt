@@ -21,14 +21,14 @@ abbrev pub partOf : (log : List ℕ) (number start length : ℕ) → ReadOutcome
 partOf log number start length =
     record { answer = record { number = number; start = start; length = length }; bytes = part log start length }
 
--- slot r is filled, with height h and an entry length of at most 400
-unfoldable pub readable : (log : List ℕ) (h r : ℕ) → Bool
-readable log h r = filled (slot log r) && eqb (height (slot log r)) h && leb (entryLength (slot log r)) 400
+-- slot x is filled, with height h and an entry length of at most 400
+unfoldable pub readable : (x : List ℕ) (h : ℕ) → Bool
+readable x h = filled x && eqb (height x) h && leb (entryLength x) 400
 
 -- the lowest of the k rounds above lo with such a slot, 0 if none
 unfoldable pub lowest : (log : List ℕ) (h lo k : ℕ) → ℕ
 lowest log h lo zero = 0
-lowest log h lo (suc k) = cond (readable log h (lo + 1)) (lo + 1) (lowest log h (lo + 1) k)
+lowest log h lo (suc k) = cond (readable (slot log (lo + 1)) h) (lo + 1) (lowest log h (lo + 1) k)
 
 -- read at height h: 2, 15, and taken
 unfoldable pub readCall : Replica → (log : List ℕ) (h : ℕ) → ReadOutcome

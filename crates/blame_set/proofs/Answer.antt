@@ -16,8 +16,8 @@ use Rattle.apollo.specs.Blame.{oneSet, anyFresh, hearingAll, heard}
 use Rattle.apollo.specs.Enter.{State, settle}
 use Rattle.apollo.specs.Outcome.{Outcome, refused, taken}
 use Rattle.apollo.proofs.Frames.{whole-true, frames-split}
-use Rattle.blame_set.specs.Set.{Marked, judgedTogether, judgedFrames, judgedSet, answered}
-use Rattle.blame_set.proofs.Marked.{each-marked, none-second}
+use Rattle.blame_set.specs.Set.{HaveBits, judgedTogether, judgedFrames, judgedSet, answered}
+use Rattle.blame_set.proofs.Bits.{each-has-bit, none-second}
 
 module _ (s : State) (out : List ℕ) (o : Outcome) where
   -- what is answered to a verdict: o where nothing refuses
@@ -59,10 +59,10 @@ module _ (s : State) (bytes entry out : List ℕ) where
       (λ w. heard-answer (length bytes / 512) (whole-true most bytes w .some) refl)
 
 -- the signers of a set that nothing refuses have bits
-pub set-marked : (most : ℕ) (r : Replica) (masks bytes : List ℕ) → r .f ≤ 7 → judgedSet most r masks bytes .number ≡ 0
-    → Marked (framesOf bytes)
+pub set-bits : (most : ℕ) (r : Replica) (masks bytes : List ℕ) → r .f ≤ 7 → judgedSet most r masks bytes .number ≡ 0
+    → HaveBits (framesOf bytes)
 unfolding judgedSet judgedFrames
-set-marked most r masks bytes l e =
+set-bits most r masks bytes l e =
     let v : Verdict = judgedEach sha256 (blameForm (setupOf r)) 0 (framesOf bytes) in
-    each-marked (setupOf r) l 0 (framesOf bytes)
+    each-has-bit (setupOf r) l 0 (framesOf bytes)
     (none-second (wholeFrames most bytes) (eqb (v .number) 0) (judgedTogether r masks bytes) v refl e)

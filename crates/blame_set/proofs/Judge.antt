@@ -10,11 +10,10 @@ use Rattle.apollo.specs.declared.Replica.{Replica}
 use Rattle.apollo.specs.declared.Setup.{Setup}
 use Rattle.apollo.specs.declared.Verdict.{Verdict}
 use Rattle.apollo.specs.Setup.{setupOf}
-use Rattle.apollo.specs.Frame.{signer, round, framesOf, wholeFrames, blameForm}
+use Rattle.apollo.specs.Frame.{signer, round, framesOf, firstFrame, wholeFrames, blameForm}
 use Rattle.apollo.specs.Masks.{bit}
 use Rattle.apollo.specs.Judging.{verdict, noRefusal, judgedEach}
 use Rattle.apollo.specs.Blame.{oneSet, anyFresh}
-use Rattle.frame.specs.Ends.{firstFrame}
 use Rattle.blame_set.specs.Set.{judgedTogether, judgedFrames, judgedSet}
 
 -- a frame joins a set of round r

@@ -1,4 +1,4 @@
 pub mod Each
-pub mod Marked
+pub mod Bits
 pub mod Judge
 pub mod Answer

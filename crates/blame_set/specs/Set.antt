@@ -7,18 +7,17 @@ use Rattle.sha256.specs.Fips.{sha256}
 use Rattle.apollo.specs.declared.Replica.{Replica}
 use Rattle.apollo.specs.declared.Verdict.{Verdict}
 use Rattle.apollo.specs.Setup.{setupOf}
-use Rattle.apollo.specs.Frame.{signer, round, framesOf, wholeFrames, blameForm}
+use Rattle.apollo.specs.Frame.{signer, round, framesOf, firstFrame, wholeFrames, blameForm}
 use Rattle.apollo.specs.Judging.{verdict, noRefusal, judgedEach}
 use Rattle.apollo.specs.Blame.{oneSet, anyFresh, hearingAll}
 use Rattle.apollo.specs.Enter.{State, settle}
 use Rattle.apollo.specs.Outcome as Outcome
 use Rattle.apollo.specs.Refusal.{badLength, stale, early, notASet}
-use Rattle.frame.specs.Ends.{firstFrame}
 
 -- each signer has a bit in a mask of 16
-abbrev pub Marked : List (List ℕ) → Type 0
-Marked [] = Unit {0}
-Marked (x ∷ xs) = (signer x < 16) × Marked xs
+abbrev pub HaveBits : List (List ℕ) → Type 0
+HaveBits [] = Unit {0}
+HaveBits (x ∷ xs) = (signer x < 16) × HaveBits xs
 
 -- 16, 14 and 10 of frames that passed 7 and 8
 unfoldable pub judgedTogether : Replica → (masks bytes : List ℕ) → Verdict

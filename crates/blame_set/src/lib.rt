@@ -15,7 +15,7 @@ ghost use Rattle.apollo.specs.Masks as Masks;
 ghost use Rattle.apollo.specs.Judging as Judging;
 ghost use Rattle.apollo.specs.Blame as Blame;
 ghost use Rattle.blame_set.specs.Set as Set;
-ghost use Rattle.blame_set.specs.Set.{Marked};
+ghost use Rattle.blame_set.specs.Set.{HaveBits};
 
 fn refusal(number: u8) -> Verdict
     ensures { λ v. ⌜ v ≡ Judging.verdict number 0 ⌝ }
@@ -65,7 +65,7 @@ fn joined(x: &[u8], before: u16) -> u16
 
 // The frames are of round r, and no signer is there twice.
 fn is_one_set(frames: &[u8], r: u32) -> bool
-    requires { ⌜ Marked (framesOf (now frames)) ⌝ }
+    requires { ⌜ HaveBits (framesOf (now frames)) ⌝ }
     ensures { λ b. ⌜ b ≡ Blame.oneSet r 0 (framesOf (now (frames .entry))) ⌝ }
 {
     let n = frames.len() / 512;
@@ -110,7 +110,7 @@ fn is_any_fresh(masks: &[u16], frames: &[u8]) -> bool
 
 // 16, 14 and 10 of frames that passed 7 and 8.
 fn judge_together(r: Replica, masks: &[u16], frames: &[u8]) -> Verdict
-    requires { ⌜ Marked (framesOf (now frames)) ⌝ }
+    requires { ⌜ HaveBits (framesOf (now frames)) ⌝ }
     ensures { λ v. ⌜ v ≡ Set.judgedTogether r (now (masks .entry)) (now (frames .entry)) ⌝ }
 {
     let round = frame::round(slices::part(frames, 0, 512));
@@ -161,7 +161,7 @@ fn add_frame(masks: &mut [u16], x: &[u8])
 
 // The blames of the set are added.
 pub fn add_blames(masks: &mut [u16], frames: &[u8])
-    requires { ⌜ Marked (framesOf (now frames)) ⌝ }
+    requires { ⌜ HaveBits (framesOf (now frames)) ⌝ }
     ensures { λ _. ⌜ now (masks .exit) ≡ Blame.addBlames (now (masks .entry)) (framesOf (now (frames .entry))) ⌝ }
 {
     let n = frames.len() / 512;

@@ -10,7 +10,7 @@ use lib.ListN.{length, take, drop}
 use borrow.Author.Tests.{eqb-true}
 use Rattle.sha256.specs.Fips.{sha256}
 use Rattle.apollo.specs.Setup.{setupOf}
-use Rattle.apollo.specs.Frame.{round, frames, framesOf, wholeFrames}
+use Rattle.apollo.specs.Frame.{round, frames, framesOf, firstFrame, lastFrame, wholeFrames}
 use Rattle.apollo.specs.Log.{attach}
 use Rattle.apollo.specs.Replica.{validReplica, validMasks}
 use Rattle.apollo.specs.Enter.{State, Effect}
@@ -24,7 +24,6 @@ use Rattle.branch_rounds.proofs.Grown.{keeps-grown}
 use Rattle.apollo.proofs.Validity.{Valid}
 use Rattle.apollo.proofs.Validity.{valid}
 use Rattle.branch.specs.declared.Judged.{Judged}
-use Rattle.frame.specs.Ends.{firstFrame, lastFrame}
 use Rattle.branch.specs.Judge.{refusal, accepted, judgedOn, judgedAt, judgedWhole, judgedBranch, adopted, answered}
 use Rattle.apollo.proofs.Frames.{WholeFrames, whole-true, frames-split}
 use Rattle.branch.proofs.Frames.{last-is}

@@ -9,7 +9,7 @@ use borrow.Author.Tests.{eq-eqb, ne-eqb}
 use Rattle.apollo.specs.declared.Replica.{Replica}
 use Rattle.apollo.specs.declared.Setup.{Setup}
 use Rattle.apollo.specs.Setup.{setupOf}
-use Rattle.apollo.specs.Frame.{round, framesOf, wholeFrames}
+use Rattle.apollo.specs.Frame.{round, framesOf, firstFrame, lastFrame, wholeFrames}
 use Rattle.apollo.specs.Log.{attach}
 use Rattle.apollo.specs.declared.Verdict.{Verdict}
 use Rattle.apollo.specs.Branch.{firstUncertified}
@@ -17,7 +17,6 @@ use Rattle.branch_links.specs.Judged.{judgedFrames}
 use Rattle.branch_rounds.specs.declared.Gap.{Gap}
 use Rattle.branch_rounds.specs.Answers.{gapAt}
 use Rattle.branch_rounds.specs.Keeps.{keepsAll}
-use Rattle.frame.specs.Ends.{firstFrame, lastFrame}
 use Rattle.branch.specs.Judge.{refusal, accepted, placeOf, judgedOn, judgedAt, judgedFirst, judgedWhole, judgedBranch}
 
 -- 6

@@ -11,7 +11,7 @@ use Rattle.sha256.specs.Fips.{sha256}
 use Rattle.apollo.specs.declared.Replica.{Replica}
 use Rattle.apollo.specs.declared.Setup.{Setup}
 use Rattle.apollo.specs.Setup.{setupOf}
-use Rattle.apollo.specs.Frame.{round, frames, framesOf, wholeFrames, blockForm}
+use Rattle.apollo.specs.Frame.{round, frames, framesOf, firstFrame, lastFrame, wholeFrames, blockForm}
 use Rattle.apollo.specs.Log.{attach}
 use Rattle.apollo.specs.declared.Verdict.{Verdict}
 use Rattle.apollo.specs.Branch.{lastOf, childOf, faulty, judged, judgedAll}
@@ -21,7 +21,6 @@ use Rattle.log.specs.Slots.{Slotted}
 use Rattle.branch_links.specs.Judged.{judgedFrames}
 use Rattle.branch_links.proofs.Ordered.{step}
 use Rattle.branch.specs.declared.Judged.{Judged}
-use Rattle.frame.specs.Ends.{firstFrame, lastFrame}
 use Rattle.branch.specs.Judge.{refusal, judgedAt, judgedWhole, judgedBranch}
 use Rattle.apollo.proofs.Frames.{WholeFrames, whole-true, frames-split}
 use Rattle.branch.proofs.Frames.{last-is}

@@ -7,7 +7,7 @@ use lib.Dec.{eqb, ltb}
 use Rattle.sha256.specs.Fips.{sha256}
 use Rattle.apollo.specs.declared.Replica.{Replica}
 use Rattle.apollo.specs.Setup.{setupOf}
-use Rattle.apollo.specs.Frame.{round, height, framesOf, wholeFrames}
+use Rattle.apollo.specs.Frame.{round, height, framesOf, firstFrame, lastFrame, wholeFrames}
 use Rattle.apollo.specs.Log.{attach}
 use Rattle.apollo.specs.Enter.{State, Effect, holding, enterRound}
 use Rattle.apollo.specs.Outcome as Outcome
@@ -19,7 +19,6 @@ use Rattle.branch_rounds.specs.declared.Gap.{Gap}
 use Rattle.branch_rounds.specs.declared.Gap.the-variants.{Uncertified, Closed}
 use Rattle.branch_rounds.specs.Keeps.{keepsAll}
 use Rattle.branch.specs.declared.Judged.{Judged}
-use Rattle.frame.specs.Ends.{firstFrame, lastFrame}
 
 -- refused with a number and a place; accepted on round a
 abbrev pub refusal : (number place : ℕ) → Judged

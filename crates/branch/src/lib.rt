@@ -8,7 +8,6 @@ ghost use Prim.Native.Nat.{_*_, _≤_};
 ghost use lib.ListN.{length};
 ghost use lib.Dec.{ltb};
 ghost use Rattle.apollo.specs.Frame as Frame;
-ghost use Rattle.frame.specs.Ends.{lastFrame};
 ghost use Rattle.branch.specs.Judge as Judge;
 
 // The refusal of a branch and its place, 0 and 0 if there is none, and then the round that it attaches to.
@@ -30,7 +29,7 @@ fn refusal(number: u8, place: u32) -> Judged
 
 // The last round of the branch is below R.
 fn is_stale(round: u32, frames: &[u8]) -> bool
-    ensures { λ b. ⌜ b ≡ ltb (Frame.round (lastFrame (now (frames .entry)))) round ⌝ }
+    ensures { λ b. ⌜ b ≡ ltb (Frame.round (Frame.lastFrame (now (frames .entry)))) round ⌝ }
 {
     frame::round(frame::last_frame(frames)) < round
 }

@@ -8,15 +8,13 @@ use native.Mathlib.Omega.{arith}
 use borrow.Author.Tests.{eq-eqb, ne-eqb}
 use Rattle.apollo.specs.Frame.{kind, linked}
 use Rattle.apollo.specs.Log.{genesis, slot, filled, attach}
-use Rattle.log.specs.Slots.{slotPart}
-use Rattle.log.proofs.Search.{slot-is}
 
-module _ (log x : List ℕ) (r : ℕ) (g : 0 < r) (e : x ≡ slotPart log r) (k : ℕ) (d : k ≡ kind x) where
+module _ (log x : List ℕ) (r : ℕ) (e : x ≡ slot log r) (k : ℕ) (d : k ≡ kind x) where
   pub attach-unfilled : (y : List ℕ) → (k ≡ 1 → ⊥) → false ≡ (filled (slot log r) && linked (slot log r) y)
-  attach-unfilled y n = rw (slot-is log x r g e, ← d, ne-eqb k 1 n)
+  attach-unfilled y n = rw (← e, ← d, ne-eqb k 1 n)
 
   pub attach-filled : (y : List ℕ) (b : Bool) → k ≡ 1 → b ≡ linked x y → b ≡ (filled (slot log r) && linked (slot log r) y)
-  attach-filled y b o q = rw (slot-is log x r g e, ← d, eq-eqb k 1 o) q
+  attach-filled y b o q = rw (← e, ← d, eq-eqb k 1 o) q
 
 -- attach, from slot r downwards
 pub attach-here : (log x : List ℕ) (r : ℕ) → 0 < r → true ≡ (filled (slot log r) && linked (slot log r) x) → some r ≡ attach log x r

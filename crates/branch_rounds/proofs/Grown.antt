@@ -11,11 +11,11 @@ use lib.Seq.{length-take-le, take-append-le, take-take, take-at, drop-at, drop-d
 use borrow.Author.Tests.{eq-eqb, ne-eqb, eqb-true, eqb-false, leb-true, leb-false, lt-ltb, le-ltb}
 use Rattle.apollo.specs.Bytes.{part, same, zeros, blank}
 use Rattle.apollo.specs.Frame.{round}
-use Rattle.apollo.specs.Log.{store, clearAbove}
+use Rattle.apollo.specs.Log.{slot, store, clearAbove}
 use Rattle.apollo.specs.Branch.{storeAll, grown}
 use Rattle.apollo.proofs.Tests.{same-refl}
 use Rattle.apollo.proofs.Slots.{length-store, length-clear}
-use Rattle.log.specs.Slots.{slotPart}
+use Rattle.log.proofs.Search.{slot-part}
 use Rattle.branch_links.specs.Ordered.{Ordered}
 use Rattle.branch_rounds.specs.Keeps.{keepsFrame, keepsAll}
 use Rattle.slices.proofs.Blank.{blank-none}
@@ -139,22 +139,23 @@ module _ (t c : ℕ) (log : List ℕ) (l : length log ≡ 512 * t) (q : c ≤ t)
   -- with frame x stored in slot r above lo, up to that slot
   stored-alike : (now : List ℕ) (lo r : ℕ) (x : List ℕ) → length now ≡ 512 * t → drop (512 * lo) now ≡ zeros (512 * t - 512 * lo)
       → length x ≡ 512 → lo < r → r ≤ t
-      → Alike (store now r x) r ≡ (Alike now lo && (blank log (512 * lo) (512 * (r - 1)) && same (slotPart log r) x))
+      → Alike (store now r x) r ≡ (Alike now lo && (blank log (512 * lo) (512 * (r - 1)) && same (slot log r) x))
   unfolding Alike
   stored-alike now lo r x m z n g f =
       let k : min lo (r - 1) ≡ lo = omega arith in
       let p : 512 * r ≡ 512 * (r - 1) + 512 = omega arith in
       let u : take (512 * r) (store now r x) ≡ take (512 * (r - 1)) now ++ x = take-stored now r x (omega arith) (omega arith) n in
-      let v : take (512 * r) log ≡ take (512 * (r - 1)) log ++ slotPart log r =
-      ap (λ (i : ℕ). take i log) p ∙ take-add (512 * (r - 1)) 512 log in
+      let v : take (512 * r) log ≡ take (512 * (r - 1)) log ++ slot log r =
+      ap (λ (i : ℕ). take i log) p ∙ (take-add (512 * (r - 1)) 512 log
+      ∙ ap (λ (w : List ℕ). take (512 * (r - 1)) log ++ w) (slot-part log r (omega arith))) in
       let a : Bool = same (take (512 * lo) now) (take (512 * lo) log) in
       let b : Bool = blank log (512 * lo) (512 * (r - 1)) in
       let w : same (take (512 * (r - 1)) now) (take (512 * (r - 1)) log) ≡ (a && b) =
       split now lo (r - 1) m z (omega arith) ∙ ap (λ (i : ℕ). same (take (512 * i) now) (take (512 * i) log) && b) k in
       let e : length (take (512 * (r - 1)) now) ≡ length (take (512 * (r - 1)) log) = simp length-take (omega arith) in
       ap₂ same u v
-      ∙ (same-append (take (512 * (r - 1)) now) (take (512 * (r - 1)) log) x (slotPart log r) e
-      ∙ (ap₂ _&&_ w (same-sym x (slotPart log r)) ∙ and-assoc a b (same (slotPart log r) x)))
+      ∙ (same-append (take (512 * (r - 1)) now) (take (512 * (r - 1)) log) x (slot log r) e
+      ∙ (ap₂ _&&_ w (same-sym x (slot log r)) ∙ and-assoc a b (same (slot log r) x)))
 
   -- with frame x stored above lo, up to its round and to c
   frame-alike : (now : List ℕ) (lo : ℕ) (x : List ℕ) → length now ≡ 512 * t → drop (512 * lo) now ≡ zeros (512 * t - 512 * lo)
@@ -166,12 +167,12 @@ module _ (t c : ℕ) (log : List ℕ) (l : length log ≡ 512 * t) (q : c ≤ t)
       by : (b : Bool) → leb (round x) c ≡ b
           → same (take (512 * min (round x) c) (store now (round x) x)) (take (512 * min (round x) c) log)
           ≡ (same (take (512 * min lo c) now) (take (512 * min lo c) log) && cond (ltb c (round x)) (blank log (512 * lo) (512 * c))
-          (blank log (512 * lo) (512 * (round x - 1)) && same (slotPart log (round x)) x))
+          (ltb 0 (round x) && (blank log (512 * lo) (512 * (round x - 1)) && same (slot log (round x)) x)))
       by true e =
           let h : round x ≤ c = leb-true (round x) c e in
           let i : min (round x) c ≡ round x = omega arith in
           let j : min lo c ≡ lo = omega arith in
-          rw (i, j, le-ltb c (round x) h) (stored-alike now lo (round x) x m z n g f)
+          rw (i, j, le-ltb c (round x) h, lt-ltb 0 (round x) (omega arith)) (stored-alike now lo (round x) x m z n g f)
       by false e =
           let h : c < round x = leb-false (round x) c e in
           let i : min (round x) c ≡ c = omega arith in

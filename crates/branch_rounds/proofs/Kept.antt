@@ -3,11 +3,12 @@ use mathlib.Core.Path.{_≡_, sym, _∙_}
 use mathlib.Core.Bool.{Bool, true, false}
 use mathlib.Core.List.{List}
 use Prim.Native.Nat.{ℕ, _+_, _-_, _*_, _≤_, _<_}
+use native.Mathlib.Omega.{arith}
 use lib.ListN.{take, drop}
 use borrow.Author.Tests.{lt-ltb, le-ltb}
 use Rattle.apollo.specs.Bytes.{same, blank}
 use Rattle.apollo.specs.Frame.{round}
-use Rattle.log.specs.Slots.{slotPart}
+use Rattle.apollo.specs.Log.{slot}
 use Rattle.branch_rounds.specs.Keeps.{keepsFrame, keepsAll}
 use Rattle.frame.proofs.Frames.{rest, rest-next, rest-end, frame-part}
 
@@ -16,14 +17,18 @@ module _ (log : List ℕ) (lo : ℕ) (x : List ℕ) (c r : ℕ) (b : Bool) (e : 
   unfolding keepsFrame
   keeps-past h d = rw (← e, lt-ltb c r h) d
 
-  module _ (h : r ≤ c) (k : ℕ) (i : k ≡ r - 1) (d : b ≡ blank log (512 * lo) (512 * k)) where
+  pub keeps-none : r ≤ c → r ≡ 0 → false ≡ keepsFrame log lo x c
+  unfolding keepsFrame
+  keeps-none h z = rw (← e, le-ltb c r h, le-ltb 0 r (omega arith))
+
+  module _ (h : r ≤ c) (z : r ≡ 0 → ⊥) (d : b ≡ blank log (512 * lo) (512 * (r - 1))) where
     pub keeps-not : b ≡ false → false ≡ keepsFrame log lo x c
     unfolding keepsFrame
-    keeps-not n = rw (← e, le-ltb c r h, ← i, ← d, n)
+    keeps-not n = rw (← e, le-ltb c r h, lt-ltb 0 r (omega arith), ← d, n)
 
-    pub keeps-same : (y : List ℕ) (s : Bool) → b ≡ true → y ≡ slotPart log r → s ≡ same y x → s ≡ keepsFrame log lo x c
+    pub keeps-same : (y : List ℕ) (s : Bool) → b ≡ true → y ≡ slot log r → s ≡ same y x → s ≡ keepsFrame log lo x c
     unfolding keepsFrame
-    keeps-same y s t f g = rw (← e, le-ltb c r h, ← f, ← i, ← d, t) g
+    keeps-same y s t f g = rw (← e, le-ltb c r h, lt-ltb 0 r (omega arith), ← f, ← d, t) g
 
 -- along the frames
 module _ (log b : List ℕ) (lo n i c : ℕ) (k goal : Bool) (h : i < n)

@@ -51,7 +51,10 @@ fn keeps_frame(log: &[u8], lo: u32, x: &[u8], committed: u32) -> bool
     if committed < r {
         return slices::is_blank(log, a, 512 * (committed as usize));
     }
-    if !slices::is_blank(log, a, 512 * (frame::previous(r) as usize)) {
+    if r == 0 {
+        return false;
+    }
+    if !slices::is_blank(log, a, 512 * ((r - 1) as usize)) {
         return false;
     }
     slices::same_bytes(log::slot(log, r), x)

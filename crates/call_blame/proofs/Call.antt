@@ -9,12 +9,11 @@ use Rattle.sha256.specs.Fips.{sha256}
 use Rattle.apollo.specs.declared.Replica.{Replica}
 use Rattle.apollo.specs.declared.Answer.{Answer}
 use Rattle.apollo.specs.declared.Verdict.{Verdict}
-use Rattle.apollo.specs.Frame.{round, framesOf}
+use Rattle.apollo.specs.Frame.{round, framesOf, firstFrame}
 use Rattle.apollo.specs.Enter.{settle, state}
 use Rattle.apollo.specs.Outcome.{Outcome, refused, taken, outcome}
 use Rattle.apollo.specs.Blame.{addBlames, hearingAll, handing}
-use Rattle.frame.specs.Ends.{firstFrame}
-use Rattle.blame_set.specs.Set.{Marked, answered}
+use Rattle.blame_set.specs.Set.{HaveBits, answered}
 use Rattle.refusals.specs.Blames.{guardedSet}
 use Rattle.refusals.proofs.Passed.{Passed, set-passed}
 use Rattle.refusals.proofs.Answer.{set-by}
@@ -30,11 +29,11 @@ module _ (most : ℕ) (r : Replica) (log masks entry out x : List ℕ) (v : Verd
   set-refused a h ea = rw (set-by (state r log masks) entry out x most, ← ev, ne-eqb (v .number) 0 h, ea)
 
   module _ (z : v .number ≡ 0) where
-    set-is-passed : Passed r log (length entry) (length out) × Marked (framesOf x)
+    set-is-passed : Passed r log (length entry) (length out) × HaveBits (framesOf x)
     set-is-passed = set-passed r log masks (length entry) (length out) most x (rw ev at z)
 
     -- what adding and settling ask for
-    pub set-has-bits : Marked (framesOf x)
+    pub set-has-bits : HaveBits (framesOf x)
     set-has-bits = set-is-passed .1
 
     pub set-asks : Ready r log entry out × (r .round .0 ≤ r .«last_round» .0)

@@ -9,14 +9,13 @@ use Rattle.sha256.specs.Fips.{sha256}
 use Rattle.apollo.specs.declared.Replica.{Replica}
 use Rattle.apollo.specs.declared.Answer.{Answer}
 use Rattle.apollo.specs.Setup.{setupOf}
-use Rattle.apollo.specs.Frame.{round, height, framesOf}
+use Rattle.apollo.specs.Frame.{round, height, framesOf, lastFrame}
 use Rattle.apollo.specs.Enter.{State, tipped, holding, enterRound, state}
 use Rattle.apollo.specs.Outcome.{Outcome, refused, taken, outcome}
 use Rattle.apollo.specs.Branch.{grown, branchWith}
 use Rattle.frame_forms.proofs.Facts.{BlockFields}
 use Rattle.log.specs.Slots.{Slotted}
 use Rattle.branch.specs.declared.Judged.{Judged}
-use Rattle.frame.specs.Ends.{lastFrame}
 use Rattle.branch.specs.Judge.{adopted, answered}
 use Rattle.branch.proofs.Last.{branch-sound}
 use Rattle.refusals.specs.Branch.{guardedBranch}

@@ -15,10 +15,10 @@ use Rattle.apollo.specs.declared.Marked.{Marked}
 use Rattle.apollo.specs.declared.Verdict.{Verdict}
 use Rattle.apollo.specs.Bytes.{same}
 use Rattle.apollo.specs.Setup.{setupOf, leader}
-use Rattle.apollo.specs.Frame.{round, digest, blockForm}
+use Rattle.apollo.specs.Frame.{round, digest, blockForm, firstFrame}
 use Rattle.apollo.specs.Replica.{withMark, validRecord}
 use Rattle.apollo.specs.Judging.{verdict, noRefusal, fault, judgedEach}
-use Rattle.apollo.specs.Equivocation.{marked, isPair, first, second, conflicting, accusing, equivocationWith}
+use Rattle.apollo.specs.Equivocation.{marked, isPair, second, conflicting, accusing, equivocationWith}
 use Rattle.apollo.specs.Calls.{equivocationCall}
 use Rattle.apollo.proofs.Tests.{cond-true, cond-false}
 use Rattle.apollo.proofs.Rotation.{leader-low}
@@ -72,7 +72,7 @@ module _ (s : Setup) (bytes : List ℕ) where
   unfolding judgedPair
   pair-cut n = rw (ne-eqb (length bytes) 1024 n)
 
-  pub pair-whole : length bytes ≡ 1024 → (x y : List ℕ) (v : Verdict) → x ≡ first bytes → y ≡ second bytes → v ≡ judgedTwo s x y
+  pub pair-whole : length bytes ≡ 1024 → (x y : List ℕ) (v : Verdict) → x ≡ firstFrame bytes → y ≡ second bytes → v ≡ judgedTwo s x y
       → v ≡ judgedPair s bytes
   unfolding judgedPair
   pair-whole l x y v a b e = rw (eq-eqb (length bytes) 1024 l, ← a, ← b, e)
@@ -102,12 +102,12 @@ module _ (r : Replica) (x : List ℕ) (v : Verdict) where
   answered-some n = sym (cond-false _ _ (ne-eqb (v .number) 0 n))
 
 pair-answer : (r : Replica) (bytes : List ℕ) → validRecord r ≡ true
-    → answered r (first bytes) (judgedPair (setupOf r) bytes) ≡ equivocationCall r bytes
+    → answered r (firstFrame bytes) (judgedPair (setupOf r) bytes) ≡ equivocationCall r bytes
 unfolding judgedPair equivocationWith
 pair-answer r bytes t = go (isPair bytes) refl
   where
-    go : (b : Bool) → isPair bytes ≡ b → answered r (first bytes) (judgedPair (setupOf r) bytes) ≡ equivocationCall r bytes
-    go true e = rw (t, e) (two-answer r (first bytes) (second bytes))
+    go : (b : Bool) → isPair bytes ≡ b → answered r (firstFrame bytes) (judgedPair (setupOf r) bytes) ≡ equivocationCall r bytes
+    go true e = rw (t, e) (two-answer r (firstFrame bytes) (second bytes))
     go false e = unfold answered in rw (t, e)
 
 module _ (r : Replica) (bytes : List ℕ) (b : Bool) (e : b ≡ validRecord r) where
@@ -116,22 +116,22 @@ module _ (r : Replica) (bytes : List ℕ) (b : Bool) (e : b ≡ validRecord r) w
   record-bad a i f = rw (i, ← e, f)
 
   module _ (t : b ≡ true) (s : Setup) (d : s ≡ setupOf r) (v : Verdict) (j : v ≡ judgedPair s bytes) where
-    by-verdict : answered r (first bytes) v ≡ equivocationCall r bytes
-    by-verdict = ap (answered r (first bytes)) (j ∙ ap (λ k. judgedPair k bytes) d) ∙ pair-answer r bytes (sym e ∙ t)
+    by-verdict : answered r (firstFrame bytes) v ≡ equivocationCall r bytes
+    by-verdict = ap (answered r (firstFrame bytes)) (j ∙ ap (λ k. judgedPair k bytes) d) ∙ pair-answer r bytes (sym e ∙ t)
 
     pub pair-refused : (a : Marked) → a ≡ marked (v .number) (v .place) r → v .number ≢ 0 → a ≡ equivocationCall r bytes
-    pair-refused a i n = i ∙ answered-some r (first bytes) v n ∙ by-verdict
+    pair-refused a i n = i ∙ answered-some r (firstFrame bytes) v n ∙ by-verdict
 
-    module _ (x : List ℕ) (f : x ≡ first bytes) (q k : ℕ) (g : q ≡ round x) (h : k ≡ leader s q) where
-      leader-is : k ≡ leader (setupOf r) (round (first bytes))
-      leader-is = h ∙ ap (leader s) (g ∙ ap (λ (y : List ℕ). round y) f) ∙ ap (λ u. leader u (round (first bytes))) d
+    module _ (x : List ℕ) (f : x ≡ firstFrame bytes) (q k : ℕ) (g : q ≡ round x) (h : k ≡ leader s q) where
+      leader-is : k ≡ leader (setupOf r) (round (firstFrame bytes))
+      leader-is = h ∙ ap (leader s) (g ∙ ap (λ (y : List ℕ). round y) f) ∙ ap (λ u. leader u (round (firstFrame bytes))) d
 
       -- each card has a bit
       pub card-low : k < 16
       card-low =
           let p = record-turns r (sym e ∙ t) in
-          omega (arith, leader-is, leader-low (setupOf r) (p .1) (round (first bytes)), p .0)
+          omega (arith, leader-is, leader-low (setupOf r) (p .1) (round (firstFrame bytes)), p .0)
 
       pub pair-taken : (m : Replica) (a : Marked) → m ≡ withMark r k → a ≡ marked 0 0 m → v .number ≡ 0 → a ≡ equivocationCall r bytes
       pair-taken m a c i z =
-          i ∙ ap (marked 0 0) (c ∙ ap (withMark r) leader-is) ∙ answered-none r (first bytes) v z ∙ by-verdict
+          i ∙ ap (marked 0 0) (c ∙ ap (withMark r) leader-is) ∙ answered-none r (firstFrame bytes) v z ∙ by-verdict

@@ -6,9 +6,9 @@ use lib.Dec.{eqb}
 use Rattle.sha256.specs.Fips.{sha256}
 use Rattle.apollo.specs.declared.Setup.{Setup}
 use Rattle.apollo.specs.declared.Verdict.{Verdict}
-use Rattle.apollo.specs.Frame.{blockForm}
+use Rattle.apollo.specs.Frame.{blockForm, firstFrame}
 use Rattle.apollo.specs.Judging.{verdict, noRefusal, judgedEach}
-use Rattle.apollo.specs.Equivocation.{isPair, first, second, conflicting}
+use Rattle.apollo.specs.Equivocation.{isPair, second, conflicting}
 use Rattle.apollo.specs.Refusal.{badLength, notEquivocation}
 
 -- 7 and 8 of both, then 18
@@ -19,4 +19,4 @@ judgedTwo s x y =
 
 -- 6, and what follows it
 unfoldable pub judgedPair : Setup → (bytes : List ℕ) → Verdict
-judgedPair s bytes = cond (isPair bytes) (judgedTwo s (first bytes) (second bytes)) (verdict badLength 0)
+judgedPair s bytes = cond (isPair bytes) (judgedTwo s (firstFrame bytes) (second bytes)) (verdict badLength 0)

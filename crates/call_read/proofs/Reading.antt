@@ -16,13 +16,11 @@ use Rattle.apollo.specs.Replica.{validReplica}
 use Rattle.apollo.specs.Read.{ReadOutcome, partOf, readable, lowest, readCall}
 use Rattle.apollo.proofs.Tests.{and-second, by-cond}
 use Rattle.apollo.proofs.Validity.{Valid, valid}
-use Rattle.log.specs.Slots.{slotPart}
-use Rattle.log.proofs.Search.{slot-part}
 use Rattle.call_read.specs.Answers.{noPart, entryPart}
 
-pub entry-found : (log x : List ℕ) (r l : ℕ) → 0 < r → x ≡ slotPart log r → l ≡ entryLength x
+pub entry-found : (log x : List ℕ) (r l : ℕ) → x ≡ slot log r → l ≡ entryLength x
     → _≡_ {A = Part} (record { number = 0; start = 512 * (r - 1) + 44; length = l }) (entryPart log r)
-entry-found log x r l h e d = rw (d, e, slot-part log r h)
+entry-found log x r l e d = rw (d, e)
 
 module _ (r : Replica) (log : List ℕ) (h : ℕ) (v : Bool) (e : v ≡ validReplica r log) where
   pub read-invalid : v ≡ false → noPart 2 ≡ readCall r log h .answer
@@ -60,12 +58,12 @@ read-bytes r log h =
 
 -- the lowest slot, if there is one, is one of those looked at, and readable
 lowest-found : (log : List ℕ) (h lo k : ℕ) → (lowest log h lo k ≡ 0 → ⊥)
-    → (lowest log h lo k ≤ lo + k) × (readable log h (lowest log h lo k) ≡ true)
+    → (lowest log h lo k ≤ lo + k) × (readable (slot log (lowest log h lo k)) h ≡ true)
 unfolding lowest
 lowest-found log h lo zero n = absurd (n refl)
 lowest-found log h lo (suc k) =
-    by-cond (λ q. (q ≡ 0 → ⊥) → (q ≤ lo + suc k) × (readable log h q ≡ true)) (readable log h (lo + 1)) (λ e n. (omega arith, e))
-    (λ e n. let i : (lowest log h (lo + 1) k ≤ lo + 1 + k) × (readable log h (lowest log h (lo + 1) k) ≡ true) = lowest-found log h (lo + 1) k n in
+    by-cond (λ q. (q ≡ 0 → ⊥) → (q ≤ lo + suc k) × (readable (slot log q) h ≡ true)) (readable (slot log (lo + 1)) h) (λ e n. (omega arith, e))
+    (λ e n. let i : (lowest log h (lo + 1) k ≤ lo + 1 + k) × (readable (slot log (lowest log h (lo + 1) k)) h ≡ true) = lowest-found log h (lo + 1) k n in
     (omega (arith, i .0), i .1))
 
 -- the part lies in the log, whole
@@ -75,7 +73,7 @@ part-fits r log h =
     let Fits : ReadOutcome → Type 0 = λ o. o .answer .start + o .answer .length ≤ length log in
     let q : ℕ = lowest log h 0 (r .«committed_round» .0) in
     by-cond Fits (not (validReplica r log)) (λ e. omega arith) (λ v. by-cond Fits (eqb q 0) (λ z. omega arith) (λ n.
-    let i : (q ≤ r .«committed_round» .0) × (readable log h q ≡ true) = lowest-found log h 0 (r .«committed_round» .0) (eqb-false q 0 n) in
+    let i : (q ≤ r .«committed_round» .0) × (readable (slot log q) h ≡ true) = lowest-found log h 0 (r .«committed_round» .0) (eqb-false q 0 n) in
     let b : 512 * r .«committed_round» .0 ≤ length log = committed-fits r log h true (sym (not-false _ v)) refl in
     let l : entryLength (slot log q) ≤ 400 = leb-true (entryLength (slot log q)) 400 (and-second _ _ (i .1)) in
     omega arith))

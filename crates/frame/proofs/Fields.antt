@@ -10,8 +10,7 @@ use lib.ListN.{length}
 use borrow.Author.Tests.{ne-eqb, not-true, not-false}
 use Rattle.apollo.specs.Bytes.{part, same}
 use Rattle.apollo.proofs.Tests.{and-no}
-use Rattle.apollo.specs.Frame.{height, parent, digest, linked}
-use Rattle.frame.specs.Ends.{lastFrame}
+use Rattle.apollo.specs.Frame.{height, parent, digest, linked, lastFrame}
 
 -- a height that is one more
 height-next : (a h : ℕ) → (h ≡ 0 → ⊥) → eqb a (h - 1) ≡ eqb (a + 1) h

@@ -4,7 +4,6 @@ ghost use mathlib.Core.Path.{_≡_};
 ghost use Prim.Native.Nat.{_-_, _≤_, _<_};
 ghost use Rattle.apollo.specs.Bytes as Bytes;
 ghost use Rattle.apollo.specs.Frame as Frame;
-ghost use Rattle.frame.specs.Ends.{lastFrame};
 
 fn wide(b: u8) -> u32
     ensures { λ r. ⌜ (r ≡ b) × (r < 256) ⌝ }
@@ -92,7 +91,7 @@ pub fn is_whole(most: u32, frames: &[u8]) -> bool
 
 // The last frame of a branch, fewer bytes where there is no whole one.
 pub fn last_frame<'a>(frames: &'a [u8]) -> &'a [u8]
-    ensures { λ x. ⌜ now x ≡ lastFrame (now (frames .entry)) ⌝ }
+    ensures { λ x. ⌜ now x ≡ Frame.lastFrame (now (frames .entry)) ⌝ }
 {
     let n = frames.len();
     if n < 512 {

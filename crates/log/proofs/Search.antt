@@ -1,14 +1,13 @@
 -- Slots read in place, and the search downward for the highest filled with what it reads. Assumes nothing.
-use mathlib.Core.Path.{_≡_, refl, sym, _∙_}
+use mathlib.Core.Path.{_≡_, refl, sym}
 use mathlib.Core.Bool.{true, false}
 use mathlib.Core.List.{List}
-use Prim.Native.Nat.{ℕ, zero, suc, _+_, _-_, _≤_, _<_}
+use Prim.Native.Nat.{ℕ, zero, suc, _+_, _-_, _*_, _≤_, _<_}
 use native.Mathlib.Omega.{arith}
 use lib.Dec.{eqb, eqb·suc-zero}
-use Rattle.apollo.specs.Bytes.{zeros, number4}
+use Rattle.apollo.specs.Bytes.{part, zeros, number4}
 use Rattle.apollo.specs.Frame.{kind, height}
 use Rattle.apollo.specs.Log.{genesis, slot, filled, highest, slotsRead}
-use Rattle.log.specs.Slots.{slotPart}
 
 -- the genesis is not filled, and its height is 0
 pub genesis-empty : (log : List ℕ) (r : ℕ) → r ≡ 0 → false ≡ filled (slot log r)
@@ -19,23 +18,19 @@ pub genesis-height : (log : List ℕ) (r : ℕ) → r ≡ 0 → 0 ≡ height (sl
 unfolding slot genesis zeros number4
 genesis-height log r e = rw e
 
--- from round 1 on the part is the slot
-pub slot-part : (log : List ℕ) (r : ℕ) → 0 < r → slotPart log r ≡ slot log r
+-- from round 1 on a slot is a part of the log
+pub slot-part : (log : List ℕ) (r : ℕ) → 0 < r → part log (512 * (r - 1)) 512 ≡ slot log r
 unfolding slot
 slot-part log zero h = absurd (omega arith)
 slot-part log (suc k) h =
     let e : suc k - 1 ≡ k = omega arith in
     rw e
 
-module _ (log x : List ℕ) (r : ℕ) (g : 0 < r) (e : x ≡ slotPart log r) where
-  pub slot-is : slot log r ≡ x
-  slot-is = sym (e ∙ slot-part log r g)
+pub filled-read : (log x : List ℕ) (r k : ℕ) → x ≡ slot log r → k ≡ kind x → eqb k 1 ≡ filled (slot log r)
+filled-read log x r k e d = rw (← e, d)
 
-  pub filled-read : (k : ℕ) → k ≡ kind x → eqb k 1 ≡ filled (slot log r)
-  filled-read k d = rw (slot-is, d)
-
-  pub height-read : (h : ℕ) → h ≡ height x → h ≡ height (slot log r)
-  height-read h d = rw slot-is d
+pub height-read : (log x : List ℕ) (r h : ℕ) → x ≡ slot log r → h ≡ height x → h ≡ height (slot log r)
+height-read log x r h e d = rw (← e) d
 
 -- highest, from slot r downwards
 pub highest-here : (log : List ℕ) (r : ℕ) → 0 < r → true ≡ filled (slot log r) → r ≡ highest log r

@@ -1,12 +1,12 @@
 // The log (book) of a replica: slots stored, zeroed and read, and the highest filled.
 ghost use mathlib.Core.Path.{_≡_};
-ghost use Prim.Native.Nat.{_*_, _≤_};
+ghost use Prim.Native.Nat.{_*_, _≤_, _<_};
 ghost use lib.ListN.{length};
 ghost use Rattle.apollo.specs.Frame as Frame;
 ghost use Rattle.apollo.specs.Frame.{framesOf};
 ghost use Rattle.apollo.specs.Log as Log;
 ghost use Rattle.apollo.specs.Branch as Branch;
-ghost use Rattle.log.specs.Slots.{slotPart, Slotted};
+ghost use Rattle.log.specs.Slots.{Slotted};
 
 // What a search of the log gives, laid out as in C.
 #[repr(C)]
@@ -68,11 +68,13 @@ pub fn take_branch(log: &mut [u8], a: u32, frames: &[u8])
     store_each(log, frames);
 }
 
-// The bytes of slot r, fewer where the log ends before; those of slot 1 for round 0.
+// The bytes of slot r, fewer where the log ends before.
 pub fn slot<'a>(log: &'a [u8], r: u32) -> &'a [u8]
-    ensures { λ x. ⌜ now x ≡ slotPart (now (log .entry)) r ⌝ }
+    requires { ⌜ 0 < r ⌝ }
+    ensures { λ x. ⌜ now x ≡ Log.slot (now (log .entry)) r ⌝ }
 {
-    slices::part(log, 512 * (frame::previous(r) as usize), 512)
+    let i = (r - 1) as usize;
+    slices::part(log, 512 * i, 512)
 }
 
 // Slot r is filled.

@@ -13,7 +13,6 @@ use Rattle.apollo.specs.Log.{slot}
 use Rattle.apollo.specs.Read.{readable, lowest}
 use Rattle.frame.proofs.Frames.{frame-part}
 use Rattle.log_heights.specs.Fetch.{isTall}
-use Rattle.log_heights.specs.Read.{isReadable}
 
 -- a slot tested for fetch
 module _ (x : List ℕ) (h k : ℕ) (d : k ≡ kind x) where
@@ -27,37 +26,37 @@ module _ (x : List ℕ) (h k : ℕ) (d : k ≡ kind x) where
 
 -- a slot tested for read
 module _ (x : List ℕ) (h k : ℕ) (d : k ≡ kind x) where
-  pub unfilled : (k ≡ 1 → ⊥) → false ≡ isReadable x h
-  unfolding isReadable
+  pub unfilled : (k ≡ 1 → ⊥) → false ≡ readable x h
+  unfolding readable
   unfilled n = rw (← d, ne-eqb k 1 n)
 
   module _ (y : ℕ) (f : y ≡ height x) (o : k ≡ 1) where
-    pub another : (y ≡ h → ⊥) → false ≡ isReadable x h
-    unfolding isReadable
+    pub another : (y ≡ h → ⊥) → false ≡ readable x h
+    unfolding readable
     another n = rw (← d, eq-eqb k 1 o, ← f, ne-eqb y h n)
 
-    pub judged : (l : ℕ) → y ≡ h → l ≡ entryLength x → leb l 400 ≡ isReadable x h
-    unfolding isReadable
+    pub judged : (l : ℕ) → y ≡ h → l ≡ entryLength x → leb l 400 ≡ readable x h
+    unfolding readable
     judged l p q = rw (← d, eq-eqb k 1 o, ← f, eq-eqb y h p, q)
 
 -- the slot above lo as the code lends it
-pub readable-slot : (log : List ℕ) (h lo : ℕ) (b : Bool) → b ≡ isReadable (take (512 * lo + 512 - 512 * lo) (drop (512 * lo) log)) h
-    → b ≡ readable log h (lo + 1)
-unfolding isReadable readable slot
+pub readable-slot : (log : List ℕ) (h lo : ℕ) (b : Bool) → b ≡ readable (take (512 * lo + 512 - 512 * lo) (drop (512 * lo) log)) h
+    → b ≡ readable (slot log (lo + 1)) h
+unfolding slot
 readable-slot log h lo b e = rw add-one (rw (frame-part log (512 * lo)) at e)
 
 -- lowest, from slot lo + 1 upwards to c
 lowest-more : (log : List ℕ) (h lo c : ℕ) → lo < c
-    → lowest log h lo (c - lo) ≡ cond (readable log h (lo + 1)) (lo + 1) (lowest log h (lo + 1) (c - (lo + 1)))
+    → lowest log h lo (c - lo) ≡ cond (readable (slot log (lo + 1)) h) (lo + 1) (lowest log h (lo + 1) (c - (lo + 1)))
 unfolding lowest
 lowest-more log h lo c g =
     let q : c - lo ≡ suc (c - (lo + 1)) = omega arith in
     rw q
 
-pub lowest-here : (log : List ℕ) (h lo c : ℕ) → lo < c → true ≡ readable log h (lo + 1) → lo + 1 ≡ lowest log h lo (c - lo)
+pub lowest-here : (log : List ℕ) (h lo c : ℕ) → lo < c → true ≡ readable (slot log (lo + 1)) h → lo + 1 ≡ lowest log h lo (c - lo)
 lowest-here log h lo c g e = rw (lowest-more log h lo c g, ← e)
 
-pub lowest-above : (log : List ℕ) (h lo c : ℕ) → lo < c → false ≡ readable log h (lo + 1)
+pub lowest-above : (log : List ℕ) (h lo c : ℕ) → lo < c → false ≡ readable (slot log (lo + 1)) h
     → lowest log h (lo + 1) (c - (lo + 1)) ≡ lowest log h lo (c - lo)
 lowest-above log h lo c g e = rw (lowest-more log h lo c g, ← e)
 

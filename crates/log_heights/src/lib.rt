@@ -8,11 +8,10 @@ ghost use Rattle.apollo.specs.Log as Log;
 ghost use Rattle.apollo.specs.Read as Read;
 ghost use Rattle.apollo.specs.Fetch.{above};
 ghost use Rattle.log_heights.specs.Fetch.{isTall, lastLow};
-ghost use Rattle.log_heights.specs.Read.{isReadable};
 
 // Slot x is filled, with height h and an entry length of at most 400.
 fn is_readable(x: &[u8], h: u32) -> bool
-    ensures { λ b. ⌜ b ≡ isReadable (now (x .entry)) h ⌝ }
+    ensures { λ b. ⌜ b ≡ Read.readable (now (x .entry)) h ⌝ }
 {
     if frame::kind(x) != 1 {
         return false;

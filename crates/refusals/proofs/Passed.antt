@@ -18,8 +18,8 @@ use Rattle.apollo.proofs.Tests.{and-first, and-second}
 use Rattle.apollo.proofs.Validity.{valid-setup, valid}
 use Rattle.branch.specs.declared.Judged.{Judged}
 use Rattle.branch.specs.Judge.{refusal, judgedBranch}
-use Rattle.blame_set.specs.Set.{Marked, judgedSet}
-use Rattle.blame_set.proofs.Answer.{set-marked}
+use Rattle.blame_set.specs.Set.{HaveBits, judgedSet}
+use Rattle.blame_set.proofs.Answer.{set-bits}
 use Rattle.refusals.specs.Number.{roomNumber, openNumber, guardNumber}
 use Rattle.refusals.specs.Blames.{guardedSet}
 use Rattle.refusals.specs.Branch.{guardedBranch}
@@ -93,13 +93,13 @@ module _ (r : Replica) (log masks : List ℕ) (entry out : ℕ) where
       record { valid = v; round-last = omega arith; out-least = q .0; entry-most = q .1 }
 
   -- the signers of a set have bits in a mask of 16
-  pub set-passed : (most : ℕ) (x : List ℕ) → guardedSet most r log masks x entry out .number ≡ 0 → Passed r log entry out × Marked (framesOf x)
+  pub set-passed : (most : ℕ) (x : List ℕ) → guardedSet most r log masks x entry out .number ≡ 0 → Passed r log entry out × HaveBits (framesOf x)
   unfolding guardedSet
   set-passed most x e =
       let g : ℕ = guardNumber r log masks entry out in
       let q : (g ≡ 0) × (judgedSet most r masks x .number ≡ 0) = set-none (eqb g 0) g (judgedSet most r masks x) refl e in
       let p : Passed r log entry out = passed (q .0) in
-      (p, set-marked most r masks x (p .valid .setup .f-most) (q .1))
+      (p, set-bits most r masks x (p .valid .setup .f-most) (q .1))
 
   pub branch-passed : (x : List ℕ) → guardedBranch r log masks x entry out .number ≡ 0
       → Passed r log entry out × (judgedBranch r log masks x .number ≡ 0)

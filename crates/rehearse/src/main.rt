@@ -58,12 +58,17 @@ fn send(t: Table, out: &[u8; 1024], sent: &mut [u8; 18432]) {
     );
 }
 
+// Frame k of those sent, the first for 0.
+fn sent_frame<'a>(sent: &'a [u8], k: u32) -> &'a [u8] {
+    slices::part(sent, 512 * (frame::previous(k) as usize), 512)
+}
+
 // The first frame after frame k that another replica than i sent, 0 if there is none.
 fn oldest(sent: &[u8], count: u32, k: u32, i: u8) -> u32 {
     let mut j = k;
     while j < count {
         j += 1;
-        if frame::signer(log::slot(sent, j)) != i {
+        if frame::signer(sent_frame(sent, j)) != i {
             return j;
         }
     }
@@ -78,7 +83,7 @@ fn delivery(t: Table, i: usize, sent: &[u8]) -> Step
     if k == 0 {
         return Step { letter: 0, i: 3, k };
     }
-    let letter = if frame::kind(log::slot(sent, k)) == 1 {
+    let letter = if frame::kind(sent_frame(sent, k)) == 1 {
         b'b'
     } else {
         b'v'
@@ -181,7 +186,7 @@ fn act(t: Table, c: Step, logs: &mut Logs, masks: &mut Masks, sent: &mut [u8; 18
         c.letter,
         i as u8,
         r,
-        log::slot(sent, c.k),
+        sent_frame(sent, c.k),
         &mut logs[i],
         &mut masks[i],
         b"",

@@ -12,7 +12,7 @@ use Rattle.sha256.specs.Fips.{sha256}
 use Rattle.apollo.specs.declared.Marked.{Marked}
 use Rattle.apollo.specs.Setup.{setupOf}
 use Rattle.apollo.specs.Bytes.{same}
-use Rattle.apollo.specs.Frame.{round, frames, framesOf, wholeFrames, blockForm, blameForm}
+use Rattle.apollo.specs.Frame.{round, frames, framesOf, firstFrame, wholeFrames, blockForm, blameForm}
 use Rattle.apollo.specs.Log.{attach}
 use Rattle.apollo.specs.Replica.{validRecord, validReplica, validMasks}
 use Rattle.apollo.specs.Enter.{State}
@@ -20,7 +20,7 @@ use Rattle.apollo.specs.Judging.{judgedEach}
 use Rattle.apollo.specs.Outcome.{Outcome, refused, taken, guarded}
 use Rattle.apollo.specs.Branch.{lastOf, firstUncertified, grown, judgedAll, placed, branched, branchWith}
 use Rattle.apollo.specs.Blame.{oneSet, anyFresh, heard, handing}
-use Rattle.apollo.specs.Equivocation.{isPair, first, second, conflicting, accusing, equivocationWith}
+use Rattle.apollo.specs.Equivocation.{isPair, second, conflicting, accusing, equivocationWith}
 use Rattle.apollo.proofs.Frames.{whole-true}
 use Rattle.theorem_agreement.specs.Run.{branch, blame, blames, tick, equivocation, uncut, framesIn, recordOnly, answer}
 use Rattle.theorem_agreement.specs.Claim.{CutHandsNothing}
@@ -114,7 +114,7 @@ module _ (c : State) (bytes : List ℕ) where
   unfolding equivocationWith recordOnly
   pair-6 =
       by-cond Of (not (validRecord (c .replica))) (λ _ z. absurd (omega (arith, z)))
-      (λ _. by-cond Of (isPair bytes) (λ _. accused-6 (first bytes) (second bytes)) (λ e z. unfold uncut in cond-false _ _ e))
+      (λ _. by-cond Of (isPair bytes) (λ _. accused-6 (firstFrame bytes) (second bytes)) (λ e z. unfold uncut in cond-false _ _ e))
 
 pub cut : CutHandsNothing
 unfolding answer framesIn branchWith

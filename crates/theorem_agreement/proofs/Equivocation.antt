@@ -13,12 +13,12 @@ use Rattle.apollo.specs.declared.Setup.{Setup}
 use Rattle.apollo.specs.declared.Marked.{Marked}
 use Rattle.apollo.specs.Bytes.{same}
 use Rattle.apollo.specs.Setup.{setupOf, replicas, leader}
-use Rattle.apollo.specs.Frame.{round, digest, frames, framesOf, blockForm}
+use Rattle.apollo.specs.Frame.{round, digest, frames, framesOf, firstFrame, blockForm}
 use Rattle.apollo.specs.Replica.{withMark, validRecord}
 use Rattle.apollo.specs.Enter.{State}
 use Rattle.apollo.specs.Judging.{judgedEach}
 use Rattle.apollo.specs.Outcome.{refused}
-use Rattle.apollo.specs.Equivocation.{marked, isPair, first, second, conflicting, accusing, equivocationWith}
+use Rattle.apollo.specs.Equivocation.{marked, isPair, second, conflicting, accusing, equivocationWith}
 use Rattle.apollo.proofs.Fault.{Passes}
 use Rattle.apollo.proofs.Rotation.{leader-low}
 use Rattle.apollo.proofs.Judging.{block-of}
@@ -100,8 +100,8 @@ module _ (s : Setup) (past : List Event) (i : ℕ) (c : State) (st : Standing s 
       by-cond FineBy (not (validRecord (c .replica)))
       (λ e. absurd (clash (valid-own s past i c (st .good) rests) (not-true _ e)))
       (λ _. by-cond FineBy (isPair bytes)
-      (λ e. let two : framesOf bytes ≡ first bytes ∷ second bytes ∷ [] = pair-frames bytes (eqb-true _ _ e) in
+      (λ e. let two : framesOf bytes ≡ firstFrame bytes ∷ second bytes ∷ [] = pair-frames bytes (eqb-true _ _ e) in
       let n : length bytes ≡ 1024 = eqb-true _ _ e in
-      accused-fine (first bytes) (second bytes) (subst (Known s past) two (known e))
+      accused-fine (firstFrame bytes) (second bytes) (subst (Known s past) two (known e))
       (subst Whole two (frames-whole (length bytes / 512) bytes (omega arith))))
       (λ _. refusal 6 0 refl refl))

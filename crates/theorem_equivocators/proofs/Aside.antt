@@ -12,7 +12,7 @@ use Rattle.apollo.specs.declared.Replica.{Replica}
 use Rattle.apollo.specs.declared.Marked.{Marked}
 use Rattle.apollo.specs.Bytes.{same}
 use Rattle.apollo.specs.Setup.{setupOf, leader}
-use Rattle.apollo.specs.Frame.{round, height, framesOf, wholeFrames, blockForm, blameForm, makeBlame}
+use Rattle.apollo.specs.Frame.{round, height, framesOf, firstFrame, wholeFrames, blockForm, blameForm, makeBlame}
 use Rattle.apollo.specs.Log.{attach}
 use Rattle.apollo.specs.Masks.{bit, certified}
 use Rattle.apollo.specs.Replica.{withEquivocators, leads, validNumbers, validRounds, validMarks, validRecord, validLog, validReplica, validMasks}
@@ -22,7 +22,7 @@ use Rattle.apollo.specs.Outcome.{Outcome, refused, nextLeader, taken, guarded}
 use Rattle.apollo.specs.Branch.{lastOf, firstUncertified, grown, judgedAll, adopting, placed, branched, branchWith}
 use Rattle.apollo.specs.Blame.{oneSet, anyFresh, hearingAll, heard, handing}
 use Rattle.apollo.specs.Tick.{blaming, ticked, tickWith}
-use Rattle.apollo.specs.Equivocation.{marked, isPair, first, second, conflicting, accusing, equivocationWith}
+use Rattle.apollo.specs.Equivocation.{marked, isPair, second, conflicting, accusing, equivocationWith}
 use Rattle.apollo.specs.Read.{readCall}
 use Rattle.apollo.specs.Fetch.{fetchCall}
 use Rattle.apollo.proofs.Masks.{bit-kept}
@@ -199,9 +199,9 @@ module _ (c : State) (m : ℕ) where
   equivocation-aside v bytes =
       ap
       (λ (b : Bool). bare (cond (not b) (marked 2 0 (withEquivocators (c .replica) m))
-      (cond (isPair bytes) (accusing sha256 (withEquivocators (c .replica) m) (first bytes) (second bytes))
+      (cond (isPair bytes) (accusing sha256 (withEquivocators (c .replica) m) (firstFrame bytes) (second bytes))
       (marked 6 0 (withEquivocators (c .replica) m))))) v
-      ∙ alike bare (not (validRecord (c .replica))) refl (alike bare (isPair bytes) (accusing-aside (first bytes) (second bytes)) refl)
+      ∙ alike bare (not (validRecord (c .replica))) refl (alike bare (isPair bytes) (accusing-aside (firstFrame bytes) (second bytes)) refl)
 
 calls-aside : (c : State) (m : ℕ) → validMarks (c .replica) ≡ true → validMarks (withEquivocators (c .replica) m) ≡ true → (a : Act)
     → SameButMarks (answer (remarked c m) a) (answer c a)
@@ -232,9 +232,9 @@ unfolding equivocationWith accusing
 equivocation-kept r bytes k e =
     by-cond Keeps (not (validRecord r)) (λ _. e)
     (λ _. by-cond Keeps (isPair bytes)
-    (λ _. by-cond Keeps (eqb (judgedEach sha256 (blockForm (setupOf r)) 0 (first bytes ∷ second bytes ∷ []) .number) 0)
-    (λ _. by-cond Keeps (conflicting (first bytes) (second bytes))
-    (λ _. bit-kept (leader (setupOf r) (round (first bytes))) k (r .equivocators) e) (λ _. e)) (λ _. e)) (λ _. e))
+    (λ _. by-cond Keeps (eqb (judgedEach sha256 (blockForm (setupOf r)) 0 (firstFrame bytes ∷ second bytes ∷ []) .number) 0)
+    (λ _. by-cond Keeps (conflicting (firstFrame bytes) (second bytes))
+    (λ _. bit-kept (leader (setupOf r) (round (firstFrame bytes))) k (r .equivocators) e) (λ _. e)) (λ _. e)) (λ _. e))
   where
     Keeps : Marked → Type 0
     Keeps a = bit k (a .replica .equivocators) ≡ true

@@ -13,8 +13,6 @@ use Rattle.apollo.specs.Log.{genesis, slot, store}
 use Rattle.apollo.specs.Replica.{withRound, withTip}
 use Rattle.apollo.specs.Enter.{tipped, holding, ownBlock, proposing, state}
 use Rattle.frame_writing.proofs.Make.{length-block}
-use Rattle.log.specs.Slots.{slotPart}
-use Rattle.log.proofs.Search.{slot-part}
 use Rattle.tip.specs.Ready.{Ready}
 
 -- the tip and R are set one after the other
@@ -27,8 +25,8 @@ pub genesis-digest : (log : List ℕ) (t : ℕ) → t ≡ 0 → replicate 32 0 �
 unfolding slot genesis zeros
 genesis-digest log t e = rw e
 
-pub slot-digest : (log x y : List ℕ) (t : ℕ) → (t ≡ 0 → ⊥) → x ≡ slotPart log t → y ≡ part x 480 32 → y ≡ digest (slot log t)
-slot-digest log x y t h ex ey = ey ∙ ap digest (ex ∙ slot-part log t (omega arith))
+pub slot-digest : (log x y : List ℕ) (t : ℕ) → x ≡ slot log t → y ≡ part x 480 32 → y ≡ digest (slot log t)
+slot-digest log x y t ex ey = ey ∙ ap digest ex
 
 pub digest-size : (log : List ℕ) (t : ℕ) → 512 * t ≤ length log → length (digest (slot log t)) ≡ 32
 unfolding slot genesis zeros

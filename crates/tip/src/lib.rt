@@ -6,12 +6,11 @@ ghost use Prim.Native.Nat.{ℕ, _+_, _*_, _≤_};
 ghost use lib.ListN.{length, drop};
 ghost use Rattle.sha256.specs.Fips.{sha256};
 ghost use Rattle.apollo.specs.Frame as Frame;
-ghost use Rattle.apollo.specs.Frame.{framesOf};
+ghost use Rattle.apollo.specs.Frame.{framesOf, lastFrame};
 ghost use Rattle.apollo.specs.Log as Log;
 ghost use Rattle.apollo.specs.Branch.{grown};
 ghost use Rattle.apollo.specs.Enter.{state, tipped, holding, ownBlock, proposing};
 ghost use Rattle.log.specs.Slots.{Slotted};
-ghost use Rattle.frame.specs.Ends.{lastFrame};
 ghost use Rattle.tip.specs.Ready.{Ready};
 
 // The record with its tip in round t, at height h: R follows it.

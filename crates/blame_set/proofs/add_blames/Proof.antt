@@ -6,14 +6,14 @@ use borrow.Author.Needs.{needs}
 use Rattle.apollo.specs.Frame as Frame
 use Rattle.apollo.specs.Blame.{addBlames}
 use Rattle.frame.proofs.Frames.{rest, rest-start}
-use Rattle.blame_set.specs.Set.{Marked}
+use Rattle.blame_set.specs.Set.{HaveBits}
 use Rattle.blame_set.proofs.Each.{added-more, added-end}
-use Rattle.blame_set.proofs.Marked.{marked-rest, marked-lent}
+use Rattle.blame_set.proofs.Bits.{bits-rest, bits-lent}
 use Rattle.blame_set.proofs.add_blames.Statement.{statement}
 use Rattle.blame_set.proofs.add_blames.Tie as tie
 
 abbrev Inv-loop : tie.InvT-loop
-Inv-loop masks₀ frames n i₀ masks i = (i ≤ n) × (length masks ≡ length masks₀) × (addBlames masks (rest frames n i) ≡ addBlames masks₀ (Frame.frames n frames)) × Marked (rest frames n i)
+Inv-loop masks₀ frames n i₀ masks i = (i ≤ n) × (length masks ≡ length masks₀) × (addBlames masks (rest frames n i) ≡ addBlames masks₀ (Frame.frames n frames)) × HaveBits (rest frames n i)
 
 abbrev μ-loop : tie.MeasureT-loop
 μ-loop masks₀ frames n i₀ masks i = n - i
@@ -25,7 +25,7 @@ add-frame-requires : tie.Need-add-frame-requires Inv-loop μ-loop
 add-frame-requires c κs =
     let t = c .before .before in
     let l = t .before in
-    marked-lent (l .before .before .before .args .frames .now) _ (l .loop .i) (t .loop-test .taken) (l .loop .inv .3)
+    bits-lent (l .before .before .before .args .frames .now) _ (l .loop .i) (t .loop-test .taken) (l .loop .inv .3)
 
 loop-again : tie.Need-loop-again Inv-loop μ-loop
 loop-again c =
@@ -36,7 +36,7 @@ loop-again c =
       search needs,
       search needs,
       added-more b _ (l .loop .i) (l .loop .masks) _ (l .loop .inv .2) _ (t .loop-test .taken) (f .add-frame .ensures),
-      marked-rest b _ (l .loop .i) (t .loop-test .taken) (l .loop .inv .3) .1,
+      bits-rest b _ (l .loop .i) (t .loop-test .taken) (l .loop .inv .3) .1,
     )
 
 returns : tie.Need-returns Inv-loop μ-loop

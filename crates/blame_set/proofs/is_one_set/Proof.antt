@@ -7,14 +7,14 @@ use borrow.Author.Tests.{not-true, not-false}
 use Rattle.apollo.specs.Frame as Frame
 use Rattle.apollo.specs.Blame.{oneSet}
 use Rattle.frame.proofs.Frames.{rest, rest-start}
-use Rattle.blame_set.specs.Set.{Marked}
+use Rattle.blame_set.specs.Set.{HaveBits}
 use Rattle.blame_set.proofs.Each.{set-stop, set-more, set-end}
-use Rattle.blame_set.proofs.Marked.{marked-rest, marked-lent}
+use Rattle.blame_set.proofs.Bits.{bits-rest, bits-lent}
 use Rattle.blame_set.proofs.is_one_set.Statement.{statement}
 use Rattle.blame_set.proofs.is_one_set.Tie as tie
 
 abbrev Inv-loop : tie.InvT-loop
-Inv-loop frames r n before₀ i₀ before i = (i ≤ n) × (oneSet r before (rest frames n i) ≡ oneSet r 0 (Frame.frames n frames)) × Marked (rest frames n i)
+Inv-loop frames r n before₀ i₀ before i = (i ≤ n) × (oneSet r before (rest frames n i) ≡ oneSet r 0 (Frame.frames n frames)) × HaveBits (rest frames n i)
 
 abbrev μ-loop : tie.MeasureT-loop
 μ-loop frames r n before₀ i₀ before i = n - i
@@ -33,7 +33,7 @@ joined-requires : tie.Need-joined-requires Inv-loop μ-loop
 joined-requires c κs =
     let t = c .before .before .before .before in
     let l = t .before in
-    marked-lent (l .before .before .args .frames .now) _ (l .loop .i) (t .loop-test .taken) (l .loop .inv .2)
+    bits-lent (l .before .before .args .frames .now) _ (l .loop .i) (t .loop-test .taken) (l .loop .inv .2)
 
 loop-again : tie.Need-loop-again Inv-loop μ-loop
 loop-again c =
@@ -44,7 +44,7 @@ loop-again c =
     let b = l .before .before .args .frames .now in (
       search needs,
       set-more b _ (l .loop .i) _ _ _ (l .loop .inv .1) (t .loop-test .taken) _ (j .joins .ensures) _ (not-false _ (i .if1 .left)) (c .joined .ensures),
-      marked-rest b _ (l .loop .i) (t .loop-test .taken) (l .loop .inv .2) .1,
+      bits-rest b _ (l .loop .i) (t .loop-test .taken) (l .loop .inv .2) .1,
     )
 
 returns-2 : tie.Need-returns-2 Inv-loop μ-loop

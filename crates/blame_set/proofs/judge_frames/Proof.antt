@@ -1,7 +1,7 @@
 -- `blame_set::judge_frames` meets its contract: 7 and 8, and what follows them. Assumes nothing.
 use borrow.Author.Needs.{needs}
 use Rattle.blame_set.proofs.Judge.{frames-faulty, frames-sound}
-use Rattle.blame_set.proofs.Marked.{each-marked}
+use Rattle.blame_set.proofs.Bits.{each-has-bit}
 use Rattle.blame_set.proofs.judge_frames.Statement.{statement}
 use Rattle.blame_set.proofs.judge_frames.Tie as tie
 
@@ -17,7 +17,7 @@ judge-together-requires c κs =
     let j = c .before .before in
     let s = j .before in
     let b = s .before .before .before in
-    each-marked _ (rw (s .setup .ensures) (b .pre .0)) 0 _ (rw (j .judge-each .ensures) at (c .if1 .left))
+    each-has-bit _ (rw (s .setup .ensures) (b .pre .0)) 0 _ (rw (j .judge-each .ensures) at (c .if1 .left))
 
 returns-2 : tie.Need-returns-2
 returns-2 c =

@@ -5,7 +5,7 @@ use Rattle.call_read.proofs.entry_part.Statement.{statement}
 use Rattle.call_read.proofs.entry_part.Tie as tie
 
 returns : tie.Need-returns
-returns c = entry-found _ _ _ _ (c .before .before .before .pre) (c .before .slot .ensures) (c .entry-length .ensures .0)
+returns c = entry-found _ _ _ _ (c .before .slot .ensures) (c .entry-length .ensures .0)
 
 pub entry-part-spec : {M : Type 1} → statement M
 entry-part-spec =

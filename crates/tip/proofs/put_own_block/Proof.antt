@@ -28,7 +28,7 @@ put-block-requires-2 c κs =
     let i = l .before in
     let s = i .before .before .before .before in
     let a = s .args in
-    let e = slot-digest (a .log .now) _ _ (a .r .«tip_round» .0) (i .if1 .left) (l .slot .ensures) (p .part .ensures) in
+    let e = slot-digest (a .log .now) _ _ (a .r .«tip_round» .0) (l .slot .ensures) (p .part .ensures) in
     (omega arith, ap length e ∙ digest-size (a .log .now) (a .r .«tip_round» .0) (omega arith), omega arith)
 
 same-length-2 : tie.Need-same-length-2
@@ -43,7 +43,7 @@ returns-2 c =
     let l = p .before in
     let i = l .before in
     let a = i .before .before .before .before .args in
-    rw (slot-digest (a .log .now) _ _ (a .r .«tip_round» .0) (i .if1 .left) (l .slot .ensures) (p .part .ensures)) at (u .put-block2 .ensures)
+    rw (slot-digest (a .log .now) _ _ (a .r .«tip_round» .0) (l .slot .ensures) (p .part .ensures)) at (u .put-block2 .ensures)
 
 pub put-own-block-spec : {M : Type 1} → statement M
 put-own-block-spec =
@@ -53,7 +53,7 @@ put-own-block-spec =
     put-block-requires
     same-length
     returns
-    (λ c κs. tt)
+    (λ c κs. omega arith)
     (λ c κs. tt)
     put-block-requires-2
     same-length-2

@@ -16,7 +16,7 @@ use Rattle.apollo.specs.Judging.{verdict, fault, judgedEach}
 use Rattle.frame.proofs.Frames.{rest, rest-next, frame-part}
 use Rattle.frame_forms.proofs.Facts.{BlameFields, blame-fields}
 use Rattle.apollo.proofs.Fault.{fault-none}
-use Rattle.blame_set.specs.Set.{Marked}
+use Rattle.blame_set.specs.Set.{HaveBits}
 
 none-first : (z : Bool) (k i : ℕ) (v : Verdict) → eqb k 0 ≡ z → cond z v (verdict k i) .number ≡ 0 → (k ≡ 0) × (v .number ≡ 0)
 none-first true k i v e h = (eqb-true k 0 e, h)
@@ -28,20 +28,20 @@ none-second true true u v e h = eqb-true (v .number) 0 e
 none-second true false u v e h = h
 none-second false z u v e h = absurd (omega arith)
 
-pub each-marked : (s : Setup) → s .f ≤ 7 → (i : ℕ) (xs : List (List ℕ)) → judgedEach sha256 (blameForm s) i xs .number ≡ 0 → Marked xs
+pub each-has-bit : (s : Setup) → s .f ≤ 7 → (i : ℕ) (xs : List (List ℕ)) → judgedEach sha256 (blameForm s) i xs .number ≡ 0 → HaveBits xs
 unfolding judgedEach
-each-marked s l i [] e = tt
-each-marked s l i (x ∷ xs) e =
+each-has-bit s l i [] e = tt
+each-has-bit s l i (x ∷ xs) e =
     let k : ℕ = fault sha256 (blameForm s) x in
     let p = none-first (eqb k 0) k i (judgedEach sha256 (blameForm s) (i + 1) xs) refl e in
     let f : BlameFields s x = blame-fields s x (fault-none sha256 (blameForm s) x (p .0) .1) in
-    (omega (arith, f .by-replica), each-marked s l (i + 1) xs (p .1))
+    (omega (arith, f .by-replica), each-has-bit s l (i + 1) xs (p .1))
 
 -- frame i, and those after it
-pub marked-rest : (b : List ℕ) (n i : ℕ) → i < n → Marked (rest b n i)
-    → (signer (part b (512 * i) 512) < 16) × Marked (rest b n (i + 1))
-marked-rest b n i h m = rw (rest-next b n i h) at m
+pub bits-rest : (b : List ℕ) (n i : ℕ) → i < n → HaveBits (rest b n i)
+    → (signer (part b (512 * i) 512) < 16) × HaveBits (rest b n (i + 1))
+bits-rest b n i h m = rw (rest-next b n i h) at m
 
-pub marked-lent : (b : List ℕ) (n i : ℕ) → i < n → Marked (rest b n i)
+pub bits-lent : (b : List ℕ) (n i : ℕ) → i < n → HaveBits (rest b n i)
     → signer (take (512 * i + 512 - 512 * i) (drop (512 * i) b)) < 16
-marked-lent b n i h m = rw (frame-part b (512 * i)) (marked-rest b n i h m .0)
+bits-lent b n i h m = rw (frame-part b (512 * i)) (bits-rest b n i h m .0)
