@@ -1,10 +1,23 @@
 // The data of a replica (document 01: a card) and the answers of its calls, laid out as in C. A comment beside a field is
 // document 01's word for it, where that differs.
+ghost use mathlib.Core.Path.{_≡_};
+ghost use Prim.Native.Nat.{_-_};
+
 pub mod refusal;
 
 // A round, 1 to T; the genesis has round 0.
 #[repr(C)]
 pub struct Round(pub u32);
+
+// The round before r, 0 for the genesis.
+pub fn previous(r: u32) -> u32
+    ensures { λ q. ⌜ q ≡ r - 1 ⌝ }
+{
+    if r == 0 {
+        return 0;
+    }
+    r - 1
+}
 
 // A height in the chain; the genesis has height 0.
 #[repr(C)]

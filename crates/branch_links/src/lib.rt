@@ -42,7 +42,7 @@ fn attaches_genesis(x: &[u8]) -> bool
 pub fn attach(log: &[u8], x: &[u8]) -> Attachment
     ensures { λ a. ⌜ attachOf a ≡ Log.attach (now (log .entry)) (now (x .entry)) (Frame.round (now (x .entry)) - 1) ⌝ }
 {
-    let mut r = frame::previous(frame::round(x));
+    let mut r = apollo::previous(frame::round(x));
     while 0 < r {
         if attaches(log, x, r) {
             return Attachment::At(r);

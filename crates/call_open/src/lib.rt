@@ -4,20 +4,7 @@ use apollo::Replica;
 use apollo::Round;
 use apollo::Ticks;
 ghost use mathlib.Core.Path.{_≡_};
-ghost use lib.ListN.{length};
-ghost use Rattle.apollo.specs.Bytes.{zeros};
 ghost use Rattle.apollo.specs.Calls.{outcome, openCall};
-
-// All masks are zeroed.
-fn clear_masks(masks: &mut [u16])
-    ensures { λ _. ⌜ now (masks .exit) ≡ zeros (length (now (masks .entry))) ⌝ }
-{
-    let mut i = 0;
-    while i < masks.len() {
-        masks[i] = 0;
-        i += 1;
-    }
-}
 
 // Opens a replica: log and masks are zeroed, and round 1 is entered.
 pub fn open(
@@ -41,6 +28,6 @@ pub fn open(
         return calls::refused(record::zero_replica(), number, 0);
     }
     slices::clear(log);
-    clear_masks(masks);
+    masks::clear(masks);
     rounds::enter_round(r, log, entry, out)
 }

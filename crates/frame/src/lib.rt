@@ -1,7 +1,7 @@
 // One frame: its fields read in place, and its parent; whole frames, and the last of them. Every function
 // takes slices of any length, as the definitions do.
 ghost use mathlib.Core.Path.{_≡_};
-ghost use Prim.Native.Nat.{_-_, _≤_, _<_};
+ghost use Prim.Native.Nat.{_≤_, _<_};
 ghost use Rattle.apollo.specs.Bytes as Bytes;
 ghost use Rattle.apollo.specs.Frame as Frame;
 
@@ -66,13 +66,6 @@ pub fn linked(p: &[u8], x: &[u8]) -> bool
         return false;
     }
     height(p) == h - 1
-}
-
-// The round before r, 0 for the genesis.
-pub fn previous(r: u32) -> u32
-    ensures { λ q. ⌜ q ≡ r - 1 ⌝ }
-{
-    if r == 0 { 0 } else { r - 1 }
 }
 
 // 1 to `most` whole frames.

@@ -1,16 +1,18 @@
 // Masks of 16 bits, a bit for each replica: their bits, as the blame masks and the marks have them; of the blame masks certified (shown)
-// rounds, and blames added.
+// rounds, and blames added; all masks zeroed.
 use apollo::Setup;
 ghost use mathlib.Core.Path.{_≡_};
 ghost use Prim.Native.Nat.{_%_, _^_, _<_};
 ghost use lib.Dec.{ltb};
+ghost use lib.ListN.{length};
+ghost use Rattle.apollo.specs.Bytes.{zeros};
 ghost use Rattle.apollo.specs.Masks as Masks;
 
 // The mask of round r, 0 past the end.
 fn mask(masks: &[u16], r: u32) -> u16
     ensures { λ m. ⌜ m ≡ Masks.mask (now (masks .entry)) r ⌝ }
 {
-    let i = frame::previous(r) as usize;
+    let i = apollo::previous(r) as usize;
     if i < masks.len() { masks[i] } else { 0 }
 }
 
@@ -66,8 +68,19 @@ pub fn add_blame(masks: &mut [u16], r: u32, i: u8)
     requires { ⌜ i < 16 ⌝ }
     ensures { λ _. ⌜ now (masks .exit) ≡ Masks.addBlame (now (masks .entry)) r i ⌝ }
 {
-    let k = frame::previous(r) as usize;
+    let k = apollo::previous(r) as usize;
     if k < masks.len() {
         masks[k] = with_bit(masks[k], i);
+    }
+}
+
+// All masks are zeroed.
+pub fn clear(masks: &mut [u16])
+    ensures { λ _. ⌜ now (masks .exit) ≡ zeros (length (now (masks .entry))) ⌝ }
+{
+    let mut i = 0;
+    while i < masks.len() {
+        masks[i] = 0;
+        i += 1;
     }
 }

@@ -1,4 +1,4 @@
-// The record of a replica: made, with other fields, and the set-up in it.
+// The record of a replica: made, with other fields, the set-up in it, and whether it leads R.
 use apollo::Height;
 use apollo::Replica;
 use apollo::Round;
@@ -7,7 +7,7 @@ use apollo::Ticks;
 ghost use mathlib.Core.Path.{_≡_};
 ghost use Prim.Native.Nat.{_<_};
 ghost use Rattle.apollo.specs.Setup.{setupOf};
-ghost use Rattle.apollo.specs.Replica.{withRound, withTimer, withTip, withCommitted, withMark, fresh, zeroReplica};
+ghost use Rattle.apollo.specs.Replica.{withRound, withTimer, withTip, withCommitted, withMark, fresh, zeroReplica, leads};
 
 // The set-up in a record.
 pub fn setup(r: Replica) -> Setup
@@ -20,6 +20,15 @@ pub fn setup(r: Replica) -> Setup
         last_round,
         rotation,
     }
+}
+
+// R ≤ T, and this replica leads R.
+pub fn leads(r: Replica) -> bool
+    ensures { λ b. ⌜ b ≡ leads r ⌝ }
+{
+    let round = r.round.0;
+    let leader = rotation::leader(setup(r), round);
+    (round <= r.last_round.0) & (leader == r.id)
 }
 
 // The record of an open, before entering.

@@ -3,20 +3,12 @@ use mathlib.Core.Path.{_≡_}
 use mathlib.Core.Bool.{Bool, _&&_, not}
 use mathlib.Core.List.{List}
 use Prim.Native.Nat.{ℕ}
-use lib.Dec.{eqb, leb}
 use lib.ListN.{take}
 use Rattle.apollo.specs.declared.Replica.{Replica}
-use Rattle.apollo.specs.declared.Setup.{Setup}
 use Rattle.apollo.specs.Bytes.{blank}
 use Rattle.apollo.specs.Rotation.{isRotation}
-use Rattle.apollo.specs.Setup.{setupOf, replicas, leader, validRotation}
+use Rattle.apollo.specs.Setup.{setupOf, replicas, validRotation}
 use Rattle.apollo.specs.Replica.{leads, validNumbers, validRounds, validMarks, validRecord, validLog, validReplica}
-
--- the test of a leader, from what the code found it to be
-pub leads-test : (r : Replica) (s : Setup) (l : ℕ) → s ≡ setupOf r → l ≡ leader s (r .round .0)
-    → leb (r .round .0) (r .«last_round» .0) && eqb l (r .id) ≡ leads r
-unfolding leads
-leads-test r s l d e = rw (e, d)
 
 -- the test of a record, from its five parts
 pub record-test : (r : Replica) {s t v m l : Bool} → s ≡ validNumbers r

@@ -1,16 +1,7 @@
-// The tests of a record, for any numbers in it: who leads R, and the ranges of the fields and of what is lent beside them.
+// The tests of a record, for any numbers in it: the ranges of the fields and of what is lent beside them.
 use apollo::Replica;
 ghost use mathlib.Core.Path.{_≡_};
-ghost use Rattle.apollo.specs.Replica.{leads, validNumbers, validRounds, validMarks, validRecord, validLog, validMasks, validSetup};
-
-// R ≤ T, and this replica leads R.
-pub fn leads(r: Replica) -> bool
-    ensures { λ b. ⌜ b ≡ leads r ⌝ }
-{
-    let round = r.round.0;
-    let leader = rotation::leader(record::setup(r), round);
-    (round <= r.last_round.0) & (leader == r.id)
-}
+ghost use Rattle.apollo.specs.Replica.{validNumbers, validRounds, validMarks, validRecord, validLog, validMasks, validSetup};
 
 // Own number, f, timeout and T are in range.
 fn valid_numbers(r: Replica) -> bool
@@ -78,7 +69,7 @@ pub fn valid_record(r: Replica) -> bool
         & rotation::valid_rotation(seats, n)
         & valid_rounds(r)
         & valid_marks(r)
-        & !leads(r)
+        & !record::leads(r)
 }
 
 // There is one mask a round.

@@ -60,7 +60,7 @@ fn send(t: Table, out: &[u8; 1024], sent: &mut [u8; 18432]) {
 
 // Frame k of those sent, the first for 0.
 fn sent_frame<'a>(sent: &'a [u8], k: u32) -> &'a [u8] {
-    slices::part(sent, 512 * (frame::previous(k) as usize), 512)
+    slices::part(sent, 512 * (apollo::previous(k) as usize), 512)
 }
 
 // The first frame after frame k that another replica than i sent, 0 if there is none.

@@ -14,7 +14,7 @@ pub fn leader(s: Setup, round: u32) -> u8
     ensures { λ r. ⌜ r ≡ leader s round ⌝ }
 {
     let n = 2 * (s.f as u32) + 1;
-    let seat = (frame::previous(round) % n) as usize;
+    let seat = (apollo::previous(round) % n) as usize;
     if seat < 15 { s.rotation[seat] } else { 0 }
 }
 

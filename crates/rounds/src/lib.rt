@@ -58,7 +58,7 @@ pub fn enter_round(r: Replica, log: &mut [u8], entry: &[u8], out: &mut [u8]) -> 
         → outcome a (now (log .exit)) masks (now (out .exit))
         ≡ Outcome.taken (enterRound sha256 (now (entry .entry)) (state r (now (log .entry)) masks)) (now (out .entry))) ⌝ }
 {
-    if record_ranges::leads(r) {
+    if record::leads(r) {
         let q = tip::propose(r, log, entry, out);
         return entered(q, log, 1);
     }

@@ -34,7 +34,7 @@ same-length-3 c =
 same-length-4 : tie.Need-same-length-4
 same-length-4 c =
     let m = c .before .before .before .before .before .before .before .before .before in
-    m .clear-masks .kept .0
+    m .clear2 .kept .0
 
 same-length-5 : tie.Need-same-length-5
 same-length-5 c =
@@ -51,7 +51,7 @@ returns-2 c =
     let f = j .before .before .before in
     let s = f .before .before .before .before .before .before in
     let a = s .args in
-    open-taken (a .id) (a .f) (a .timeout .0) (a .last-round .0) (a .rotation .now) (a .log .now) (a .masks .now) (a .entry .now) (a .out .now) _ (f .fresh .ensures) _ (j .of-open .ensures) (i .if1 .left) _ (l .clear .ensures) _ _ (m .clear-masks .ensures) (e .enter-round .ensures _)
+    open-taken (a .id) (a .f) (a .timeout .0) (a .last-round .0) (a .rotation .now) (a .log .now) (a .masks .now) (a .entry .now) (a .out .now) _ (f .fresh .ensures) _ (j .of-open .ensures) (i .if1 .left) _ (l .clear .ensures) _ _ (m .clear2 .ensures) (e .enter-round .ensures _)
 
 pub open-spec : {M : Type 1} → statement M
 open-spec =

@@ -1,4 +1,4 @@
--- `call_open::clear_masks` meets its contract. The loop's invariant: the first i masks are zero. Assumes nothing.
+-- `masks::clear` meets its contract. The loop's invariant: the first i masks are zero. Assumes nothing.
 use mathlib.Core.Path.{_≡_, refl, _∙_}
 use mathlib.Core.List.{_++_}
 use Prim.Native.Nat.{_≤_, _-_}
@@ -7,8 +7,8 @@ use lib.ListN.{length, drop, replicate}
 use borrow.Author.Fill.{fill-more}
 use borrow.Author.Needs.{needs}
 use Rattle.slices.proofs.Copies.{clear-end}
-use Rattle.call_open.proofs.clear_masks.Statement.{statement}
-use Rattle.call_open.proofs.clear_masks.Tie as tie
+use Rattle.masks.proofs.clear.Statement.{statement}
+use Rattle.masks.proofs.clear.Tie as tie
 
 abbrev Inv-loop : tie.InvT-loop
 Inv-loop masks₀ i₀ masks i = (i ≤ length masks₀) × (length masks ≡ length masks₀) × (masks ≡ replicate i 0 ++ drop i masks₀)
@@ -29,8 +29,8 @@ returns c =
     let l = c .before in
     l .loop .inv .2 ∙ clear-end (l .before .args .masks .now) (l .loop .i) (omega arith) (omega arith)
 
-pub clear-masks-spec : {M : Type 1} → statement M
-clear-masks-spec =
+pub clear-spec : {M : Type 1} → statement M
+clear-spec =
     tie.close
     (tie.spec
     Inv-loop
