@@ -3,7 +3,7 @@ use Prim.Native.Nat.{ℕ, _+_, _-_, _*_, _/_, _≤_}
 use mathlib.Core.Path.{_≡_, ap}
 use mathlib.Core.List.{List, [], _∷_, flatten}
 use mathlib.Core.Option.{Option, none, some}
-use mathlib.Core.Bool.{true, not}
+use mathlib.Core.Bool.{Bool, true, not}
 use native.Mathlib.Omega.{arith}
 use lib.ListN.{length, take}
 use lib.Dec.{eqb, ltb}
@@ -11,22 +11,20 @@ use Rattle.sha256.specs.Fips.{sha256}
 use Rattle.apollo.specs.Bytes.{same}
 use Rattle.apollo.specs.declared.Setup.{Setup}
 use Rattle.apollo.specs.Setup.{setupOf}
-use Rattle.apollo.specs.Frame.{signer, round, frames, wholeFrames, blockForm, blameForm, checked}
+use Rattle.apollo.specs.Frame.{round, frames, framesOf, wholeFrames, blockForm, blameForm, checked}
 use Rattle.apollo.specs.Log.{attach}
-use Rattle.apollo.specs.Masks.{bit, mask}
 use Rattle.apollo.specs.Enter.{State}
 use Rattle.apollo.specs.declared.Verdict.{Verdict}
-use Rattle.apollo.specs.Judging.{fault}
+use Rattle.apollo.specs.Judging.{fault, judgedEach}
 use Rattle.apollo.specs.Outcome.{refused, taken}
 use Rattle.apollo.specs.BlockRun.{lastOf, blocks, judgedRun}
 use Rattle.apollo.specs.Branch.{firstUncertified, grown, placed, branched, branchWith}
-use Rattle.apollo.specs.Blame.{handing}
+use Rattle.apollo.specs.Blame.{oneSet, anyFresh, heard, handing}
 use Rattle.apollo.specs.Tick.{tickWith}
-use Rattle.apollo.specs.Calls.{branchCall, blameCall, tickCall}
-use Rattle.apollo.specs.Single.{oneBlame}
+use Rattle.apollo.specs.Calls.{branchCall, tickCall}
 use Rattle.apollo.specs.BenchSheet.{Callable, number}
 use Rattle.apollo.proofs.Tests.{by-cond}
-use Rattle.apollo.proofs.Single.{blame-one}
+use Rattle.apollo.proofs.Fault.{each-number}
 use Rattle.apollo.proofs.BlockRun.{run-number}
 use Rattle.apollo.proofs.Judging.{passes, too-long, stale-branch, fresh-branch}
 
@@ -69,14 +67,16 @@ branched-not-5 entry out s (x ∷ xs) =
     (λ _. run-number Not5 (λ e. omega arith) (λ e. omega arith) (λ e. omega arith) (λ e. omega arith) (setupOf (s .replica)) 0 none
     (x ∷ xs))
 
-one-not-5 : (s : State) (x entry out : List ℕ) → Not5 (number (oneBlame s x entry out))
-unfolding oneBlame refused taken Not5
-one-not-5 s x entry out =
-    by-cond (λ o. Not5 (number o)) (not (eqb (length x) 512)) (λ _ e. omega arith)
-    (λ _. by-cond (λ o. Not5 (number o)) (not (checked sha256 x)) (λ _ e. omega arith)
-    (λ _. by-cond (λ o. Not5 (number o)) (not (blameForm (setupOf (s .replica)) x)) (λ _ e. omega arith)
+heard-not-5 : (entry out : List ℕ) (s : State) (xs : List (List ℕ)) → Not5 (number (heard sha256 entry out s xs))
+unfolding heard refused taken Not5
+heard-not-5 entry out s [] = λ e. omega arith
+heard-not-5 entry out s (x ∷ xs) =
+    by-cond (λ o. Not5 (number o)) (eqb (judgedEach sha256 (blameForm (setupOf (s .replica))) 0 (x ∷ xs) .number) 0)
+    (λ _. by-cond (λ o. Not5 (number o)) (oneSet (round x) 0 (x ∷ xs))
     (λ _. by-cond (λ o. Not5 (number o)) (ltb (s .replica .round .0) (round x)) (λ _ e. omega arith)
-    (λ _. by-cond (λ o. Not5 (number o)) (bit (signer x) (mask (s .masks) (round x))) (λ _ e. omega arith) (λ _ e. omega arith)))))
+    (λ _. by-cond (λ o. Not5 (number o)) (anyFresh (s .masks) (x ∷ xs)) (λ _ e. omega arith) (λ _ e. omega arith)))
+    (λ _ e. omega arith))
+    (λ _. each-number Not5 (λ e. omega arith) (λ e. omega arith) (λ e. omega arith) sha256 (blameForm (setupOf (s .replica))) 0 (x ∷ xs))
 
 module _ {s : State} {out : List ℕ} (c : Callable s out) (bytes entry : List ℕ) where
   module _ (l : length entry ≡ 400) where
@@ -87,9 +87,12 @@ module _ {s : State} {out : List ℕ} (c : Callable s out) (bytes entry : List �
         (by-cond (λ o. Not5 (number o)) (wholeFrames (s .replica .«last_round» .0) bytes)
         (λ _. branched-not-5 entry out s (frames (length bytes / 512) bytes)) (λ _ e. omega arith))
 
-    pub blame-400 : ¬ (number (blameCall s bytes entry out) ≡ 5)
-    unfolding Not5
-    blame-400 = rw (blame-one s bytes entry out, passes c entry (omega arith) _) (one-not-5 s bytes entry out)
+    -- a blame, and blames
+    pub hand-400 : (most : ℕ) → ¬ (number (handing sha256 most s bytes entry out) ≡ 5)
+    unfolding handing refused Not5
+    hand-400 most =
+        rw (passes c entry (omega arith) _)
+        (by-cond (λ o. Not5 (number o)) (wholeFrames most bytes) (λ _. heard-not-5 entry out s (framesOf bytes)) (λ _ e. omega arith))
 
     pub tick-400 : number (tickCall s entry out) ≡ 0
     unfolding tickWith taken
@@ -100,9 +103,9 @@ module _ {s : State} {out : List ℕ} (c : Callable s out) (bytes entry : List �
     unfolding branchWith refused
     branch-401 = ap number (too-long c entry (omega arith) _)
 
-    pub blame-401 : number (blameCall s bytes entry out) ≡ 5
+    pub hand-401 : (most : ℕ) → number (handing sha256 most s bytes entry out) ≡ 5
     unfolding handing refused
-    blame-401 = ap number (too-long c entry (omega arith) _)
+    hand-401 most = ap number (too-long c entry (omega arith) _)
 
     pub tick-401 : number (tickCall s entry out) ≡ 5
     unfolding tickWith refused

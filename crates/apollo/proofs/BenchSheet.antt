@@ -3,7 +3,7 @@ use mathlib.Core.Path.{refl}
 use Rattle.apollo.specs.Setup.{setup}
 use Rattle.apollo.specs.BenchSheet.{BenchSheet}
 use Rattle.apollo.proofs.BenchCommit.{leaders, chain-1-2, chain-1, third-filled, chain-1-3, commits-3, chain-1-2-3, mask-3, mask-1, mask-21}
-use Rattle.apollo.proofs.BenchRefusals.{ends-in-2, ends-in-3, branch-400, blame-400, tick-400, branch-401, blame-401, tick-401}
+use Rattle.apollo.proofs.BenchRefusals.{ends-in-2, ends-in-3, branch-400, hand-400, tick-400, branch-401, hand-401, tick-401}
 use Rattle.apollo.proofs.BenchTicks.{first-blames, second-blames, tick-commits}
 use Rattle.apollo.proofs.BenchOpen.{open-400, open-401, open-emits, then-over}
 use Rattle.apollo.proofs.BenchBranches.{uncertified-9, number-9, replica-1, replica-0, committed-10, undone-10, uncertified-10, held-10}
@@ -33,8 +33,8 @@ benchSheet =
           open-401 id f timeout T rotation log masks entry out v m turns room,
         ),
         λ s bytes entry out c. (
-          λ l. (branch-400 c bytes entry l, blame-400 c bytes entry l, tick-400 c bytes entry l),
-          λ l. (branch-401 c bytes entry l, blame-401 c bytes entry l, tick-401 c bytes entry l),
+          λ l. (branch-400 c bytes entry l, hand-400 c bytes entry l 1, hand-400 c bytes entry l 15, tick-400 c bytes entry l),
+          λ l. (branch-401 c bytes entry l, hand-401 c bytes entry l 1, hand-401 c bytes entry l 15, tick-401 c bytes entry l),
         ),
       );
       item-8 =

@@ -20,7 +20,7 @@ use Rattle.apollo.specs.Replica.{fresh, validSetup, validReplica, validM
 use Rattle.apollo.specs.Enter.{State, commit}
 use Rattle.apollo.specs.BlockRun.{lastOf, block, blocks}
 use Rattle.apollo.specs.Outcome.{Outcome}
-use Rattle.apollo.specs.Calls.{openCall, branchCall, blameCall, tickCall}
+use Rattle.apollo.specs.Calls.{openCall, branchCall, blameCall, blamesCall, tickCall}
 
 -- "the old turn" of 2f + 1 cards
 abbrev pub turn : (f : ℕ) → List ℕ
@@ -139,16 +139,17 @@ pub record BenchSheet : Type 0 where
       → blocks (setupOf (s .replica)) none (x ∷ xs) ≡ true
       → (round (lastOf x xs) ≡ 2 → number (branchCall s (flatten (x ∷ xs)) entry out) ≡ 10)
       × (round (lastOf x xs) ≡ 3 → ¬ (number (branchCall s (flatten (x ∷ xs)) entry out) ≡ 10))
-  -- open, then branch, blame and tick
+  -- open, then branch, blame, blames and tick
   pub item-7 : ((id f timeout T : ℕ) (rotation log masks entry out : List ℕ) → validSetup (fresh id f timeout T rotation) log ≡ true
       → validMasks (fresh id f timeout T rotation) masks ≡ true → isRotation (2 * f + 1) rotation ≡ true → 1024 ≤ length out
       → (length entry ≡ 400 → number (openCall id f timeout T rotation log masks entry out) ≡ 0)
       × (length entry ≡ 401 → number (openCall id f timeout T rotation log masks entry out) ≡ 5))
       × ((s : State) (bytes entry out : List ℕ) → Callable s out
       → (length entry ≡ 400 → (¬ (number (branchCall s bytes entry out) ≡ 5))
-      × (¬ (number (blameCall s bytes entry out) ≡ 5)) × (number (tickCall s entry out) ≡ 0))
+      × (¬ (number (blameCall s bytes entry out) ≡ 5)) × (¬ (number (blamesCall s bytes entry out) ≡ 5))
+      × (number (tickCall s entry out) ≡ 0))
       × (length entry ≡ 401 → (number (branchCall s bytes entry out) ≡ 5) × (number (blameCall s bytes entry out) ≡ 5)
-      × (number (tickCall s entry out) ≡ 5)))
+      × (number (blamesCall s bytes entry out) ≡ 5) × (number (tickCall s entry out) ≡ 5)))
   -- ticks on a state that has the whole timeout left
   pub item-8 : (s : State) (entry out entry′ out′ : List ℕ) → Callable s out → length entry ≤ 400 → length entry′ ≤ 400
       → 1024 ≤ length out′ → s .replica .timer ≡ s .replica .timeout

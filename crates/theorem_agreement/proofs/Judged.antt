@@ -1,15 +1,19 @@
--- Frames judged each by itself, 7 and 8: which numbers come, and what holds of frames that pass. Assumes nothing.
+-- Frames judged, each by itself or as a run: which numbers come, and what holds of frames that pass. Assumes nothing.
 use Prim.Native.Nat.{ℕ, _+_}
 use mathlib.Core.Path.{_≡_, refl, subst⁻¹}
 use mathlib.Core.Logic.{⊎-elim}
 use mathlib.Core.List.{List, [], _∷_}
-use mathlib.Core.Bool.{Bool, false, not}
+use mathlib.Core.Option.{Option}
+use mathlib.Core.Bool.{Bool, false}
 use lib.Dec.{eqb}
 use borrow.Author.Tests.{eqb-true, eqb-false}
+use Rattle.sha256.specs.Fips.{sha256}
 use Rattle.apollo.specs.declared.Verdict.{Verdict}
-use Rattle.apollo.specs.Frame.{checked}
+use Rattle.apollo.specs.declared.Setup.{Setup}
 use Rattle.apollo.specs.Judging.{fault, judgedEach}
-use Rattle.apollo.proofs.Fault.{Passes, fault-none}
+use Rattle.apollo.specs.BlockRun.{judgedRun}
+use Rattle.apollo.proofs.Fault.{Passes, fault-none, each-number}
+use Rattle.apollo.proofs.BlockRun.{run-number}
 use Rattle.theorem_agreement.specs.Run.{In}
 use Rattle.theorem_agreement.proofs.Tests.{by-cond}
 
@@ -17,18 +21,13 @@ use Rattle.theorem_agreement.proofs.Tests.{by-cond}
 abbrev pub Low : ℕ → Type 0
 Low k = (eqb k 2 ≡ false) × (eqb k 12 ≡ false) × (eqb k 6 ≡ false)
 
-module _ (hash : List ℕ → List ℕ) (form : List ℕ → Bool) where
-  pub fault-low : (x : List ℕ) → Low (fault hash form x)
-  unfolding fault
-  fault-low x =
-      by-cond Low (not (checked hash x)) (λ _. (refl, refl, refl))
-      (λ _. by-cond Low (not (form x)) (λ _. (refl, refl, refl)) (λ _. (refl, refl, refl)))
+-- a run of blocks
+pub run-low : (s : Setup) (k : ℕ) (p : Option (List ℕ)) (xs : List (List ℕ)) → Low (judgedRun sha256 s k p xs .number)
+run-low = run-number Low (refl, refl, refl) (refl, refl, refl) (refl, refl, refl) (refl, refl, refl)
 
+module _ (hash : List ℕ → List ℕ) (form : List ℕ → Bool) where
   pub each-low : (k : ℕ) (xs : List (List ℕ)) → Low (judgedEach hash form k xs .number)
-  unfolding judgedEach
-  each-low k [] = (refl, refl, refl)
-  each-low k (x ∷ xs) =
-      by-cond (λ (v : Verdict). Low (v .number)) (eqb (fault hash form x) 0) (λ _. each-low (k + 1) xs) (λ _. fault-low x)
+  each-low = each-number Low (refl, refl, refl) (refl, refl, refl) (refl, refl, refl) hash form
 
   pub each-none : (k : ℕ) (xs : List (List ℕ)) → judgedEach hash form k xs .number ≡ 0 → (x : List ℕ) → In x xs → Passes hash form x
   unfolding judgedEach
