@@ -320,8 +320,8 @@ apollo_answer apollo_blames(apollo_replica replica, uint8_t *log, size_t log_len
 apollo_answer apollo_tick(apollo_replica replica, uint8_t *log, size_t log_len, uint16_t *masks, size_t masks_len,
                           const uint8_t *entry, size_t entry_len, uint8_t *out, size_t out_len);
 
-/* Shows the entry at a committed height, 1 for the oldest, as a part of the log. It walks up from slot 1: 36 ns for the newest entry of
- * a full log with T = 64, 8 us with T = 4,096 (docs/PERFORMANCE.md). To go through a long list, read the slots.
+/* Shows the entry at a committed height, 1 for the oldest, as a part of the log. It walks up from slot 1: 53 ns for the newest entry of
+ * a full log with T = 64, 10 us with T = 4,096 (docs/PERFORMANCE.md). To go through a long list, read the slots.
  * Refuses 2, 15. */
 apollo_part apollo_read(apollo_replica replica, const uint8_t *log, size_t log_len, apollo_height height);
 
@@ -330,7 +330,7 @@ apollo_part apollo_read(apollo_replica replica, const uint8_t *log, size_t log_l
  * and the whole frames that out takes, out_len / 512. Later bytes of out are left as they are. A count below out_len / 512 says that
  * there are no more. Else go on from the height of the last frame copied, until it answers 15: if no call changed the card meanwhile,
  * that gives all, each once. It walks the log from the lowest slot until out is full: 0.8 us for all of 64 slots, 150 us for all of
- * 4,096, 3 us for 16 frames in the middle of 4,096.
+ * 4,096, 2.5 us for 16 frames in the middle of 4,096.
  * Refuses 2, 4, 15, in this order. */
 apollo_fetched apollo_fetch(apollo_replica replica, const uint8_t *log, size_t log_len, apollo_height height, uint8_t *out,
                             size_t out_len);
