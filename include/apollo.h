@@ -187,9 +187,9 @@ enum {
  * that round names no other signer. The calls judge every byte.
  *     0         kind: APOLLO_BLOCK or APOLLO_BLAME
  *     1         signer, a card's number
- *     2 to 3    in a block: length of the entry
- *     4 to 7    round
- *     8 to 11   in a block: height
+ *     2 to 3    in a block: length of the entry, 0 to 400
+ *     4 to 7    round, 1 to T
+ *     8 to 11   in a block: height, 1 to the round
  *     12 to 43  in a block: the parent's digest, zeros for none
  *     44 to 443 in a block: the entry, then zeros
  *     480 to 511 the frame's digest: SHA-256 of bytes 0 to 479 */
@@ -199,8 +199,9 @@ enum { APOLLO_BLOCK = 1, APOLLO_BLAME = 2 };
 typedef enum {
   APOLLO_TAKEN = 0,
   APOLLO_BAD_SETUP = 1,          /* "set-up": open: a number outside its range, or a log or masks of another length */
-  APOLLO_BAD_REPLICA = 2,        /* "record": the other calls: the same, or a field out of range, or a rotation that 17 refuses or that
-                                  * is not zero past n, or a mark at bit n or above; the record is no card's */
+  APOLLO_BAD_REPLICA = 2,        /* "record": the other calls: the same, or a field out of range, or R up to T that this card leads
+                                  * itself, or a rotation that 17 refuses or that is not zero past n, or a mark at bit n or above; the
+                                  * record is no card's */
   APOLLO_ROUNDS_OVER = 3,        /* "term over": branch, blame, blames, tick: every round has been passed */
   APOLLO_OUT_TOO_SHORT = 4,      /* "short tray": the out buffer has less than 1,024 bytes */
   APOLLO_ENTRY_TOO_LONG = 5,     /* "long entry": the entry has more than 400 bytes */
@@ -221,9 +222,9 @@ typedef enum {
 } apollo_number;
 
 /* 12 means that a premise of the agreement (docs/AGREEMENT.md) is broken: more than f cards failed in this term (one opened with another
- * f, T or rotation is one of them), a frame was forged, or a correct card blamed a correct one's round. Drop the branch, stop acting on
- * the list, and call for repair. Lists that have parted may also show as a card that stands still on 11 or 13, with no 12 at all:
- * compare lists. */
+ * f, T or rotation is one of them), a frame was forged, a correct card blamed a correct one's round, or two different frames share a
+ * digest. Drop the branch, stop acting on the list, and call for repair. Lists that have parted may also show as a card that stands
+ * still on 11 or 13, with no 12 at all: compare lists. */
 
 /* Three counters that must not be mixed up: each is a type of its own. */
 typedef struct { uint32_t value; } apollo_round;
