@@ -1,8 +1,9 @@
 -- Tests: what a choice is where its test is known, and equality of lists as a test. Assumes nothing.
 use Prim.Native.Nat.{ℕ, _≤_}
 use mathlib.Core.Path.{_≡_, refl, sym, subst, subst⁻¹}
+use mathlib.Core.Logic.{_⊎_, inl, inr}
 use mathlib.Core.List.{List, [], _∷_}
-use mathlib.Core.Bool.{Bool, true, false, _&&_, cond, true≢false}
+use mathlib.Core.Bool.{Bool, true, false, _&&_, _||_, cond, true≢false}
 use lib.Dec.{eqb, leb}
 use borrow.Author.Tests.{eq-eqb, eqb-true, leb-true, le-leb}
 use Rattle.apollo.specs.Bytes.{same, within}
@@ -34,6 +35,15 @@ and-no false = refl
 pub both : (a b : Bool) → a ≡ true → b ≡ true → (a && b) ≡ true
 both true b e d = d
 both false b e d = e
+
+-- one part of a disjunction that holds; both of one that does not
+pub or-true : (a b : Bool) → (a || b) ≡ true → (a ≡ true) ⊎ (b ≡ true)
+or-true true b e = inl refl
+or-true false b e = inr e
+
+pub or-false : (a b : Bool) → (a || b) ≡ false → (a ≡ false) × (b ≡ false)
+or-false true b e = absurd (true≢false e)
+or-false false b e = (refl, e)
 
 -- lo ≤ n ≤ hi, of its test, and back
 pub within-true : (lo n hi : ℕ) → within lo n hi ≡ true → (lo ≤ n) × (n ≤ hi)

@@ -17,6 +17,7 @@ pub mod Tick
 pub mod Read
 pub mod Fetch
 pub mod Equivocation
+pub mod Suspect
 pub mod Calls
 pub mod Single
 pub mod BenchSheet

@@ -87,6 +87,18 @@ module _ (T : ℕ) (passed : ℕ → Type 0) (known : ℕ → List ℕ → Type 
   pub rises : (s : ℕ → List ℕ) (a : ℕ) → Chain s a → (q r : ℕ) → q ≤ r → Held s q → Held s r → height (s q) ≤ height (s r)
   rises s a c q r l hq hr = rise-to s a c r r q (omega arith) l hq hr
 
+  -- and a filled slot is higher than every held one below it
+  pub climbs : (s : ℕ → List ℕ) (a : ℕ) → Chain s a → (k q : ℕ) → k < q → Held s k → filled (s q) ≡ true → height (s k) < height (s q)
+  climbs s a c k q l hk f = go (leb k (c .link q f .below)) refl
+    where
+      apart : Held s k → c .link q f .below < k → ⊥
+      apart (inl z) u = omega arith
+      apart (inr e) u = clash e (c .link q f .between k u l)
+
+      go : (x : Bool) → leb k (c .link q f .below) ≡ x → height (s k) < height (s q)
+      go true e = omega (arith, c .link q f .joins .rise, rises s a c k (c .link q f .below) (leb-true _ _ e) hk (c .link q f .held))
+      go false e = absurd (apart hk (leb-false _ _ e))
+
 pub chain-map : (T : ℕ) (p p′ : ℕ → Type 0) (k k′ : ℕ → List ℕ → Type 0) (s : ℕ → List ℕ) (a : ℕ) → ((q : ℕ) → p q → p′ q)
     → ((q : ℕ) (x : List ℕ) → k q x → k′ q x) → Chain T p k s a → Chain T p′ k′ s a
 chain-map T p p′ k k′ s a f g c =

@@ -1,7 +1,7 @@
--- Counting the numbers below n that pass a test. Assumes nothing.
+-- Counting the numbers below n that pass a test; a row of numbers of which one passes, or none. Assumes nothing.
 use Prim.Native.Nat.{ℕ, zero, suc, _+_, _≤_, _<_}
 use mathlib.Core.Path.{_≡_, refl, ap, _∙_}
-use mathlib.Core.Logic.{_≢_}
+use mathlib.Core.Logic.{_⊎_, inl, inr, _≢_}
 use mathlib.Core.Bool.{Bool, true, false, _&&_, not, cond}
 use native.Mathlib.Omega.{arith}
 use lib.Dec.{eqb}
@@ -115,3 +115,20 @@ spread (suc k) n g p low hit apart =
     spread k n g (without p (g k)) (λ i l. low i (omega arith))
     (λ i l. without-other p (g k) (g i) (apart i k l (omega arith)) ∙ hit i (omega arith)) (λ i j a b. apart i j a (omega arith)) in
     omega arith
+
+-- one of the k numbers from r on passes, or none does
+abbrev pub Row : (ℕ → Bool) → ℕ → ℕ → Type 0
+Row p r k = ((q : ℕ) × (r ≤ q) × (q < r + k) × (p q ≡ true)) ⊎ ((q : ℕ) → r ≤ q → q < r + k → p q ≡ false)
+
+row-step : (p : ℕ → Bool) (r k : ℕ) → Row p r k → (b : Bool) → p (r + k) ≡ b → Row p r (suc k)
+row-step p r k (inl h) b e = inl (h .0, h .1, omega (arith, h .2), h .3)
+row-step p r k (inr h) true e = inl (r + k, omega arith, omega arith, e)
+row-step p r k (inr h) false e = inr (λ q a l. last q a l (eqb q (r + k)) refl)
+  where
+    last : (q : ℕ) → r ≤ q → q < r + suc k → (b : Bool) → eqb q (r + k) ≡ b → p q ≡ false
+    last q a l true z = ap p (eqb-true _ _ z) ∙ e
+    last q a l false z = let ne : q ≢ r + k = eqb-false _ _ z in h q a (omega arith)
+
+pub row : (p : ℕ → Bool) (r k : ℕ) → Row p r k
+row p r zero = inr (λ q a l. absurd (omega arith))
+row p r (suc k) = row-step p r k (row p r k) (p (r + k)) refl

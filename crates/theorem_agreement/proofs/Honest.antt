@@ -1,4 +1,5 @@
--- The last lemma: two logs are the same up to a round that both have passed by f. Assumes the premises, as facts of the past.
+-- What honesty adds to the fork law: of f + 1 rounds in a row one is not suspect, so two logs are the same up to a round that both have
+-- passed by f. Assumes the premises, as facts of the past.
 use Prim.Native.Nat.{ℕ, suc, _+_, _-_, _*_, _≤_, _<_}
 use mathlib.Core.Path.{_≡_, refl, sym, ap, _∙_, subst}
 use mathlib.Core.Logic.{_⊎_, inl, inr, ⊎-elim}
@@ -9,18 +10,21 @@ use lib.Dec.{leb}
 use borrow.Author.Tests.{leb-true, leb-false}
 use Rattle.apollo.specs.declared.Setup.{Setup}
 use Rattle.apollo.specs.Setup.{replicas, leader, validRotation}
-use Rattle.apollo.specs.Frame.{kind, signer, round, digest}
-use Rattle.apollo.specs.Log.{genesis, slot, filled}
+use Rattle.apollo.specs.Frame.{kind, signer, round}
+use Rattle.apollo.specs.Log.{slot, filled}
 use Rattle.apollo.specs.Masks.{count, bit, mask, certified}
 use Rattle.apollo.specs.Enter.{State, commitLimit}
+use Rattle.apollo.specs.Suspect.{suspect}
 use Rattle.theorem_agreement.specs.Run.{Event, emitted, In, Seen}
+use Rattle.theorem_agreement.specs.Premises.{Distinct}
 use Rattle.theorem_agreement.proofs.Tests.{clash, either}
 use Rattle.apollo.proofs.Rotation.{leader-low}
 use Rattle.theorem_agreement.proofs.Leaders.{correct-mark, correct-round}
 use Rattle.theorem_agreement.proofs.Slots.{take-slots, highest-max}
-use Rattle.theorem_agreement.proofs.Chain.{filled-kind, within, agree}
+use Rattle.theorem_agreement.proofs.Chain.{filled-kind, within}
 use Rattle.theorem_agreement.proofs.Stored.{Fact, Linked}
 use Rattle.theorem_agreement.proofs.Adopt.{led-by}
+use Rattle.theorem_agreement.proofs.Fork.{Reason, blocks-differ, certified-first, certified-second, reason, fork, good-fork}
 use Rattle.theorem_agreement.proofs.Good.{Blamed, Renewed, committed-low, Good, good-certified, limit-low}
 use Rattle.theorem_agreement.proofs.Effects.{Tidy}
 use Rattle.theorem_agreement.proofs.Outcomes.{Reverts}
@@ -30,7 +34,7 @@ pub record Honest (s : Setup) (correct : ℕ → Bool) (past : List Event) : Typ
   pub mostly : count (replicas s) (λ i. not (correct i)) ≤ s .f
   pub authentic : (x : List ℕ) → Seen x past → signer x < replicas s → correct (signer x) ≡ true → In (emitted (signer x) x) past
   pub patient : (i : ℕ) (x : List ℕ) → correct i ≡ true → In (emitted i x) past → kind x ≡ 2 → correct (leader s (round x)) ≡ false
-  pub distinct : (x y : List ℕ) → (x ≡ genesis) ⊎ Seen x past → (y ≡ genesis) ⊎ Seen y past → digest x ≡ digest y → x ≡ y
+  pub distinct : Distinct past
   pub tidy : Tidy s past
 
 module _ (s : Setup) (correct : ℕ → Bool) (past : List Event) (h : Honest s correct past) where
@@ -47,10 +51,8 @@ module _ (s : Setup) (correct : ℕ → Bool) (past : List Event) (h : Honest s 
       ap (λ k. correct (leader s k)) (sym (b .4)) ∙ h .patient (signer (b .0)) (b .0) (ap correct (b .3) ∙ r .3) p (b .2)
 
   -- of each round below R: it is filled, or its leader is not correct
-  abbrev Passed : List ℕ → ℕ → Type 0
-  Passed log R = (q : ℕ) → 1 ≤ q → q < R → filled (slot log q) ≡ false → correct (leader s q) ≡ false
-
-  good-passed : (i : ℕ) (c : State) → Good s past i c → Passed (c .log) (c .replica .round .0)
+  good-passed : (i : ℕ) (c : State) → Good s past i c → (q : ℕ) → 1 ≤ q → q < c .replica .round .0 → filled (slot (c .log) q) ≡ false
+      → correct (leader s q) ≡ false
   good-passed i c g q o l e = certified-incorrect i c g q o (good-certified s past i c g q o l e)
 
   -- the block in a slot of a correct leader's round is one that it emitted
@@ -60,32 +62,28 @@ module _ (s : Setup) (correct : ℕ → Bool) (past : List Event) (h : Honest s 
       subst (λ k. In (emitted k x) past) by
       (h .authentic x (t .seen) (subst (λ k. k < replicas s) (sym by) (leader-low s v q)) (ap correct by ∙ ok))
 
-  -- two linked logs
-  module _ (v : validRotation s ≡ true) (m m′ a b : List ℕ) (t t′ R R′ : ℕ) (c : Linked s past m a t) (d : Linked s past m′ b t′)
-      (pa : Passed a R) (pb : Passed b R′) where
-    -- a round of a correct leader is filled in both, with the same block
-    same-led : (q : ℕ) → 1 ≤ q → q < R → q < R′ → correct (leader s q) ≡ true → (filled (slot a q) ≡ true) × (slot a q ≡ slot b q)
-    same-led q o la lb ok = go (either (filled (slot a q))) (either (filled (slot b q)))
-      where
-        go : (filled (slot a q) ≡ true) ⊎ (filled (slot a q) ≡ false) → (filled (slot b q) ≡ true) ⊎ (filled (slot b q) ≡ false)
-            → (filled (slot a q) ≡ true) × (slot a q ≡ slot b q)
-        go (inr e) z = absurd (clash ok (pa q o la e))
-        go (inl e) (inr g) = absurd (clash ok (pb q o lb g))
-        go (inl e) (inl g) = (
-          e,
-          h .tidy .once (leader s q) (slot a q) (slot b q) (leader-emitted v q (slot a q) (c .fact q e) ok)
-              (leader-emitted v q (slot b q) (d .fact q g) ok) (filled-kind (slot a q) e) (filled-kind (slot b q) g)
-              (c .fact q e .round-is ∙ sym (d .fact q g .round-is)),
-        )
+  -- the leader of each certified round is not correct
+  abbrev Warranted : List ℕ → Type 0
+  Warranted masks = (q : ℕ) → 1 ≤ q → certified s masks q ≡ true → correct (leader s q) ≡ false
 
-    -- one of the f + 1 rounds from k on is such a round
-    same-up-to : (k : ℕ) → 1 ≤ k → k + s .f < R → k + s .f < R′ → (q : ℕ) → q ≤ k → slot a q ≡ slot b q
-    same-up-to k one la lb q l =
-        let r : (n : ℕ) × (k ≤ n) × (n ≤ k + s .f) × (correct (leader s n) ≡ true) = correct-round s correct (h .mostly) v k one in
-        let e : (filled (slot a (r .0)) ≡ true) × (slot a (r .0) ≡ slot b (r .0)) =
-        same-led (r .0) (omega (arith, r .1)) (omega (arith, r .2)) (omega (arith, r .2)) (r .3) in
-        agree (s .«last_round» .0) (Fact s past) (λ x. Seen x past) (λ n x f. f .round-is) (λ n x f. f .seen) (h .distinct) _ _ (slot a) (slot b) t t′ c d
-        (r .0) (inr (e .0)) (inr (ap filled (sym (e .1)) ∙ e .0)) (e .1) q (omega (arith, r .1))
+  -- two linked logs with such masks
+  module _ (v : validRotation s ≡ true) (a m b n : List ℕ) (t u : ℕ) (c : Linked s past m a t) (d : Linked s past n b u) (ma : Warranted m)
+      (mb : Warranted n) where
+    -- a round of a correct leader is not suspect
+    led-clear : (q : ℕ) → 1 ≤ q → correct (leader s q) ≡ true → Reason s a m b n q → ⊥
+    led-clear q o ok (certified-first e) = clash ok (ma q o e)
+    led-clear q o ok (certified-second e) = clash ok (mb q o e)
+    led-clear q o ok (blocks-differ e g ne) =
+        ne
+        (h .tidy .once (leader s q) (slot a q) (slot b q) (leader-emitted v q (slot a q) (c .fact q e) ok)
+        (leader-emitted v q (slot b q) (d .fact q g) ok) (filled-kind (slot a q) e) (filled-kind (slot b q) g)
+        (c .fact q e .round-is ∙ sym (d .fact q g .round-is)))
+
+    -- and one of the f + 1 rounds from k on is such a round
+    no-run : (k : ℕ) → 1 ≤ k → ((r : ℕ) → k ≤ r → r ≤ k + s .f → suspect s a m b n r ≡ true) → ⊥
+    no-run k o all =
+        let r : (q : ℕ) × (k ≤ q) × (q ≤ k + s .f) × (correct (leader s q) ≡ true) = correct-round s correct (h .mostly) v k o in
+        led-clear (r .0) (omega (arith, r .1)) (r .3) (reason s a m b n (r .0) (all (r .0) (r .1) (r .2)))
 
   -- two replicas hold the same frames up to the round that the one with the lower R may commit
   pub same-limit : (i j : ℕ) (c d : State) → Good s past i c → Good s past j d → c .replica .round .0 ≤ d .replica .round .0 → (q : ℕ)
@@ -93,8 +91,10 @@ module _ (s : Setup) (correct : ℕ → Bool) (past : List Event) (h : Honest s 
   same-limit i j c d g k l q o m =
       let n : ℕ = commitLimit (c .replica) in
       let low : n + s .f < c .replica .round .0 = limit-low s past i c g n (omega arith) (omega arith) in
-      same-up-to (g .fixed .turns) (c .masks) (d .masks) (c .log) (d .log) _ _ _ _ (g .stored .chain) (k .stored .chain) (good-passed i c g) (good-passed j d k) n
-      (omega arith) low (omega (arith, low)) q m
+      ⊎-elim (λ same. same q m)
+      (λ all. absurd (no-run (g .fixed .turns) (c .log) (c .masks) (d .log) (d .masks) _ _ (g .stored .chain) (k .stored .chain)
+      (certified-incorrect i c g) (certified-incorrect j d k) n (omega arith) all))
+      (good-fork s past (h .distinct) i j c d g k n (omega arith) low (omega (arith, low)))
 
   -- one of the f + 1 rounds up to the limit of commit is filled
   pub committed-near : (i : ℕ) (c : State) → Good s past i c → Renewed (c .replica) (c .log)
@@ -134,9 +134,12 @@ module _ (s : Setup) (correct : ℕ → Bool) (past : List Event) (h : Honest s 
 
       same : (q : ℕ) → 1 ≤ q → q ≤ n → slot (r .log) q ≡ slot (c .log) q
       same q o m =
-          same-up-to (g .fixed .turns) (c .masks) (c .masks) (r .log) (c .log) _ _ (suc (r .tip)) _ (r .stored .chain) (g .stored .chain)
-          (λ k a b e. certified-incorrect i c g k a (r .stored .chain .skip k a (omega arith) e)) (good-passed i c g) n (omega arith)
-          (omega (arith, low (omega arith), r .beyond)) (low (omega arith)) q m
+          ⊎-elim (λ same. same q m)
+          (λ all. absurd (no-run (g .fixed .turns) (r .log) (c .masks) (c .log) (c .masks) _ _ (r .stored .chain) (g .stored .chain)
+          (certified-incorrect i c g) (certified-incorrect i c g) n (omega arith) all))
+          (fork s (r .log) (c .masks) (c .log) (c .masks) past (h .distinct) _ _ (suc (r .tip)) _ (r .stored .chain) (g .stored .chain)
+          (λ k a b e. r .stored .chain .skip k a (omega arith) e) (good-certified s past i c g) n (omega arith)
+          (omega (arith, low (omega arith), r .beyond)) (low (omega arith)))
 
   -- a block of a correct replica stands wherever its round is passed
   pub emitted-stands : (i j : ℕ) (x : List ℕ) (c : State) (q : ℕ) → Good s past j c → correct i ≡ true → In (emitted i x) past → kind x ≡ 1

@@ -1,20 +1,20 @@
 -- n rounds in a row have different leaders, whatever the rotation; so where at most f replicas are not correct, one of f + 1 rounds in
 -- a row has a correct one. Assumes nothing.
-use Prim.Native.Nat.{ℕ, zero, suc, _+_, _-_, _/_, _%_, _≤_, _<_}
+use Prim.Native.Nat.{ℕ, suc, _+_, _-_, _/_, _%_, _≤_, _<_}
 use mathlib.Core.Path.{_≡_, refl, sym, ap, _∙_}
-use mathlib.Core.Logic.{_⊎_, inl, inr, _≢_}
+use mathlib.Core.Logic.{inl, inr, _≢_}
 use mathlib.Core.Bool.{Bool, true, false, not}
 use native.Mathlib.Nat.{div-add-mod', mod-lt, mul-le-mul-right, suc-mul}
 use native.Mathlib.Omega.{arith}
-use lib.Dec.{eqb, leb, ltb}
+use lib.Dec.{leb, ltb}
 use lib.ListN.{getD}
-use borrow.Author.Tests.{eqb-true, eqb-false, leb-true, leb-false, ltb-true, ltb-false, not-false}
+use borrow.Author.Tests.{leb-true, leb-false, ltb-true, ltb-false, not-false}
 use Rattle.apollo.specs.declared.Setup.{Setup}
 use Rattle.apollo.specs.Setup.{replicas, leader, validRotation}
 use Rattle.apollo.specs.Masks.{count}
 use Rattle.apollo.proofs.Rotation.{seats-differ, seated, seat, leader-low}
 use Rattle.theorem_agreement.specs.Claim.{LeadersDiffer}
-use Rattle.theorem_agreement.proofs.Counts.{more, spread}
+use Rattle.theorem_agreement.proofs.Counts.{more, spread, Row, row}
 
 -- two of n rounds in a row have different seats
 apart-mod : (n a d : ℕ) → 0 < d → d < n → a % n ≢ (a + d) % n
@@ -53,25 +53,6 @@ leaders-differ s v r q one lt near =
     (λ e. apart-mod (replicas s) (r - 1) (q - r) (omega arith) (omega arith) (e ∙ ap (λ k. k % replicas s) (omega arith)))
     (mod-lt (r - 1) (omega arith)) (mod-lt (q - 1) (omega arith))
 
--- the first round of k from r on that passes, or none does
-Row : (ℕ → Bool) → ℕ → ℕ → Type 0
-Row p r k = ((i : ℕ) × (i < k) × (p (r + i) ≡ true)) ⊎ ((i : ℕ) → i < k → p (r + i) ≡ false)
-
-row-step : (p : ℕ → Bool) (r k : ℕ) → Row p r k → (b : Bool) → p (r + k) ≡ b → Row p r (suc k)
-unfolding Row
-row-step p r k (inl h) b e = inl (h .0, omega (arith, h .1), h .2)
-row-step p r k (inr h) true e = inl (k, omega arith, e)
-row-step p r k (inr h) false e = inr (λ i l. last i l (eqb i k) refl)
-  where
-    last : (i : ℕ) → i < suc k → (b : Bool) → eqb i k ≡ b → p (r + i) ≡ false
-    last i l true q = ap (λ j. p (r + j)) (eqb-true _ _ q) ∙ e
-    last i l false q = let ne : i ≢ k = eqb-false _ _ q in h i (omega arith)
-
-row : (p : ℕ → Bool) (r k : ℕ) → Row p r k
-unfolding Row
-row p r zero = inr (λ i l. absurd (omega arith))
-row p r (suc k) = row-step p r k (row p r k) (p (r + k)) refl
-
 module _ (s : Setup) (correct : ℕ → Bool) (mostly : count (replicas s) (λ i. not (correct i)) ≤ s .f) where
   -- more than f marks among the n replicas: a correct one has one
   pub correct-mark : (p : ℕ → Bool) → s .f + 1 ≤ count (replicas s) p
@@ -83,14 +64,14 @@ module _ (s : Setup) (correct : ℕ → Bool) (mostly : count (replicas s) (λ i
 
   -- of the f + 1 rounds from r on one has a correct leader
   pub correct-round : validRotation s ≡ true → (r : ℕ) → 1 ≤ r → (q : ℕ) × (r ≤ q) × (q ≤ r + s .f) × (correct (leader s q) ≡ true)
-  unfolding Row
   correct-round v r one = go (row (λ q. correct (leader s q)) r (suc (s .f)))
     where
-      others : ((i : ℕ) → i < suc (s .f) → correct (leader s (r + i)) ≡ false) → suc (s .f) ≤ count (replicas s) (λ i. not (correct i))
+      others : ((q : ℕ) → r ≤ q → q < r + suc (s .f) → correct (leader s q) ≡ false) → suc (s .f) ≤ count (replicas s) (λ i. not (correct i))
       others h =
           spread (suc (s .f)) (replicas s) (λ i. leader s (r + i)) (λ i. not (correct i)) (λ i l. leader-low s v (r + i))
-          (λ i l. ap not (h i l)) (λ i j a b. leaders-differ s v (r + i) (r + j) (omega arith) (omega arith) (omega arith))
+          (λ i l. ap not (h (r + i) (omega arith) (omega arith)))
+          (λ i j a b. leaders-differ s v (r + i) (r + j) (omega arith) (omega arith) (omega arith))
 
       go : Row (λ q. correct (leader s q)) r (suc (s .f)) → (q : ℕ) × (r ≤ q) × (q ≤ r + s .f) × (correct (leader s q) ≡ true)
-      go (inl h) = (r + h .0, omega arith, omega (arith, h .1), h .2)
+      go (inl h) = (h .0, h .1, omega (arith, h .2), h .3)
       go (inr h) = absurd (omega (arith, others h))

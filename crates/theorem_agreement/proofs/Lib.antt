@@ -20,6 +20,7 @@ pub mod Branch
 pub mod Equivocation
 pub mod Open
 pub mod World
+pub mod Fork
 pub mod Honest
 pub mod Agreement
 pub mod Cut

@@ -14,7 +14,7 @@ use Rattle.apollo.specs.Masks.{count}
 use Rattle.apollo.specs.Log.{genesis}
 use Rattle.apollo.specs.Enter.{State}
 use Rattle.apollo.specs.Calls.{openCall}
-use Rattle.theorem_agreement.specs.Run.{Call, opening, act, emitted, In, Seen, World, start, framesIn, step, run}
+use Rattle.theorem_agreement.specs.Run.{Call, opening, act, Event, emitted, In, Seen, World, start, framesIn, step, run}
 
 -- P holds of each call, in the world before it
 abbrev pub Each : (World → ℕ → Call → Type 0) → World → List (ℕ × Call) → Type 0
@@ -22,9 +22,8 @@ Each P w [] = Unit {0}
 Each P w (e ∷ es) = P w (e .0) (e .1) × Each P (step w (e .0) (e .1)) es
 
 -- no two different frames share a digest (name), among all that were "put out", all "handed in with a right check", and the genesis
-abbrev pub Distinct : World → Type 0
-Distinct w =
-    (x y : List ℕ) → (x ≡ genesis) ⊎ Seen x (w .past) → (y ≡ genesis) ⊎ Seen y (w .past) → digest x ≡ digest y → x ≡ y
+abbrev pub Distinct : List Event → Type 0
+Distinct past = (x y : List ℕ) → (x ≡ genesis) ⊎ Seen x past → (y ≡ genesis) ⊎ Seen y past → digest x ≡ digest y → x ≡ y
 
 -- s is the set-up that all replicas share
 module _ (s : Setup) where
@@ -62,5 +61,5 @@ pub record Premises (s : Setup) (correct : ℕ → Bool) (calls : List (ℕ × C
   pub lawful : Each (Lawful s) start calls
   pub mostly : Mostly s correct
   pub unforged : Each (Unforged s correct) start calls
-  pub distinct : Distinct (run start calls)
+  pub distinct : Distinct (run start calls .past)
   pub patient : Patient s correct (run start calls)

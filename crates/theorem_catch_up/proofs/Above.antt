@@ -15,7 +15,7 @@ use Rattle.apollo.proofs.Fetch.{above-append}
 use Rattle.theorem_agreement.specs.Run.{In}
 use Rattle.theorem_agreement.proofs.Tests.{clash, either, by-cond, cond-true, cond-false}
 use Rattle.theorem_agreement.proofs.Frames.{height-genesis}
-use Rattle.theorem_agreement.proofs.Chain.{Held, Link, Chain, rises}
+use Rattle.theorem_agreement.proofs.Chain.{Held, Link, Chain, climbs}
 
 -- the filled slots of the m rounds above lo
 unfoldable pub segment : (log : List ℕ) (lo m : ℕ) → List (List ℕ)
@@ -143,19 +143,6 @@ module _ (T : ℕ) (passed : ℕ → Type 0) (known : ℕ → List ℕ → Type 
       go false ex y ey = absurd (apart hk (leb-false _ _ ex))
       go true ex false ey = absurd (apart-too (m .held) (leb-false _ _ ey))
 
-  -- heights rise from a held slot to a filled one above it
-  pub climbs : (k q : ℕ) → k < q → Held (slot log) k → filled (slot log q) ≡ true → height (slot log k) < height (slot log q)
-  climbs k q l hk f = go (leb k (c .link q f .below)) refl
-    where
-      apart : Held (slot log) k → c .link q f .below < k → ⊥
-      apart (inl z) u = omega arith
-      apart (inr e) u = clash e (c .link q f .between k u l)
-
-      go : (x : Bool) → leb k (c .link q f .below) ≡ x → height (slot log k) < height (slot log q)
-      go true e =
-          omega (arith, c .link q f .joins .rise, rises T passed known (slot log) a c k (c .link q f .below) (leb-true _ _ e) hk (c .link q f .held))
-      go false e = absurd (apart hk (leb-false _ _ e))
-
   -- the frames above h of the chain up to round n
   pub record Cut (h n : ℕ) : Type 0 where
     pub from : ℕ
@@ -208,7 +195,7 @@ module _ (T : ℕ) (passed : ℕ → Type 0) (known : ℕ → List ℕ → Type 
           is =
               above-step h log n
               ∙ ap₂ (λ (us vs : List (List ℕ)). us ++ vs)
-              (none-above h log n (λ q o l e. omega (arith, climbs q (suc n) (omega arith) (inr e) f))) (lone-low h log (suc n) low);
+              (none-above h log n (λ q o l e. omega (arith, climbs T passed known (slot log) a c q (suc n) (omega arith) (inr e) f))) (lone-low h log (suc n) low);
         }
 
     cut-next : (filled (slot log (suc n)) ≡ true) ⊎ (filled (slot log (suc n)) ≡ false) → Cut h (suc n)
@@ -241,7 +228,7 @@ module _ (T : ℕ) (passed : ℕ → Type 0) (known : ℕ → List ℕ → Type 
     where
       higher : Held (slot log) (p .from) → k < p .from → ⊥
       higher (inl z) u = omega arith
-      higher (inr f) u = omega (arith, climbs k (p .from) u hk f, p .under)
+      higher (inr f) u = omega (arith, climbs T passed known (slot log) a c k (p .from) u hk f, p .under)
 
       lower : Held (slot log) k → p .from < k → ⊥
       lower (inl z) u = omega arith

@@ -29,14 +29,14 @@ use Rattle.theorem_agreement.specs.Run.{Call, Event, In, start, run}
 use Rattle.theorem_agreement.specs.Premises.{Each, Lawful}
 use Rattle.theorem_agreement.proofs.Tests.{either, and-true, same-of, by-cond, cond-true, cond-false}
 use Rattle.theorem_agreement.proofs.Slots.{length-clear, clear-low, take-slots}
-use Rattle.theorem_agreement.proofs.Chain.{Held, within}
+use Rattle.theorem_agreement.proofs.Chain.{Held, within, climbs}
 use Rattle.theorem_agreement.proofs.Extend.{held-same}
 use Rattle.theorem_agreement.proofs.Good.{Good, Rested, committed-held, setup-is}
 use Rattle.theorem_agreement.proofs.Adopt.{linked-joins}
 use Rattle.theorem_agreement.proofs.World.{start-inv, run-inv}
 use Rattle.theorem_agreement.proofs.Agreement.{same-committed, never-invalid}
 use Rattle.theorem_catch_up.specs.CatchUp.{verdictOf, lacking, received, Shared, GoodRun, Continues, Common, CatchUp}
-use Rattle.theorem_catch_up.proofs.Above.{Cut, cut, cut-from, climbs, segment, segment-in, segment-length}
+use Rattle.theorem_catch_up.proofs.Above.{Cut, cut, cut-from, segment, segment-in, segment-length}
 use Rattle.theorem_catch_up.proofs.Run.{last-in, in-front, Follows, follows-blocks, follows-front, child-parts, stored-low, held-round, follows}
 
 -- a branch attaches to round k and keeps what is committed
@@ -216,7 +216,7 @@ module _ (s : Setup) (calls : List (ℕ × Call)) (l : Each (Lawful s) start cal
             let t = and-true (filled (slot (c .log) q)) (linked (slot (c .log) q) x) e in
             absurd (omega (
               arith,
-              climbs (s .«last_round» .0) _ _ (c .log) (c .replica .«tip_round» .0) (gc .stored .chain) k q u (sh .held) (t .0),
+              climbs (s .«last_round» .0) _ _ (slot (c .log)) (c .replica .«tip_round» .0) (gc .stored .chain) k q u (sh .held) (t .0),
               linked-joins (slot (c .log) q) x (t .1) .rise,
               linked-joins (slot (c .log) k) x (on .0) .rise,
             ))

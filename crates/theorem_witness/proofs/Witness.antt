@@ -307,7 +307,7 @@ pick-is x p = of-any p
     of-any (inl e) = at genesis (picked .none) e
     of-any (inr q) = of (seen x q)
 
-distinct : Distinct (run start calls)
+distinct : Distinct (run start calls .past)
 distinct x y p q e = pick-is x p ∙ ap pick e ∙ sym (pick-is y q)
 
 pub premises : Premises setup correct calls
