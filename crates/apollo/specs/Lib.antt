@@ -6,6 +6,7 @@ pub mod Log
 pub mod Masks
 pub mod Replica
 pub mod Enter
+pub mod Committed
 pub mod Refusal
 pub mod Judging
 pub mod BlockRun

@@ -14,11 +14,12 @@ use Rattle.apollo.specs.Setup.{replicas}
 use Rattle.apollo.specs.Frame.{signer, checked}
 use Rattle.apollo.specs.Log.{genesis, slot, chain}
 use Rattle.apollo.specs.Enter.{State, commitLimit}
+use Rattle.apollo.specs.Committed.{committed, Begins}
 use Rattle.apollo.specs.Outcome.{Outcome}
 use Rattle.theorem_agreement.specs.Run.{Call, opening, act, handed, emitted, In, Seen, World, start, framesIn, hand, after, opened, answer, callAt, step, run}
 use Rattle.apollo.specs.Calls.{openCall}
 use Rattle.theorem_agreement.specs.Premises.{Each, Lawful, Unforged, Premises}
-use Rattle.theorem_agreement.specs.Claim.{committed, Begins, Agreement, Beginnings, ByRound, Near, NeverInvalid, OnlyGrows}
+use Rattle.theorem_agreement.specs.Claim.{Agreement, Beginnings, ByRound, Near, NeverInvalid, OnlyGrows}
 use Rattle.theorem_agreement.proofs.Tests.{and-true, by-cond}
 use Rattle.theorem_agreement.proofs.Slots.{chain-slots, chain-more, highest-le, highest-grows}
 use Rattle.theorem_agreement.proofs.Past.{Grows, seen-grows, hand-grows, Given, hand-back}

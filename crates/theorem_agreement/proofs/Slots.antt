@@ -10,7 +10,7 @@ use lib.Dec.{leb}
 use borrow.Author.Tests.{leb-true, leb-false}
 use Rattle.apollo.specs.Bytes.{part, zeros}
 use Rattle.apollo.specs.Log.{genesis, slot, filled, highest, chain}
-use Rattle.theorem_agreement.specs.Claim.{Begins}
+use Rattle.apollo.specs.Committed.{Begins}
 use Rattle.theorem_agreement.proofs.Tests.{clash, by-cond}
 pub use Rattle.apollo.proofs.Slots.{length-zeros, part-left, part-right, part-take, part-drop, part-zeros, length-store, store-same, store-other, length-clear, clear-low, clear-high, take-slots}
 

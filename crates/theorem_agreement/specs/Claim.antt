@@ -8,20 +8,13 @@ use mathlib.Core.Bool.{Bool, true}
 use Rattle.apollo.specs.declared.Setup.{Setup}
 use Rattle.apollo.specs.Setup.{replicas, leader, validRotation}
 use Rattle.apollo.specs.Frame.{kind, round}
-use Rattle.apollo.specs.Log.{slot, filled, chain}
+use Rattle.apollo.specs.Log.{slot, filled}
 use Rattle.apollo.specs.Replica.{validReplica, validMasks}
 use Rattle.apollo.specs.Enter.{State}
+use Rattle.apollo.specs.Committed.{committed, Begins}
 use Rattle.apollo.specs.Refusal.{badReplica, badLength, revertsCommitted}
 use Rattle.theorem_agreement.specs.Run.{Act, Call, emitted, answered, In, World, start, framesIn, answer, run}
 use Rattle.theorem_agreement.specs.Premises.{Each, Lawful, Premises}
-
--- a replica's "committed list": the frames of its chain up to the committed round
-unfoldable pub committed : State → List (List ℕ)
-committed c = chain (c .log) (c .replica .«committed_round» .0)
-
--- one list of frames "begins" another, byte for byte
-abbrev pub Begins : List (List ℕ) → List (List ℕ) → Type 0
-Begins xs ys = (zs : List (List ℕ)) × (ys ≡ xs ++ zs)
 
 -- the claim, of the world that the list leaves
 pub record Agreed (correct : ℕ → Bool) (w : World) : Type 0 where

@@ -18,10 +18,11 @@ use Rattle.apollo.specs.Frame.{kind, signer, round, digest}
 use Rattle.apollo.specs.Log.{genesis, chain}
 use Rattle.apollo.specs.Masks.{count}
 use Rattle.apollo.specs.Enter.{State}
+use Rattle.apollo.specs.Committed.{committed}
 use Rattle.apollo.specs.Calls.{blamesCall}
 use Rattle.theorem_agreement.specs.Run.{Act, branch, blame, blames, tick, equivocation, Call, opening, act, Event, handed, emitted, answered, In, Seen, World, start, uncut, framesIn, emit, stateOf, answer, run}
 use Rattle.theorem_agreement.specs.Premises.{Mostly, Patient, Distinct, Premises}
-use Rattle.theorem_agreement.specs.Claim.{committed, Agreed}
+use Rattle.theorem_agreement.specs.Claim.{Agreed}
 use Rattle.theorem_agreement.proofs.Agreement.{agreement, beginnings}
 use Rattle.theorem_witness.proofs.Frames.{d1, d2, d3, d4, e0, e2, b1, b2, b2′, b3, b4, m0, m2, checked1, checked2, checked2′, checked3, checked4, checked-m0, checked-m2}
 use Rattle.theorem_witness.proofs.Answers.{out, rotation, log0, all, opened-1, opened-2, opened-0, first-0, blaming-2, heard-0, skipped-0, skipped-2, last-2, last-0, marked-0, open-1, open-2, open-0, take-1, tick-2, hear-2, tick-0, hear-set, take-3, take-4, mark-1}
