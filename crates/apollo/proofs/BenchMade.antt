@@ -20,12 +20,12 @@ use Rattle.apollo.specs.Log.{genesis, slot, filled, store, clearAbove, a
 use Rattle.apollo.specs.Masks.{bit, mask, addBlame}
 use Rattle.apollo.specs.Replica.{fresh, leads, validNumbers, validSetup, withCommitted}
 use Rattle.apollo.specs.Enter.{State, Effect, commitLimit, commit, tipped, hearing, holding, entered, ownBlock, proposing, enterRound, settle}
-use Rattle.apollo.specs.Outcome.{taken}
+use Rattle.apollo.specs.Outcome.{taken, stateOf}
 use Rattle.apollo.specs.BlockRun.{lastOf, block}
 use Rattle.apollo.specs.Branch.{firstUncertified, storeAll, grown, adopting, placed}
 use Rattle.apollo.specs.Single.{oneBlame}
 use Rattle.apollo.specs.Calls.{openCall, branchCall, blameCall}
-use Rattle.apollo.specs.BenchSheet.{turn, after, Callable}
+use Rattle.apollo.specs.BenchSheet.{turn, Callable}
 use Rattle.apollo.proofs.Single.{blame-one}
 use Rattle.apollo.proofs.Tests.{both, cond-true, cond-false, same-of}
 use Rattle.apollo.proofs.Rotation.{turn-rotation, padded-valid, turn-seat}
@@ -283,13 +283,13 @@ unfolding slot blk
 no-blocks = record { size = length-zeros 3072; slots = λ k l. let z : k ≡ 0 = omega arith in rw z refl }
 
 unfoldable pub opening : (id : ℕ) → State
-opening id = after (openCall id 1 2 6 (turn 1) (zeros 3072) (zeros 6) [] out)
+opening id = stateOf (openCall id 1 2 6 (turn 1) (zeros 3072) (zeros 6) [] out)
 
 opened : (id : ℕ) → validSetup (fresh id 1 2 6 (turn 1)) (zeros 3072) ≡ true
     → opening id ≡ enterRound sha256 [] (state id 0 (zeros 3072) (zeros 6)) .state
 unfolding opening out taken fresh
 opened id valid =
-    ap after (open-fits id 1 2 6 (turn 1) (zeros 3072) (zeros 6) [] (zeros 1024) valid (unfold zeros in refl) (turn-rotation 3)
+    ap stateOf (open-fits id 1 2 6 (turn 1) (zeros 3072) (zeros 6) [] (zeros 1024) valid (unfold zeros in refl) (turn-rotation 3)
     (omega (arith, length-zeros 1024)) (omega arith))
 
 pub opening-0 : Made (opening 0) 0 1 (zeros 6)
@@ -377,16 +377,16 @@ module _ (s : State) (id n : ℕ) (masks : List ℕ) (made : Made s id n masks) 
   abbrev there : State
   there = entering id (n + 1) (n - 1) (new id n (made .log) masks l (made .holds) here-callable) masks
 
-  branch-left : after (branchCall s (blk (n + 1)) [] out) ≡ enterRound sha256 [] there .state
+  branch-left : stateOf (branchCall s (blk (n + 1)) [] out) ≡ enterRound sha256 [] there .state
   unfolding taken
   branch-left =
-      ap (λ u. after (branchCall u (blk (n + 1)) [] out)) (made .is)
-      ∙ ap after (taken-x id n (made .log) masks l (made .holds) here-callable)
+      ap (λ u. stateOf (branchCall u (blk (n + 1)) [] out)) (made .is)
+      ∙ ap stateOf (taken-x id n (made .log) masks l (made .holds) here-callable)
 
   taken-holds : Holds (there .log) (n + 1)
   taken-holds = new-holds id n (made .log) masks l (made .holds) here-callable
 
-  pub branch-waits : leads (record-of id (n + 1)) ≡ false → Made (after (branchCall s (blk (n + 1)) [] out)) id (n + 1) masks
+  pub branch-waits : leads (record-of id (n + 1)) ≡ false → Made (stateOf (branchCall s (blk (n + 1)) [] out)) id (n + 1) masks
   branch-waits e =
       record {
         log = there .log;
@@ -395,7 +395,7 @@ module _ (s : State) (id n : ℕ) (masks : List ℕ) (made : Made s id n masks) 
       }
 
   pub branch-leads : id ≡ (n + 1) % 3 → leads (record-of id (n + 1)) ≡ true
-      → Made (after (branchCall s (blk (n + 1)) [] out)) id (n + 1 + 1) masks
+      → Made (stateOf (branchCall s (blk (n + 1)) [] out)) id (n + 1 + 1) masks
   branch-leads led e =
       let m : Made (enterRound sha256 [] there .state) id (n + 1 + 1) masks =
       entered-leads id (n + 1) (n - 1) (there .log) masks (omega arith) taken-holds led e in
@@ -416,11 +416,11 @@ module _ (s : State) (id n : ℕ) (masks : List ℕ) (made : Made s id n masks) 
     heard-y =
         hears-at here-callable [] (omega arith) j r signs one (omega arith) fresh-bit ∙ ap (λ m. taken m out) settled
 
-    pub hears : Made (after (blameCall s y [] out)) id n (addBlame masks r j)
+    pub hears : Made (stateOf (blameCall s y [] out)) id n (addBlame masks r j)
     unfolding taken hearing
     hears =
         record {
           log = made .log;
-          is = ap (λ u. after (blameCall u y [] out)) (made .is) ∙ ap after heard-y;
+          is = ap (λ u. stateOf (blameCall u y [] out)) (made .is) ∙ ap stateOf heard-y;
           holds = made .holds;
         }

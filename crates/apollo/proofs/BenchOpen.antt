@@ -19,11 +19,11 @@ use Rattle.apollo.specs.Frame.{round, height, digest, sealed, blockHead,
 use Rattle.apollo.specs.Log.{slot, genesis, store, highest}
 use Rattle.apollo.specs.Replica.{fresh, zeroReplica, leads, validSetup, validReplica, validMasks}
 use Rattle.apollo.specs.Enter.{State, Effect, commitLimit, commit, tipped, holding, entered, ownBlock, proposing, enterRound}
-use Rattle.apollo.specs.Outcome.{Outcome, refused, taken, guarded}
+use Rattle.apollo.specs.Outcome.{Outcome, refused, taken, guarded, stateOf}
 use Rattle.apollo.specs.Open.{openWith}
 use Rattle.apollo.specs.Tick.{tickWith}
 use Rattle.apollo.specs.Calls.{openCall, tickCall}
-use Rattle.apollo.specs.BenchSheet.{turn, after, number, newRound}
+use Rattle.apollo.specs.BenchSheet.{turn, number, newRound}
 use Rattle.apollo.specs.BlockRun.{block}
 use Rattle.apollo.proofs.Tests.{both, cond-true, cond-false}
 use Rattle.apollo.proofs.Rotation.{turn-rotation, turn-seat, padded-valid}
@@ -178,7 +178,7 @@ module _ (f timeout : ℕ) (log masks entry out : List ℕ) (valid : validSetup 
       unfold new left entered proposing holding tipped commit fresh in refl in
       cond-false _ _ v ∙ cond-true _ _ over
 
-  pub then-over : (entry′ out′ : List ℕ) → number (tickCall (after (openCall 0 f timeout 1 (turn f) log masks entry out)) entry′ out′) ≡ 3
+  pub then-over : (entry′ out′ : List ℕ) → number (tickCall (stateOf (openCall 0 f timeout 1 (turn f) log masks entry out)) entry′ out′) ≡ 3
   unfolding taken refused
   then-over entry′ out′ =
-      ap (λ (o : Outcome). number (tickCall (after o) entry′ out′)) proposes ∙ ap number (left-over entry′ out′)
+      ap (λ (o : Outcome). number (tickCall (stateOf o) entry′ out′)) proposes ∙ ap number (left-over entry′ out′)

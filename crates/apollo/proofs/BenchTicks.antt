@@ -16,10 +16,10 @@ use Rattle.apollo.specs.Replica.{leads, withRound, withTimer}
 use Rattle.apollo.specs.Log.{slot, filled, store}
 use Rattle.apollo.specs.Masks.{addBlame, certified}
 use Rattle.apollo.specs.Enter.{State, Effect, tipped, waiting, hearing, holding, entered, ownBlock, proposing, enterRound, settle}
-use Rattle.apollo.specs.Outcome.{Outcome, taken}
+use Rattle.apollo.specs.Outcome.{Outcome, taken, stateOf}
 use Rattle.apollo.specs.Tick.{blaming, ticked, tickWith}
 use Rattle.apollo.specs.Calls.{tickCall}
-use Rattle.apollo.specs.BenchSheet.{Callable, Blames, Item3, after, number, newCommitted}
+use Rattle.apollo.specs.BenchSheet.{Callable, Blames, Item3, number, newCommitted}
 use Rattle.apollo.proofs.Tests.{and-first, both, by-cond, cond-true, cond-false}
 use Rattle.apollo.proofs.Validity.{ValidSetup, Valid, valid, valid-of}
 use Rattle.apollo.proofs.Judging.{passes}
@@ -116,7 +116,7 @@ lower {s} c out′ room n l =
 pub second-blames : {s : State} {out : List ℕ} → Callable s out → (entry : List ℕ) → length entry ≤ 400 → (entry′ out′ : List ℕ)
     → length entry′ ≤ 400 → 1024 ≤ length out′ → s .replica .timer ≡ s .replica .timeout → s .replica .timeout .0 ≡ 2
     → (number (tickCall s entry out) ≡ 0) × (tickCall s entry out .answer .frames ≡ 0)
-    × Blames (setupOf (s .replica)) (tickCall (after (tickCall s entry out)) entry′ out′) (s .replica .id) (s .replica .round .0)
+    × Blames (setupOf (s .replica)) (tickCall (stateOf (tickCall s entry out)) entry′ out′) (s .replica .id) (s .replica .round .0)
 unfolding taken waiting
 second-blames {s} {out} c entry l entry′ out′ l′ room full e =
     let t : s .replica .timer .0 ≡ s .replica .timeout .0 = ap (λ (t : Ticks). t .0) full in
@@ -129,7 +129,7 @@ second-blames {s} {out} c entry l entry′ out′ l′ room full e =
     rw second (blames d entry′ l′) in (
       ap number first,
       ap (λ (o : Outcome). o .answer .frames) first,
-      subst (λ (o : Outcome). Blames (setupOf (s .replica)) (tickCall (after o) entry′ out′) (s .replica .id) (s .replica .round .0)) (sym first) blamed,
+      subst (λ (o : Outcome). Blames (setupOf (s .replica)) (tickCall (stateOf o) entry′ out′) (s .replica .id) (s .replica .round .0)) (sym first) blamed,
     )
 
 -- entering round 5 above chain 1, 3 commits round 3, with an own block in round 5 or without

@@ -19,9 +19,10 @@ use Rattle.apollo.specs.Log.{slot, filled}
 use Rattle.apollo.specs.Masks.{bit, setBit, mask, addBlame}
 use Rattle.apollo.specs.Replica.{leads}
 use Rattle.apollo.specs.Enter.{State}
+use Rattle.apollo.specs.Outcome.{stateOf}
 use Rattle.apollo.specs.BlockRun.{childOf, block}
 use Rattle.apollo.specs.Calls.{branchCall, blameCall}
-use Rattle.apollo.specs.BenchSheet.{turn, chainRounds, after, ParentIn, Item9, Item10, Held}
+use Rattle.apollo.specs.BenchSheet.{turn, chainRounds, ParentIn, Item9, Item10, Held}
 use Rattle.apollo.proofs.Tests.{both}
 use Rattle.apollo.proofs.BlockRun.{blocks-of, blocks-none}
 use Rattle.apollo.proofs.Slots.{length-zeros}
@@ -51,13 +52,13 @@ aside i r led low most =
 -- Item 9, at replicas 0 and 1. Each has opened and holds blocks 1 and 2, its own and the other's; it hears one blame for round 2, and
 -- a second; then the block for round 3 on block 1 comes.
 unfoldable pub held-0 : State
-held-0 = after (branchCall (opening 0) (blk 2) [] out)
+held-0 = stateOf (branchCall (opening 0) (blk 2) [] out)
 
 unfoldable pub held-1 : State
-held-1 = after (branchCall (opening 1) (blk 1) [] out)
+held-1 = stateOf (branchCall (opening 1) (blk 1) [] out)
 
 unfoldable pub blamed : State → (i r : ℕ) → State
-blamed s i r = after (blameCall s (makeBlame sha256 i r) [] out)
+blamed s i r = stateOf (blameCall s (makeBlame sha256 i r) [] out)
 
 unfoldable pub twice : State → (r : ℕ) → State
 twice s r = blamed (blamed s 0 r) 1 r
@@ -133,7 +134,7 @@ item-9-met = (both-9 held-0 0 made-0 (omega arith), both-9 held-1 1 made-1 (omeg
 
 -- Item 10, at replica 1, which then took block 3: with no blame heard, and with two for each of rounds 2 and 3.
 unfoldable pub held-3 : State
-held-3 = after (branchCall held-1 (blk 3) [] out)
+held-3 = stateOf (branchCall held-1 (blk 3) [] out)
 
 made-3 : Made held-3 1 3 (zeros 6)
 unfolding held-3 leads leader padded inTurn zeros

@@ -19,7 +19,7 @@ use Rattle.apollo.specs.Masks.{mask, addBlame, certified}
 use Rattle.apollo.specs.Replica.{fresh, validSetup, validReplica, validMasks}
 use Rattle.apollo.specs.Enter.{State, commit}
 use Rattle.apollo.specs.BlockRun.{lastOf, block, blocks}
-use Rattle.apollo.specs.Outcome.{Outcome}
+use Rattle.apollo.specs.Outcome.{Outcome, stateOf}
 use Rattle.apollo.specs.Calls.{openCall, branchCall, blameCall, blamesCall, tickCall}
 
 -- "the old turn" of 2f + 1 cards
@@ -50,10 +50,6 @@ newRound o = o .answer .replica .round .0
 
 abbrev pub newCommitted : Outcome → ℕ
 newCommitted o = o .answer .replica .«committed_round» .0
-
--- the state that a call leaves
-abbrev pub after : Outcome → State
-after o = record { replica = o .answer .replica; log = o .log; masks = o .masks }
 
 -- no call on s with this out buffer is refused with 2, 3 or 4
 pub record Callable (s : State) (out : List ℕ) : Type 0 where
@@ -156,7 +152,7 @@ pub record BenchSheet : Type 0 where
       → (s .replica .timeout .0 ≡ 1
       → Blames (setupOf (s .replica)) (tickCall s entry out) (s .replica .id) (s .replica .round .0))
       × (s .replica .timeout .0 ≡ 2 → (number (tickCall s entry out) ≡ 0) × (tickCall s entry out .answer .frames ≡ 0)
-      × Blames (setupOf (s .replica)) (tickCall (after (tickCall s entry out)) entry′ out′) (s .replica .id)
+      × Blames (setupOf (s .replica)) (tickCall (stateOf (tickCall s entry out)) entry′ out′) (s .replica .id)
       (s .replica .round .0))
   -- It is taken if round 2 is not committed, else 12 may be the answer; with R = 3 and f = 1 no call commits it.
   pub item-9 : (s : State) (x entry out : List ℕ) → Item9 s x out → length entry ≤ 400
@@ -183,4 +179,4 @@ pub record BenchSheet : Type 0 where
       × (block (setup f 1 (turn f)) (take 512 (openCall 0 f timeout 1 (turn f) log masks entry out .out)) ≡ true)
       × (round (openCall 0 f timeout 1 (turn f) log masks entry out .out) ≡ 1)
       × (newRound (openCall 0 f timeout 1 (turn f) log masks entry out) ≡ 2)
-      × (number (tickCall (after (openCall 0 f timeout 1 (turn f) log masks entry out)) entry′ out′) ≡ 3)
+      × (number (tickCall (stateOf (openCall 0 f timeout 1 (turn f) log masks entry out)) entry′ out′) ≡ 3)

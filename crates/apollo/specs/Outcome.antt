@@ -22,6 +22,10 @@ pub record Outcome : Type 0 where
 abbrev pub outcome : Answer → (log masks out : List ℕ) → Outcome
 outcome a log masks out = record { answer = a; log = log; masks = masks; out = out }
 
+-- the state that a call leaves: the record, the log and the masks
+abbrev pub stateOf : Outcome → State
+stateOf o = record { replica = o .answer .replica; log = o .log; masks = o .masks }
+
 -- a refusal, with its number and its place
 unfoldable pub refused : State → (out : List ℕ) (number place : ℕ) → Outcome
 refused s out number place =

@@ -12,8 +12,8 @@ use Rattle.apollo.specs.declared.Setup.{Setup}
 use Rattle.apollo.specs.Frame.{frames}
 use Rattle.apollo.specs.Replica.{validReplica, validMasks}
 use Rattle.apollo.specs.Enter.{State, Effect}
-use Rattle.apollo.specs.Outcome.{Outcome, refused, taken, guarded}
-use Rattle.theorem_agreement.specs.Run.{Event, emit, emittedBy, stateOf}
+use Rattle.apollo.specs.Outcome.{Outcome, refused, taken, guarded, stateOf}
+use Rattle.theorem_agreement.specs.Run.{Event, emit, emittedBy}
 use Rattle.theorem_agreement.proofs.Tests.{clash, by-cond}
 use Rattle.theorem_agreement.proofs.Frames.{frames-flatten}
 use Rattle.theorem_agreement.proofs.Stored.{Stored}

@@ -11,10 +11,10 @@ use borrow.Author.Tests.{eqb-true, eqb-false}
 use Rattle.apollo.specs.declared.Setup.{Setup}
 use Rattle.apollo.specs.Frame.{kind, round, framesOf, wholeFrames}
 use Rattle.apollo.specs.Enter.{State}
-use Rattle.apollo.specs.Outcome.{Outcome}
+use Rattle.apollo.specs.Outcome.{Outcome, stateOf}
 use Rattle.apollo.specs.Equivocation.{isPair}
 use Rattle.apollo.specs.Calls.{openCall}
-use Rattle.theorem_agreement.specs.Run.{Act, branch, blame, blames, tick, equivocation, Call, opening, act, Event, handed, emitted, answered, In, World, start, uncut, framesIn, hand, emit, emittedBy, note, stateOf, after, opened, answer, callAt, step, run}
+use Rattle.theorem_agreement.specs.Run.{Act, branch, blame, blames, tick, equivocation, Call, opening, act, Event, handed, emitted, answered, In, World, start, uncut, framesIn, hand, emit, emittedBy, note, after, opened, answer, callAt, step, run}
 use Rattle.theorem_agreement.specs.Premises.{Each, Lawful}
 use Rattle.theorem_agreement.proofs.Tests.{by-cond, cond-true}
 use Rattle.theorem_agreement.proofs.Past.{Grows, emitted-is, emit-grows, emit-back, hand-grows, hand-in, Given, hand-back}

@@ -11,7 +11,7 @@ use Rattle.sha256.specs.Fips.{sha256}
 use Rattle.apollo.specs.declared.Marked.{Marked}
 use Rattle.apollo.specs.Frame.{frames, framesOf, wholeFrames, checked}
 use Rattle.apollo.specs.Enter.{State}
-use Rattle.apollo.specs.Outcome.{Outcome}
+use Rattle.apollo.specs.Outcome.{Outcome, stateOf}
 use Rattle.apollo.specs.Equivocation.{isPair}
 use Rattle.apollo.specs.Calls.{openCall, branchCall, blameCall, blamesCall, tickCall, equivocationCall}
 
@@ -83,10 +83,6 @@ emittedBy o = frames (o .answer .frames) (o .out)
 -- the past after replica i's answer
 unfoldable pub note : ℕ → Outcome → List Event → List Event
 note i o past = answered (o .answer .number) ∷ emit i (emittedBy o) past
-
--- the record, the log and the masks, just as a call left them
-abbrev pub stateOf : Outcome → State
-stateOf o = record { replica = o .answer .replica; log = o .log; masks = o .masks }
 
 -- the world after a call at replica i: its state is the one that the call left
 unfoldable pub after : World → ℕ → Outcome → World

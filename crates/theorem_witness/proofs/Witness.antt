@@ -19,8 +19,9 @@ use Rattle.apollo.specs.Log.{genesis, chain}
 use Rattle.apollo.specs.Masks.{count}
 use Rattle.apollo.specs.Enter.{State}
 use Rattle.apollo.specs.Committed.{committed}
+use Rattle.apollo.specs.Outcome.{stateOf}
 use Rattle.apollo.specs.Calls.{blamesCall}
-use Rattle.theorem_agreement.specs.Run.{Act, branch, blame, blames, tick, equivocation, Call, opening, act, Event, handed, emitted, answered, In, Seen, World, start, uncut, framesIn, emit, stateOf, answer, run}
+use Rattle.theorem_agreement.specs.Run.{Act, branch, blame, blames, tick, equivocation, Call, opening, act, Event, handed, emitted, answered, In, Seen, World, start, uncut, framesIn, emit, answer, run}
 use Rattle.theorem_agreement.specs.Premises.{Mostly, Patient, Distinct, Premises}
 use Rattle.theorem_agreement.specs.Claim.{Agreed}
 use Rattle.theorem_agreement.proofs.Agreement.{agreement, beginnings}
