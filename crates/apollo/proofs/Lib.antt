@@ -8,6 +8,7 @@ pub mod Fetch
 pub mod Fault
 pub mod BlockRun
 pub mod Single
+pub mod Equivocation
 pub mod Judging
 pub mod Made
 pub mod BenchCommit

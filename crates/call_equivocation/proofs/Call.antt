@@ -1,7 +1,7 @@
 -- Equivocation as the code answers it: two frames judged one after the other, then together, then the record. Assumes nothing.
 use mathlib.Core.Path.{_≡_, refl, sym, ap, _∙_}
 use mathlib.Core.Logic.{_≢_}
-use mathlib.Core.Bool.{Bool, true, false, not, cond}
+use mathlib.Core.Bool.{Bool, true, false, not, cond, true≢false}
 use mathlib.Core.List.{List, [], _∷_}
 use Prim.Native.Nat.{ℕ, _<_}
 use native.Mathlib.Omega.{arith}
@@ -18,10 +18,11 @@ use Rattle.apollo.specs.Setup.{setupOf, leader}
 use Rattle.apollo.specs.Frame.{round, digest, blockForm, firstFrame}
 use Rattle.apollo.specs.Replica.{withMark, validRecord}
 use Rattle.apollo.specs.Judging.{verdict, noRefusal, fault, judgedEach}
-use Rattle.apollo.specs.Equivocation.{marked, isPair, second, conflicting, accusing, equivocationWith}
+use Rattle.apollo.specs.Equivocation.{marked, second, conflicting}
 use Rattle.apollo.specs.Calls.{equivocationCall}
 use Rattle.apollo.proofs.Tests.{cond-true, cond-false}
 use Rattle.apollo.proofs.Rotation.{leader-low}
+use Rattle.apollo.proofs.Equivocation.{judged, Case, invalid-record, not-pair, faulty-frame, not-conflicting, leader-marked, by-case, case-is}
 use Rattle.apollo.proofs.Validity.{record-turns}
 use Rattle.call_equivocation.specs.Judge.{judgedTwo, judgedPair}
 
@@ -82,16 +83,6 @@ unfoldable pub answered : Replica → (x : List ℕ) → Verdict → Marked
 answered r x v =
     cond (eqb (v .number) 0) (marked 0 0 (withMark r (leader (setupOf r) (round x)))) (marked (v .number) (v .place) r)
 
-two-answer : (r : Replica) (x y : List ℕ) → answered r x (judgedTwo (setupOf r) x y) ≡ accusing sha256 r x y
-unfolding answered judgedTwo accusing
-two-answer r x y = go (eqb (judgedEach sha256 (blockForm (setupOf r)) 0 (x ∷ y ∷ []) .number) 0) refl (conflicting x y) refl
-  where
-    go : (b : Bool) → eqb (judgedEach sha256 (blockForm (setupOf r)) 0 (x ∷ y ∷ []) .number) 0 ≡ b → (d : Bool) → conflicting x y ≡ d
-        → answered r x (judgedTwo (setupOf r) x y) ≡ accusing sha256 r x y
-    go true e true f = rw (e, f)
-    go true e false f = rw (e, f)
-    go false e d f = rw e (rw e)
-
 module _ (r : Replica) (x : List ℕ) (v : Verdict) where
   answered-none : v .number ≡ 0 → marked 0 0 (withMark r (leader (setupOf r) (round x))) ≡ answered r x v
   unfolding answered
@@ -103,17 +94,19 @@ module _ (r : Replica) (x : List ℕ) (v : Verdict) where
 
 pair-answer : (r : Replica) (bytes : List ℕ) → validRecord r ≡ true
     → answered r (firstFrame bytes) (judgedPair (setupOf r) bytes) ≡ equivocationCall r bytes
-unfolding judgedPair equivocationWith
-pair-answer r bytes t = go (isPair bytes) refl
+pair-answer r bytes t = go _ (by-case sha256 r bytes)
   where
-    go : (b : Bool) → isPair bytes ≡ b → answered r (firstFrame bytes) (judgedPair (setupOf r) bytes) ≡ equivocationCall r bytes
-    go true e = rw (t, e) (two-answer r (firstFrame bytes) (second bytes))
-    go false e = unfold answered in rw (t, e)
+    go : (a : Marked) → Case sha256 r bytes a → answered r (firstFrame bytes) (judgedPair (setupOf r) bytes) ≡ a
+    unfolding answered judgedPair judgedTwo
+    go a (invalid-record v) = absurd (true≢false (sym t ∙ v))
+    go a (not-pair v p) = rw p
+    go a (faulty-frame v p j) = let n = ne-eqb (judged sha256 r bytes .number) 0 j in rw (p, n) (rw n)
+    go a (not-conflicting v p j d) = rw (p, eq-eqb (judged sha256 r bytes .number) 0 j, d)
+    go a (leader-marked v p j d) = rw (p, eq-eqb (judged sha256 r bytes .number) 0 j, d)
 
 module _ (r : Replica) (bytes : List ℕ) (b : Bool) (e : b ≡ validRecord r) where
   pub record-bad : (a : Marked) → a ≡ marked 2 0 r → b ≡ false → a ≡ equivocationCall r bytes
-  unfolding equivocationWith
-  record-bad a i f = rw (i, ← e, f)
+  record-bad a i f = i ∙ case-is sha256 r bytes _ (invalid-record (sym e ∙ f))
 
   module _ (t : b ≡ true) (s : Setup) (d : s ≡ setupOf r) (v : Verdict) (j : v ≡ judgedPair s bytes) where
     by-verdict : answered r (firstFrame bytes) v ≡ equivocationCall r bytes

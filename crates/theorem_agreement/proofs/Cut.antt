@@ -14,14 +14,15 @@ use Rattle.apollo.specs.Setup.{setupOf}
 use Rattle.apollo.specs.Bytes.{same}
 use Rattle.apollo.specs.Frame.{round, frames, framesOf, firstFrame, wholeFrames, blockForm, blameForm}
 use Rattle.apollo.specs.Log.{attach}
-use Rattle.apollo.specs.Replica.{validRecord, validReplica, validMasks}
+use Rattle.apollo.specs.Replica.{validReplica, validMasks}
 use Rattle.apollo.specs.Enter.{State}
 use Rattle.apollo.specs.Judging.{judgedEach}
 use Rattle.apollo.specs.Outcome.{Outcome, refused, taken, guarded}
 use Rattle.apollo.specs.Branch.{lastOf, firstUncertified, grown, judgedAll, placed, branched, branchWith}
 use Rattle.apollo.specs.Blame.{oneSet, anyFresh, heard, handing}
-use Rattle.apollo.specs.Equivocation.{isPair, second, conflicting, accusing, equivocationWith}
+use Rattle.apollo.specs.Equivocation.{isPair, second, equivocationWith}
 use Rattle.apollo.proofs.Frames.{whole-true}
+use Rattle.apollo.proofs.Equivocation.{Case, invalid-record, not-pair, faulty-frame, not-conflicting, leader-marked, by-case}
 use Rattle.theorem_agreement.specs.Run.{branch, blame, blames, tick, equivocation, uncut, framesIn, recordOnly, answer}
 use Rattle.theorem_agreement.specs.Claim.{CutHandsNothing}
 use Rattle.theorem_agreement.proofs.Tests.{by-cond, cond-false}
@@ -100,21 +101,17 @@ module _ (c : State) (bytes : List ℕ) where
   abbrev Of : Marked → Type 0
   Of m = If6 (uncut (isPair bytes) bytes ≡ []) (recordOnly c m)
 
-  abbrev form : List ℕ → Bool
-  form = blockForm (setupOf (c .replica))
-
-  accused-6 : (x y : List ℕ) → Of (accusing sha256 (c .replica) x y)
-  unfolding accusing recordOnly
-  accused-6 x y =
-      by-cond Of (eqb (judgedEach sha256 form 0 (x ∷ y ∷ []) .number) 0)
-      (λ _. by-cond Of (conflicting x y) (λ _ z. absurd (omega (arith, z))) (λ _ z. absurd (omega (arith, z))))
-      (λ _ z. absurd (eqb-false _ 6 (each-low sha256 form 0 (x ∷ y ∷ []) .2) z))
-
   pair-6 : Of (equivocationWith sha256 (c .replica) bytes)
-  unfolding equivocationWith recordOnly
-  pair-6 =
-      by-cond Of (not (validRecord (c .replica))) (λ _ z. absurd (omega (arith, z)))
-      (λ _. by-cond Of (isPair bytes) (λ _. accused-6 (firstFrame bytes) (second bytes)) (λ e z. unfold uncut in cond-false _ _ e))
+  pair-6 = go _ (by-case sha256 (c .replica) bytes)
+    where
+      go : (m : Marked) → Case sha256 (c .replica) bytes m → Of m
+      unfolding recordOnly
+      go m (invalid-record v) z = absurd (omega (arith, z))
+      go m (not-pair v p) z = unfold uncut in cond-false _ _ p
+      go m (faulty-frame v p j) z =
+          absurd (eqb-false _ 6 (each-low sha256 (blockForm (setupOf (c .replica))) 0 (firstFrame bytes ∷ second bytes ∷ []) .2) z)
+      go m (not-conflicting v p j d) z = absurd (omega (arith, z))
+      go m (leader-marked v p j d) z = absurd (omega (arith, z))
 
 pub cut : CutHandsNothing
 unfolding answer framesIn branchWith

@@ -14,18 +14,19 @@ use Rattle.apollo.specs.declared.Marked.{Marked}
 use Rattle.apollo.specs.Bytes.{same}
 use Rattle.apollo.specs.Setup.{setupOf, replicas, leader}
 use Rattle.apollo.specs.Frame.{round, digest, frames, framesOf, firstFrame, blockForm}
-use Rattle.apollo.specs.Replica.{withMark, validRecord}
+use Rattle.apollo.specs.Replica.{withMark}
 use Rattle.apollo.specs.Enter.{State}
 use Rattle.apollo.specs.Judging.{judgedEach}
 use Rattle.apollo.specs.Outcome.{refused}
-use Rattle.apollo.specs.Equivocation.{marked, isPair, second, conflicting, accusing, equivocationWith}
+use Rattle.apollo.specs.Equivocation.{marked, isPair, second, conflicting, equivocationWith}
 use Rattle.apollo.proofs.Fault.{Passes}
 use Rattle.apollo.proofs.Rotation.{leader-low}
 use Rattle.apollo.proofs.Judging.{block-of}
+use Rattle.apollo.proofs.Equivocation.{judged, Case, invalid-record, not-pair, faulty-frame, not-conflicting, leader-marked, by-case}
 use Rattle.apollo.proofs.Frames.{pair-frames}
 use Rattle.theorem_agreement.specs.Run.{Event, emit, emittedBy, recordOnly}
 use Rattle.theorem_agreement.specs.Marks.{Equivocated}
-use Rattle.theorem_agreement.proofs.Tests.{clash, and-true, same-of, by-cond}
+use Rattle.theorem_agreement.proofs.Tests.{clash, and-true, same-of}
 use Rattle.theorem_agreement.proofs.Frames.{Whole, frames-whole}
 use Rattle.theorem_agreement.proofs.Good.{Rested, mark-extends, mark-rested, setup-is, mark-good}
 use Rattle.theorem_agreement.proofs.Effects.{Standing}
@@ -40,6 +41,9 @@ module _ (s : Setup) (past : List Event) (i : ℕ) (c : State) (st : Standing s 
 
   abbrev form : List ℕ → Bool
   form = blockForm (setupOf (c .replica))
+
+  abbrev own : setupOf (c .replica) ≡ s
+  own = setup-is s i (c .replica) (st .good .fixed)
 
   refusal : (k p : ℕ) → eqb k 2 ≡ false → eqb k 12 ≡ false → FineBy (marked k p (c .replica))
   unfolding recordOnly refused
@@ -58,9 +62,6 @@ module _ (s : Setup) (past : List Event) (i : ℕ) (c : State) (st : Standing s 
       }
 
   module _ (x y : List ℕ) (known : Known s past (x ∷ y ∷ [])) (whole : Whole (x ∷ y ∷ [])) where
-    abbrev own : setupOf (c .replica) ≡ s
-    own = setup-is s i (c .replica) (st .good .fixed)
-
     -- what two frames that pass 7, 8 and 18 show
     equivocated : judgedEach sha256 form 0 (x ∷ y ∷ []) .number ≡ 0 → conflicting x y ≡ true
         → Equivocated s past (leader (setupOf (c .replica)) (round x))
@@ -81,27 +82,26 @@ module _ (s : Setup) (past : List Event) (i : ℕ) (c : State) (st : Standing s 
           led = ap (λ k. leader k (round x)) (sym own);
         }
 
-    accused-fine : FineBy (accusing sha256 (c .replica) x y)
-    unfolding accusing
-    accused-fine =
-        by-cond FineBy (eqb (judgedEach sha256 form 0 (x ∷ y ∷ []) .number) 0)
-        (λ j. by-cond FineBy (conflicting x y)
-        (λ d. marked-fine (leader (setupOf (c .replica)) (round x))
-        (subst (λ k. leader k (round x) < replicas s) (sym own) (leader-low s (st .good .fixed .turns) (round x)))
-        (equivocated (eqb-true _ _ j) d))
-        (λ _. refusal 18 0 refl refl))
-        (λ _. let l : Low (judgedEach sha256 form 0 (x ∷ y ∷ []) .number) = each-low sha256 form 0 (x ∷ y ∷ []) in
-        refusal _ _ (l .0) (l .1))
-
   pub equivocation-fine : (bytes : List ℕ) → (isPair bytes ≡ true → Known s past (framesOf bytes))
       → FineBy (equivocationWith sha256 (c .replica) bytes)
-  unfolding equivocationWith
-  equivocation-fine bytes known =
-      by-cond FineBy (not (validRecord (c .replica)))
-      (λ e. absurd (clash (valid-own s past i c (st .good) rests) (not-true _ e)))
-      (λ _. by-cond FineBy (isPair bytes)
-      (λ e. let two : framesOf bytes ≡ firstFrame bytes ∷ second bytes ∷ [] = pair-frames bytes (eqb-true _ _ e) in
-      let n : length bytes ≡ 1024 = eqb-true _ _ e in
-      accused-fine (firstFrame bytes) (second bytes) (subst (Known s past) two (known e))
-      (subst Whole two (frames-whole (length bytes / 512) bytes (omega arith))))
-      (λ _. refusal 6 0 refl refl))
+  equivocation-fine bytes known = go _ (by-case sha256 (c .replica) bytes)
+    where
+      known-two : isPair bytes ≡ true → Known s past (firstFrame bytes ∷ second bytes ∷ [])
+      known-two e = subst (Known s past) (pair-frames bytes (eqb-true _ _ e)) (known e)
+
+      whole-two : isPair bytes ≡ true → Whole (firstFrame bytes ∷ second bytes ∷ [])
+      whole-two e =
+          let n : length bytes ≡ 1024 = eqb-true _ _ e in
+          subst Whole (pair-frames bytes n) (frames-whole (length bytes / 512) bytes (omega arith))
+
+      go : (m : Marked) → Case sha256 (c .replica) bytes m → FineBy m
+      go m (invalid-record v) = absurd (clash (valid-own s past i c (st .good) rests) v)
+      go m (not-pair v p) = refusal 6 0 refl refl
+      go m (faulty-frame v p j) =
+          let l : Low (judged sha256 (c .replica) bytes .number) = each-low sha256 form 0 (firstFrame bytes ∷ second bytes ∷ []) in
+          refusal _ _ (l .0) (l .1)
+      go m (not-conflicting v p j d) = refusal 18 0 refl refl
+      go m (leader-marked v p j d) =
+          marked-fine (leader (setupOf (c .replica)) (round (firstFrame bytes)))
+          (subst (λ k. leader k (round (firstFrame bytes)) < replicas s) (sym own) (leader-low s (st .good .fixed .turns) (round (firstFrame bytes))))
+          (equivocated (firstFrame bytes) (second bytes) (known-two p) (whole-two p) j d)

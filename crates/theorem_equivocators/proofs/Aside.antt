@@ -1,6 +1,6 @@
 -- Marks change nothing but themselves: each step of a call commutes with other marks. Assumes nothing.
 use Prim.Native.Nat.{ℕ, _+_, _-_, _*_}
-use mathlib.Core.Path.{_≡_, refl, ap, _∙_}
+use mathlib.Core.Path.{_≡_, refl, sym, ap, _∙_}
 use mathlib.Core.Logic.{inl, inr}
 use mathlib.Core.Option.{Option, none, some}
 use mathlib.Core.List.{List, [], _∷_}
@@ -12,7 +12,7 @@ use Rattle.apollo.specs.declared.Replica.{Replica}
 use Rattle.apollo.specs.declared.Marked.{Marked}
 use Rattle.apollo.specs.Bytes.{same}
 use Rattle.apollo.specs.Setup.{setupOf, leader}
-use Rattle.apollo.specs.Frame.{round, height, framesOf, firstFrame, wholeFrames, blockForm, blameForm, makeBlame}
+use Rattle.apollo.specs.Frame.{round, height, framesOf, firstFrame, wholeFrames, blameForm, makeBlame}
 use Rattle.apollo.specs.Log.{attach}
 use Rattle.apollo.specs.Masks.{bit, certified}
 use Rattle.apollo.specs.Replica.{withEquivocators, leads, validNumbers, validRounds, validMarks, validRecord, validLog, validReplica, validMasks}
@@ -22,22 +22,19 @@ use Rattle.apollo.specs.Outcome.{Outcome, refused, nextLeader, taken, guarded}
 use Rattle.apollo.specs.Branch.{lastOf, firstUncertified, grown, judgedAll, adopting, placed, branched, branchWith}
 use Rattle.apollo.specs.Blame.{oneSet, anyFresh, hearingAll, heard, handing}
 use Rattle.apollo.specs.Tick.{blaming, ticked, tickWith}
-use Rattle.apollo.specs.Equivocation.{marked, isPair, second, conflicting, accusing, equivocationWith}
+use Rattle.apollo.specs.Equivocation.{first, equivocationWith}
 use Rattle.apollo.specs.Read.{readCall}
 use Rattle.apollo.specs.Fetch.{fetchCall}
 use Rattle.apollo.proofs.Masks.{bit-kept}
+use Rattle.apollo.proofs.Equivocation.{Case, invalid-record, not-pair, faulty-frame, not-conflicting, leader-marked, by-case, case-is}
 use Rattle.apollo.proofs.Tests.{by-cond}
 use Rattle.theorem_agreement.specs.Run.{Act, branch, blame, blames, tick, equivocation, recordOnly, answer}
 use Rattle.theorem_equivocators.specs.Marks.{Kept, remarked, remarkedOutcome, SameButMarks, MarksAside}
 
--- a choice between images, and between values with equal images
+-- a choice between images
 across : {A B : Type 0} (f : A → B) (b : Bool) {x y : A} {x′ y′ : B} → x′ ≡ f x → y′ ≡ f y → cond b x′ y′ ≡ f (cond b x y)
 across f true p q = p
 across f false p q = q
-
-alike : {A B : Type 0} (f : A → B) (b : Bool) {x y x′ y′ : A} → f x′ ≡ f x → f y′ ≡ f y → f (cond b x′ y′) ≡ f (cond b x y)
-alike f true p q = p
-alike f false p q = q
 
 module _ (m : ℕ) where
   abbrev other : State → State
@@ -187,21 +184,22 @@ module _ (c : State) (m : ℕ) where
   abbrev bare : Marked → Outcome
   bare a = remarkedOutcome (recordOnly c a) 0
 
-  accusing-aside : (x y : List ℕ) → bare (accusing sha256 (withEquivocators (c .replica) m) x y) ≡ bare (accusing sha256 (c .replica) x y)
-  unfolding accusing recordOnly remarkedOutcome
-  accusing-aside x y =
-      alike bare (eqb (judgedEach sha256 (blockForm (setupOf (c .replica))) 0 (x ∷ y ∷ []) .number) 0)
-      (alike bare (conflicting x y) refl refl) refl
-
   equivocation-aside : validRecord (withEquivocators (c .replica) m) ≡ validRecord (c .replica) → (bytes : List ℕ)
       → bare (equivocationWith sha256 (withEquivocators (c .replica) m) bytes) ≡ bare (equivocationWith sha256 (c .replica) bytes)
-  unfolding equivocationWith recordOnly remarkedOutcome
-  equivocation-aside v bytes =
-      ap
-      (λ (b : Bool). bare (cond (not b) (marked 2 0 (withEquivocators (c .replica) m))
-      (cond (isPair bytes) (accusing sha256 (withEquivocators (c .replica) m) (firstFrame bytes) (second bytes))
-      (marked 6 0 (withEquivocators (c .replica) m))))) v
-      ∙ alike bare (not (validRecord (c .replica))) refl (alike bare (isPair bytes) (accusing-aside (firstFrame bytes) (second bytes)) refl)
+  equivocation-aside same bytes = go _ (by-case sha256 (c .replica) bytes)
+    where
+      is : (a : Marked) → Case sha256 (withEquivocators (c .replica) m) bytes a
+          → bare (equivocationWith sha256 (withEquivocators (c .replica) m) bytes) ≡ bare a
+      is a k = ap bare (sym (case-is sha256 (withEquivocators (c .replica) m) bytes a k))
+
+      go : (a : Marked) → Case sha256 (c .replica) bytes a
+          → bare (equivocationWith sha256 (withEquivocators (c .replica) m) bytes) ≡ bare a
+      unfolding recordOnly remarkedOutcome
+      go a (invalid-record v) = is _ (invalid-record (same ∙ v))
+      go a (not-pair v p) = is _ (not-pair (same ∙ v) p)
+      go a (faulty-frame v p j) = is _ (faulty-frame (same ∙ v) p j)
+      go a (not-conflicting v p j d) = is _ (not-conflicting (same ∙ v) p j d)
+      go a (leader-marked v p j d) = is _ (leader-marked (same ∙ v) p j d)
 
 calls-aside : (c : State) (m : ℕ) → validMarks (c .replica) ≡ true → validMarks (withEquivocators (c .replica) m) ≡ true → (a : Act)
     → SameButMarks (answer (remarked c m) a) (answer c a)
@@ -228,16 +226,14 @@ marks-aside r log m e d =
 -- equivocation sets a mark, or leaves all as they are
 equivocation-kept : (r : Replica) (bytes : List ℕ) (k : ℕ) → bit k (r .equivocators) ≡ true
     → bit k (equivocationWith sha256 r bytes .replica .equivocators) ≡ true
-unfolding equivocationWith accusing
-equivocation-kept r bytes k e =
-    by-cond Keeps (not (validRecord r)) (λ _. e)
-    (λ _. by-cond Keeps (isPair bytes)
-    (λ _. by-cond Keeps (eqb (judgedEach sha256 (blockForm (setupOf r)) 0 (firstFrame bytes ∷ second bytes ∷ []) .number) 0)
-    (λ _. by-cond Keeps (conflicting (firstFrame bytes) (second bytes))
-    (λ _. bit-kept (leader (setupOf r) (round (firstFrame bytes))) k (r .equivocators) e) (λ _. e)) (λ _. e)) (λ _. e))
+equivocation-kept r bytes k e = go _ (by-case sha256 r bytes)
   where
-    Keeps : Marked → Type 0
-    Keeps a = bit k (a .replica .equivocators) ≡ true
+    go : (a : Marked) → Case sha256 r bytes a → bit k (a .replica .equivocators) ≡ true
+    go a (invalid-record v) = e
+    go a (not-pair v p) = e
+    go a (faulty-frame v p j) = e
+    go a (not-conflicting v p j d) = e
+    go a (leader-marked v p j d) = bit-kept (leader (setupOf r) (round (firstFrame bytes))) k (r .equivocators) e
 
 pub kept : Kept
 unfolding answer branchWith handing tickWith recordOnly
