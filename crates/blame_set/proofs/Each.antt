@@ -1,4 +1,4 @@
--- The frames of a set one by one: judged, joined to the set, looked for in the masks, and added. Assumes nothing.
+-- The frames of a set one by one: joined to the set, looked for in the masks, and added. Assumes nothing.
 use mathlib.Core.Path.{_≡_, sym, _∙_}
 use mathlib.Core.Bool.{Bool, true, false, _&&_, not}
 use mathlib.Core.List.{List}
@@ -6,12 +6,9 @@ use Prim.Native.Nat.{ℕ, _+_, _-_, _*_, _≤_, _<_}
 use lib.Dec.{eqb}
 use lib.ListN.{take, drop}
 use borrow.Author.Tests.{eq-eqb, ne-eqb}
-use Rattle.sha256.specs.Fips.{sha256}
-use Rattle.apollo.specs.declared.Verdict.{Verdict}
 use Rattle.apollo.specs.Bytes.{part}
 use Rattle.apollo.specs.Frame.{signer, round}
 use Rattle.apollo.specs.Masks.{bit, setBit, mask, addBlame}
-use Rattle.apollo.specs.Judging.{verdict, noRefusal, fault, judgedEach}
 use Rattle.apollo.specs.Blame.{oneSet, anyFresh, addBlames}
 use Rattle.frame.proofs.Frames.{rest, rest-next, rest-end, frame-part}
 
@@ -25,25 +22,6 @@ module _ (b : List ℕ) (n i : ℕ) where
 
   lent-is : lent ≡ x
   lent-is = frame-part b (512 * i)
-
-  -- 7 and 8
-  module _ (form : List ℕ → Bool) (goal : Verdict) (e : judgedEach sha256 form i (rest b n i) ≡ goal) where
-    module _ (h : i < n) (k : ℕ) (d : k ≡ fault sha256 form lent) where
-      number-is : k ≡ fault sha256 form x
-      number-is = rw lent-is at d
-
-      pub each-stop : (k ≡ 0 → ⊥) → verdict k i ≡ goal
-      unfolding judgedEach
-      each-stop z =
-          rw number-is (rw (rest-next b n i h, ne-eqb (fault sha256 form x) 0 (λ w. z (number-is ∙ w))) at e)
-
-      pub each-more : k ≡ 0 → judgedEach sha256 form (i + 1) (rest b n (i + 1)) ≡ goal
-      unfolding judgedEach
-      each-more z = rw (rest-next b n i h, eq-eqb (fault sha256 form x) 0 (sym number-is ∙ z)) at e
-
-    pub each-end : n ≤ i → noRefusal ≡ goal
-    unfolding judgedEach
-    each-end h = rw (rest-end b n i h) at e
 
   -- 16
   module _ (r before : ℕ) (goal : Bool) (e : oneSet r before (rest b n i) ≡ goal) where

@@ -1,16 +1,15 @@
 // A set of blames that is handed in: its judgement, 6, 7, 8, 16, 14 and 10, each frame judged in place, and its bits set. A blame is
 // a set of one.
 use apollo::Replica;
-use apollo::Setup;
 use apollo::Verdict;
+use frame_forms::Form;
 ghost use mathlib.Core.Path.{_≡_};
 ghost use mathlib.Core.Bool.{_&&_, not};
 ghost use Prim.Native.Nat.{_*_, _≤_, _<_};
 ghost use lib.Dec.{eqb};
 ghost use lib.ListN.{length};
-ghost use Rattle.sha256.specs.Fips.{sha256};
 ghost use Rattle.apollo.specs.Frame as Frame;
-ghost use Rattle.apollo.specs.Frame.{framesOf, blameForm};
+ghost use Rattle.apollo.specs.Frame.{framesOf};
 ghost use Rattle.apollo.specs.Masks as Masks;
 ghost use Rattle.apollo.specs.Judging as Judging;
 ghost use Rattle.apollo.specs.Blame as Blame;
@@ -21,28 +20,6 @@ fn refusal(number: u8) -> Verdict
     ensures { λ v. ⌜ v ≡ Judging.verdict number 0 ⌝ }
 {
     Verdict { number, place: 0 }
-}
-
-// 7 and 8 of the frames, lowest first.
-fn judge_each(s: Setup, frames: &[u8]) -> Verdict
-    requires { ⌜ length (now frames) ≤ 512 * 15 ⌝ }
-    ensures { λ v. ⌜ v ≡ Judging.judgedEach sha256 (blameForm s) 0 (framesOf (now (frames .entry))) ⌝ }
-{
-    let n = frames.len() / 512;
-    let mut i = 0;
-    while i < n {
-        let a = 512 * i;
-        let e = a + 512;
-        let number = frame_forms::blame_fault(s, &frames[a..e]);
-        if number != 0 {
-            return Verdict {
-                number,
-                place: i as u32,
-            };
-        }
-        i += 1;
-    }
-    refusal(0)
 }
 
 // Frame x is of round r, and its signer is not in the mask.
@@ -131,7 +108,7 @@ fn judge_frames(r: Replica, masks: &[u16], frames: &[u8]) -> Verdict
     requires { ⌜ (r .f ≤ 7) × (length (now frames) ≤ 512 * 15) ⌝ }
     ensures { λ v. ⌜ v ≡ Set.judgedFrames r (now (masks .entry)) (now (frames .entry)) ⌝ }
 {
-    let each = judge_each(record::setup(r), frames);
+    let each = judging::judge_each(Form::Blame, record::setup(r), frames);
     if each.number != 0 {
         return each;
     }

@@ -15,8 +15,8 @@ use Rattle.apollo.specs.Log.{attach}
 use Rattle.apollo.specs.Replica.{validReplica, validMasks}
 use Rattle.apollo.specs.Enter.{State, Effect}
 use Rattle.apollo.specs.Outcome.{Outcome, refused, taken, guarded}
-use Rattle.apollo.specs.Branch.{lastOf, firstUncertified, judgedAll, adopting, placed, branched, branchWith}
-use Rattle.branch_links.specs.Judged.{judgedFrames}
+use Rattle.apollo.specs.BlockRun.{lastOf, judgedRun}
+use Rattle.apollo.specs.Branch.{firstUncertified, adopting, placed, branched, branchWith}
 use Rattle.branch_rounds.specs.Keeps.{keepsAll}
 use Rattle.branch_links.specs.Ordered.{Ordered}
 use Rattle.branch_links.proofs.Ordered.{ordered}
@@ -73,24 +73,24 @@ module _ (s : State) (bytes entry out x : List ℕ) (xs : List (List ℕ)) (spli
       (refused s out 13 (firstUncertified (setupOf (s .replica)) (s .masks) a (x ∷ xs)))
       (λ z. ap (λ (e : Effect). taken e out) (adopted-is a)) (λ z. refl) (λ z. refl))
 
-  module _ (order : (a : ℕ) → judgedFrames (setupOf (s .replica)) (x ∷ xs) .number ≡ 0 → attach (s .log) x (round x - 1) ≡ some a
+  module _ (order : (a : ℕ) → judgedRun sha256 (setupOf (s .replica)) 0 none (x ∷ xs) .number ≡ 0 → attach (s .log) x (round x - 1) ≡ some a
       → Ordered (s .replica .«last_round» .0) a (x ∷ xs)) where
-    at-answer : (q : Option ℕ) → attach (s .log) x (round x - 1) ≡ q → judgedFrames (setupOf (s .replica)) (x ∷ xs) .number ≡ 0
+    at-answer : (q : Option ℕ) → attach (s .log) x (round x - 1) ≡ q → judgedRun sha256 (setupOf (s .replica)) 0 none (x ∷ xs) .number ≡ 0
         → placed sha256 entry out s x xs q ≡ answered entry out s bytes (judgedAt (s .replica) (s .log) (s .masks) bytes q)
     unfolding placed judgedAt answered
     at-answer none e n = refl
     at-answer (some a) e n = on-answer a (order a n e)
 
     whole-answer : branched sha256 entry out s (x ∷ xs) ≡ answered entry out s bytes (judgedWhole (s .replica) (s .log) (s .masks) bytes)
-    unfolding branched judgedWhole judgedFrames answered
+    unfolding branched judgedWhole answered
     whole-answer =
         rw (split, first, last)
-        (one-of-three (answered entry out s bytes) (eqb (judgedAll sha256 (setupOf (s .replica)) x xs .number) 0)
+        (one-of-three (answered entry out s bytes) (eqb (judgedRun sha256 (setupOf (s .replica)) 0 none (x ∷ xs) .number) 0)
         (ltb (round (lastOf x xs)) (s .replica .round .0)) (refusal 10 0)
         (judgedAt (s .replica) (s .log) (s .masks) bytes (attach (s .log) x (round x - 1)))
-        (refusal (judgedAll sha256 (setupOf (s .replica)) x xs .number) (judgedAll sha256 (setupOf (s .replica)) x xs .place))
+        (refusal (judgedRun sha256 (setupOf (s .replica)) 0 none (x ∷ xs) .number) (judgedRun sha256 (setupOf (s .replica)) 0 none (x ∷ xs) .place))
         (refused s out 10 0) (placed sha256 entry out s x xs (attach (s .log) x (round x - 1)))
-        (refused s out (judgedAll sha256 (setupOf (s .replica)) x xs .number) (judgedAll sha256 (setupOf (s .replica)) x xs .place))
+        (refused s out (judgedRun sha256 (setupOf (s .replica)) 0 none (x ∷ xs) .number) (judgedRun sha256 (setupOf (s .replica)) 0 none (x ∷ xs) .place))
         (λ z. refl)
         (λ z. at-answer (attach (s .log) x (round x - 1)) refl (eqb-true _ 0 z))
         (λ z. rw z))
@@ -102,7 +102,7 @@ frames-answer s bytes entry out v w =
     let e : length bytes % 512 ≡ 0 = w .even in
     let g : 1 ≤ length bytes / 512 = w .some in
     let split : framesOf bytes ≡ take 512 bytes ∷ frames (n - 1) (drop 512 bytes) = frames-split n bytes g in
-    let order : (a : ℕ) → judgedFrames (setupOf (s .replica)) (take 512 bytes ∷ frames (n - 1) (drop 512 bytes)) .number ≡ 0
+    let order : (a : ℕ) → judgedRun sha256 (setupOf (s .replica)) 0 none (take 512 bytes ∷ frames (n - 1) (drop 512 bytes)) .number ≡ 0
     → attach (s .log) (take 512 bytes) (round (take 512 bytes) - 1) ≡ some a
     → Ordered (s .replica .«last_round» .0) a (take 512 bytes ∷ frames (n - 1) (drop 512 bytes)) =
     λ a z h. rw (← split) (ordered (setupOf (s .replica)) (s .log) bytes n a g (omega arith) (rw split z) h) in

@@ -7,7 +7,7 @@ use lib.ListN.{length, take, drop}
 use lib.Seq.{drop-drop}
 use Rattle.apollo.specs.Bytes.{part}
 use Rattle.apollo.specs.Frame.{frames, lastFrame}
-use Rattle.apollo.specs.Branch.{lastOf}
+use Rattle.apollo.specs.BlockRun.{lastOf}
 use Rattle.apollo.proofs.Frames.{WholeFrames}
 
 last-of : (n : ℕ) (b : List ℕ) → lastOf (take 512 b) (frames n (drop 512 b)) ≡ part b (512 * n) 512

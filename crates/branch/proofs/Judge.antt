@@ -6,14 +6,15 @@ use mathlib.Core.Option.{Option, none, some}
 use Prim.Native.Nat.{ℕ, zero, suc, _-_}
 use lib.Dec.{ltb}
 use borrow.Author.Tests.{eq-eqb, ne-eqb}
+use Rattle.sha256.specs.Fips.{sha256}
 use Rattle.apollo.specs.declared.Replica.{Replica}
 use Rattle.apollo.specs.declared.Setup.{Setup}
 use Rattle.apollo.specs.Setup.{setupOf}
 use Rattle.apollo.specs.Frame.{round, framesOf, firstFrame, lastFrame, wholeFrames}
 use Rattle.apollo.specs.Log.{attach}
 use Rattle.apollo.specs.declared.Verdict.{Verdict}
+use Rattle.apollo.specs.BlockRun.{judgedRun}
 use Rattle.apollo.specs.Branch.{firstUncertified}
-use Rattle.branch_links.specs.Judged.{judgedFrames}
 use Rattle.branch_rounds.specs.declared.Gap.{Gap}
 use Rattle.branch_rounds.specs.Answers.{gapAt}
 use Rattle.branch_rounds.specs.Keeps.{keepsAll}
@@ -30,8 +31,8 @@ module _ (r : Replica) (log masks b : List ℕ) (w : Bool) (e : w ≡ wholeFrame
   branch-whole t = rw (← e, t)
 
 -- 7, 8, 9 and 10
-module _ (r : Replica) (log masks b : List ℕ) (s : Setup) (q : s ≡ setupOf r) (v : Verdict) (p : v ≡ judgedFrames s (framesOf b)) where
-  verdict : v ≡ judgedFrames (setupOf r) (framesOf b)
+module _ (r : Replica) (log masks b : List ℕ) (s : Setup) (q : s ≡ setupOf r) (v : Verdict) (p : v ≡ judgedRun sha256 s 0 none (framesOf b)) where
+  verdict : v ≡ judgedRun sha256 (setupOf r) 0 none (framesOf b)
   verdict = rw q at p
 
   pub whole-faulty : (v .number ≡ 0 → ⊥) → refusal (v .number) (v .place) ≡ judgedWhole r log masks b

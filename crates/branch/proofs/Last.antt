@@ -2,6 +2,7 @@
 use mathlib.Core.Path.{_≡_, refl, sym, ap, _∙_}
 use mathlib.Core.Bool.{Bool, true, false, cond}
 use mathlib.Core.List.{List, [], _∷_}
+use mathlib.Core.Option.{Option, none, some}
 use Prim.Native.Nat.{ℕ, _+_, _-_, _*_, _/_}
 use native.Mathlib.Omega.{arith}
 use lib.Dec.{eqb, ltb}
@@ -14,42 +15,34 @@ use Rattle.apollo.specs.Setup.{setupOf}
 use Rattle.apollo.specs.Frame.{round, frames, framesOf, firstFrame, lastFrame, wholeFrames, blockForm}
 use Rattle.apollo.specs.Log.{attach}
 use Rattle.apollo.specs.declared.Verdict.{Verdict}
-use Rattle.apollo.specs.Branch.{lastOf, childOf, faulty, judged, judgedAll}
+use Rattle.apollo.specs.BlockRun.{lastOf, block, blocks, judgedRun}
 use Rattle.frame_forms.proofs.Facts.{BlockFields, block-fields}
-use Rattle.apollo.proofs.Fault.{fault-none}
+use Rattle.apollo.proofs.BlockRun.{block-parts, blocks-parts, blocks-judged}
 use Rattle.log.specs.Slots.{Slotted}
-use Rattle.branch_links.specs.Judged.{judgedFrames}
-use Rattle.branch_links.proofs.Ordered.{step}
 use Rattle.branch.specs.declared.Judged.{Judged}
 use Rattle.branch.specs.Judge.{refusal, judgedAt, judgedWhole, judgedBranch}
-use Rattle.apollo.proofs.Frames.{WholeFrames, whole-true, frames-split}
+use Rattle.apollo.proofs.Frames.{WholeFrames, whole-true, frames-split, frames-whole}
 use Rattle.branch.proofs.Frames.{last-is}
 
--- each frame has the slot of its round, and the last has no fault
+-- each frame has the slot of its round, and the last is a block
 record Sound (s : Setup) (x : List ℕ) (ys : List (List ℕ)) : Type 0 where
   slots : Slotted (512 * s .«last_round» .0) (x ∷ ys)
-  last : faulty sha256 s (lastOf x ys) ≡ 0
+  last : block s (lastOf x ys) ≡ true
 
-slot-first : (s : Setup) (x : List ℕ) (ys : List (List ℕ)) → faulty sha256 s x ≡ 0 → Slotted (512 * s .«last_round» .0) ys
+slot-first : (s : Setup) (x : List ℕ) (ys : List (List ℕ)) → block s x ≡ true → Slotted (512 * s .«last_round» .0) ys
     → Slotted (512 * s .«last_round» .0) (x ∷ ys)
 unfolding Slotted
-slot-first s x ys f h =
-    let b : BlockFields s x = block-fields s x (fault-none sha256 (blockForm s) x f .1) in
+slot-first s x ys e h =
+    let b : BlockFields s x = block-fields s x (block-parts s x e .1) in
     (b .round-low, omega (arith, b .round-high), h)
 
-sound : (s : Setup) (k : ℕ) (x : List ℕ) (ys : List (List ℕ)) → faulty sha256 s x ≡ 0 → judged sha256 s k x ys .number ≡ 0 → Sound s x ys
-unfolding judged lastOf Slotted
-sound s k x [] f e = record { slots = slot-first s x [] f tt; last = f }
-sound s k x (y ∷ ys) f e =
-    let p = step (eqb (faulty sha256 s y) 0) (childOf x y) (faulty sha256 s y) k (judged sha256 s (k + 1) y ys) refl e in
-    let q : Sound s y ys = sound s (k + 1) y ys (p .sound) (p .onward) in
-    record { slots = slot-first s x (y ∷ ys) f (q .slots); last = q .last }
-
-all-sound : (s : Setup) (x : List ℕ) (ys : List (List ℕ)) → judgedFrames s (x ∷ ys) .number ≡ 0 → Sound s x ys
-unfolding judgedFrames judgedAll
-all-sound s x ys e =
-    let p = step (eqb (faulty sha256 s x) 0) true (faulty sha256 s x) 0 (judged sha256 s 1 x ys) refl e in
-    sound s 1 x ys (p .sound) (p .onward)
+sound : (s : Setup) (p : Option (List ℕ)) (x : List ℕ) (ys : List (List ℕ)) → blocks s p (x ∷ ys) ≡ true → Sound s x ys
+unfolding lastOf Slotted
+sound s p x [] e = let q = blocks-parts s p x [] e in record { slots = slot-first s x [] (q .0) tt; last = q .0 }
+sound s p x (y ∷ ys) e =
+    let q = blocks-parts s p x (y ∷ ys) e in
+    let r : Sound s y ys = sound s (some x) y ys (q .2) in
+    record { slots = slot-first s x (y ∷ ys) (q .0) (r .slots); last = r .last }
 
 -- a judgement that refuses nothing
 opens : (z y : Bool) (j : Judged) (n p : ℕ) → eqb n 0 ≡ y → cond z (cond y j (refusal n p)) (refusal 6 0) .number ≡ 0
@@ -62,7 +55,7 @@ pub branch-sound : (r : Replica) (log masks bytes : List ℕ) → judgedBranch r
     → Slotted (512 * r .«last_round» .0) (framesOf bytes) × BlockFields (setupOf r) (lastFrame bytes)
 unfolding judgedBranch judgedWhole
 branch-sound r log masks bytes e =
-    let v : Verdict = judgedFrames (setupOf r) (framesOf bytes) in
+    let v : Verdict = judgedRun sha256 (setupOf r) 0 none (framesOf bytes) in
     let p =
     opens (wholeFrames (r .«last_round» .0) bytes) (eqb (v .number) 0)
     (cond (ltb (round (lastFrame bytes)) (r .round .0)) (refusal 10 0)
@@ -71,11 +64,11 @@ branch-sound r log masks bytes e =
     in
     let w : WholeFrames (r .«last_round» .0) bytes = whole-true (r .«last_round» .0) bytes (p .0) in
     let f = frames-split (length bytes / 512) bytes (w .some) in
-    let g =
-    all-sound (setupOf r) (take 512 bytes) (frames (length bytes / 512 - 1) (drop 512 bytes))
-    (ap (λ (xs : List (List ℕ)). judgedFrames (setupOf r) xs .number) (sym f) ∙ p .1)
-    in (
+    let n : ℕ = length bytes / 512 in
+    let whole = frames-whole n bytes (omega arith) in
+    let good = blocks-judged (setupOf r) 0 none (framesOf bytes) (p .1) whole in
+    let g = sound (setupOf r) none (take 512 bytes) (frames (n - 1) (drop 512 bytes)) (rw f at good) in (
       rw f (g .slots),
       block-fields (setupOf r) (lastFrame bytes)
-          (fault-none sha256 (blockForm (setupOf r)) (lastFrame bytes) (ap (faulty sha256 (setupOf r)) (last-is (r .«last_round» .0) bytes w) ∙ g .last) .1),
+          (block-parts (setupOf r) (lastFrame bytes) (ap (block (setupOf r)) (last-is (r .«last_round» .0) bytes w) ∙ g .last) .1),
     )

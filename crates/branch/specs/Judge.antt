@@ -12,9 +12,9 @@ use Rattle.apollo.specs.Log.{attach}
 use Rattle.apollo.specs.Enter.{State, Effect, holding, enterRound}
 use Rattle.apollo.specs.Outcome as Outcome
 use Rattle.apollo.specs.declared.Verdict.{Verdict}
+use Rattle.apollo.specs.BlockRun.{judgedRun}
 use Rattle.apollo.specs.Branch.{firstUncertified, grown}
 use Rattle.apollo.specs.Refusal.{badLength, stale, unattached, revertsCommitted, notCertified}
-use Rattle.branch_links.specs.Judged.{judgedFrames}
 use Rattle.branch_rounds.specs.declared.Gap.{Gap}
 use Rattle.branch_rounds.specs.declared.Gap.the-variants.{Uncertified, Closed}
 use Rattle.branch_rounds.specs.Keeps.{keepsAll}
@@ -53,7 +53,7 @@ judgedFirst r log masks bytes =
 -- 7, 8, 9 and 10, and what follows them
 unfoldable pub judgedWhole : Replica → (log masks bytes : List ℕ) → Judged
 judgedWhole r log masks bytes =
-    let verdict : Verdict = judgedFrames (setupOf r) (framesOf bytes) in
+    let verdict : Verdict = judgedRun sha256 (setupOf r) 0 none (framesOf bytes) in
     cond (eqb (verdict .number) 0)
     (cond (ltb (round (lastFrame bytes)) (r .round .0)) (refusal stale 0)
     (judgedFirst r log masks bytes))

@@ -3,6 +3,7 @@
 use apollo::Replica;
 use branch_links::Attachment;
 use branch_rounds::Gap;
+use judging::Start;
 ghost use mathlib.Core.Path.{_≡_};
 ghost use Prim.Native.Nat.{_*_, _≤_};
 ghost use lib.ListN.{length};
@@ -78,7 +79,7 @@ fn judge_whole(r: Replica, log: &[u8], masks: &[u16], frames: &[u8]) -> Judged
     requires { ⌜ length (now frames) ≤ 512 * r .«last_round» .0 ⌝ }
     ensures { λ j. ⌜ j ≡ Judge.judgedWhole r (now (log .entry)) (now (masks .entry)) (now (frames .entry)) ⌝ }
 {
-    let verdict = branch_links::judge_frames(record::setup(r), frames);
+    let verdict = judging::judge_run(record::setup(r), Start::AnyParent, frames);
     if verdict.number != 0 {
         return refusal(verdict.number, verdict.place);
     }

@@ -1,3 +1,2 @@
 pub mod Attaching
-pub mod Judged
 pub mod Ordered

@@ -1,16 +1,10 @@
-// The links of a branch: each frame judged after the one before, and the round that the first attaches to.
-use apollo::Setup;
-use apollo::Verdict;
+// Where a branch attaches: the round of the slot that its first frame has as its parent.
 ghost use mathlib.Core.Path.{_≡_};
-ghost use Prim.Native.Nat.{_-_, _*_, _≤_, _<_};
-ghost use lib.ListN.{length};
+ghost use Prim.Native.Nat.{_-_, _<_};
 ghost use mathlib.Core.Bool.{_&&_};
 ghost use Rattle.apollo.specs.Frame as Frame;
-ghost use Rattle.apollo.specs.Frame.{framesOf};
 ghost use Rattle.apollo.specs.Log as Log;
-ghost use Rattle.apollo.specs.Branch as Branch;
 ghost use Rattle.branch_links.specs.Answers.{attachOf};
-ghost use Rattle.branch_links.specs.Judged.{judgedNext, judgedFrames};
 
 // Where a frame attaches: the round of a slot, 0 for the genesis.
 pub enum Attachment {
@@ -53,69 +47,5 @@ pub fn attach(log: &[u8], x: &[u8]) -> Attachment
         Attachment::At(0)
     } else {
         Attachment::Nowhere
-    }
-}
-
-// Frame x is the child of frame p.
-fn is_child(p: &[u8], x: &[u8]) -> bool
-    ensures { λ b. ⌜ b ≡ Branch.childOf (now (p .entry)) (now (x .entry)) ⌝ }
-{
-    if !frame::linked(p, x) {
-        return false;
-    }
-    frame::round(p) < frame::round(x)
-}
-
-// 7, 8 and 9 of frame x after frame p.
-fn judge_next(s: Setup, p: &[u8], x: &[u8]) -> u8
-    ensures { λ k. ⌜ k ≡ judgedNext s (now (p .entry)) (now (x .entry)) ⌝ }
-{
-    let number = frame_forms::block_fault(s, x);
-    if number != 0 {
-        return number;
-    }
-    if is_child(p, x) {
-        0
-    } else {
-        apollo::refusal::NOT_CHILD
-    }
-}
-
-// 7, 8 and 9 of the frames, lowest first, each judged in place.
-pub fn judge_frames(s: Setup, frames: &[u8]) -> Verdict
-    requires { ⌜ length (now frames) ≤ 512 * s .«last_round» .0 ⌝ }
-    ensures { λ v. ⌜ v ≡ judgedFrames s (framesOf (now (frames .entry))) ⌝ }
-{
-    let n = frames.len() / 512;
-    if n == 0 {
-        return Verdict {
-            number: 0,
-            place: 0,
-        };
-    }
-    let first = frame_forms::block_fault(s, &frames[..512]);
-    if first != 0 {
-        return Verdict {
-            number: first,
-            place: 0,
-        };
-    }
-    let mut i = 1;
-    while i < n {
-        let a = 512 * i;
-        let p = a - 512;
-        let e = a + 512;
-        let number = judge_next(s, &frames[p..a], &frames[a..e]);
-        if number != 0 {
-            return Verdict {
-                number,
-                place: i as u32,
-            };
-        }
-        i += 1;
-    }
-    Verdict {
-        number: 0,
-        place: 0,
     }
 }

@@ -17,7 +17,8 @@ use Rattle.apollo.specs.Bytes.{same}
 use Rattle.apollo.specs.Frame.{kind, signer, round, height, digest, parent, blockForm, linked, checked}
 use Rattle.apollo.specs.Log.{genesis, slot, filled, store, clearAbove, attach}
 use Rattle.apollo.specs.Masks.{gap}
-use Rattle.apollo.specs.Branch.{lastOf, childOf, firstUncertified, storeAll, grown, faulty, judged, judgedAll}
+use Rattle.apollo.specs.BlockRun.{lastOf, blocks, judgedRun}
+use Rattle.apollo.specs.Branch.{firstUncertified, storeAll, grown}
 use Rattle.theorem_agreement.specs.Run.{Event, In, Seen}
 use Rattle.apollo.proofs.Tests.{both}
 use Rattle.theorem_agreement.proofs.Tests.{and-true, same-true, same-of, by-cond}
@@ -27,7 +28,7 @@ use Rattle.theorem_agreement.proofs.Frames.{Whole}
 use Rattle.theorem_agreement.proofs.Chain.{Held, Joins, within}
 use Rattle.theorem_agreement.proofs.Stored.{Fact, Stored, store-stored, clear-stored}
 use Rattle.apollo.proofs.Fault.{fault-none}
-use Rattle.apollo.proofs.Judging.{block-of, block-parts}
+use Rattle.apollo.proofs.BlockRun.{block-of, block-parts, child-parts, blocks-parts, blocks-judged}
 
 pub linked-joins : (p x : List ℕ) → linked p x ≡ true → Joins p x
 unfolding linked
@@ -103,30 +104,24 @@ module _ (s : Setup) where
       let p = block-parts s x (t .block) in
       formed x (p .0) (p .1) .signed ∙ ap (leader s) (t .round-is)
 
-  block : (x : List ℕ) → faulty sha256 s x ≡ 0 → Block x
-  block x e = let p = fault-none sha256 (blockForm s) x e in formed x (p .0) (p .1)
-
   -- each frame of a branch is a block, and the child of the one before
   abbrev pub Row : List ℕ → List (List ℕ) → Type 0
   Row x [] = Unit {0}
   Row x (y ∷ ys) = Block y × Joins x y × (round x < round y) × Row y ys
 
-  judged-row : (k : ℕ) (x : List ℕ) (ys : List (List ℕ)) → judged sha256 s k x ys .number ≡ 0 → Row x ys
-  unfolding judged childOf
-  judged-row k x [] e = tt
-  judged-row k x (y ∷ ys) e =
-      by-cond (λ (v : Verdict). v .number ≡ 0 → Row x (y ∷ ys)) (eqb (faulty sha256 s y) 0)
-      (λ g. by-cond (λ (v : Verdict). v .number ≡ 0 → Row x (y ∷ ys)) (childOf x y)
-      (λ h v. let p = and-true _ _ h in
-      (block y (eqb-true _ _ g), linked-joins x y (p .0), ltb-true _ _ (p .1), judged-row (k + 1) y ys v))
-      (λ h v. absurd (omega (arith, v))))
-      (λ g v. absurd (eqb-false _ _ g v)) e
+  run-row : (x : List ℕ) (ys : List (List ℕ)) → blocks s (some x) ys ≡ true → Row x ys
+  run-row x [] e = tt
+  run-row x (y ∷ ys) e =
+      let q = blocks-parts s (some x) y ys e in
+      let p = block-parts s y (q .0) in
+      let c = child-parts x y (q .1) in
+      (formed y (p .0) (p .1), linked-joins x y (c .0), c .1, run-row y ys (q .2))
 
-  pub branch-row : (x : List ℕ) (ys : List (List ℕ)) → judgedAll sha256 s x ys .number ≡ 0 → Block x × Row x ys
-  unfolding judgedAll
-  branch-row x ys e =
-      by-cond (λ (v : Verdict). v .number ≡ 0 → Block x × Row x ys) (eqb (faulty sha256 s x) 0)
-      (λ g v. (block x (eqb-true _ _ g), judged-row 1 x ys v)) (λ g v. absurd (eqb-false _ _ g v)) e
+  pub branch-row : (x : List ℕ) (ys : List (List ℕ)) → judgedRun sha256 s 0 none (x ∷ ys) .number ≡ 0 → Whole (x ∷ ys) → Block x × Row x ys
+  branch-row x ys e w =
+      let q = blocks-parts s none x ys (blocks-judged s 0 none (x ∷ ys) e w) in
+      let p = block-parts s x (q .0) in
+      (formed x (p .0) (p .1), run-row x ys (q .2))
 
   -- the frames handed in that have a right check are seen
   abbrev pub Known : List Event → List (List ℕ) → Type 0

@@ -10,14 +10,14 @@ use lib.Dec.{eqb, ltb}
 use borrow.Author.Tests.{eqb-true, ltb-false}
 use Rattle.sha256.specs.Fips.{sha256}
 use Rattle.apollo.specs.declared.Setup.{Setup}
-use Rattle.apollo.specs.declared.Verdict.{Verdict}
 use Rattle.apollo.specs.Setup.{setupOf}
 use Rattle.apollo.specs.Bytes.{same}
-use Rattle.apollo.specs.Frame.{round, height, framesOf, wholeFrames, blockForm}
+use Rattle.apollo.specs.Frame.{round, height, framesOf, wholeFrames}
 use Rattle.apollo.specs.Log.{attach}
 use Rattle.apollo.specs.Enter.{State, tipped, holding}
 use Rattle.apollo.specs.Outcome.{taken}
-use Rattle.apollo.specs.Branch.{lastOf, childOf, firstUncertified, grown, faulty, judged, judgedAll, adopting, placed, branched, branchWith}
+use Rattle.apollo.specs.BlockRun.{lastOf, judgedRun}
+use Rattle.apollo.specs.Branch.{firstUncertified, grown, adopting, placed, branched, branchWith}
 use Rattle.theorem_agreement.specs.Run.{Event}
 use Rattle.theorem_agreement.proofs.Tests.{clash, same-true, same-of, by-cond}
 use Rattle.theorem_agreement.proofs.Slots.{slots-take}
@@ -25,24 +25,9 @@ use Rattle.theorem_agreement.proofs.Frames.{Whole, frames-whole}
 use Rattle.theorem_agreement.proofs.Stored.{Stored}
 use Rattle.theorem_agreement.proofs.Good.{Rested, extends-refl, hold-extends, setup-is, hold-good, committed-tip}
 use Rattle.theorem_agreement.proofs.Effects.{Standing, standing-later, enter-kept}
-use Rattle.theorem_agreement.proofs.Judged.{Low, fault-low}
+use Rattle.theorem_agreement.proofs.Judged.{Low, run-low}
 use Rattle.theorem_agreement.proofs.Adopt.{Block, Row, branch-row, Known, grown-stored}
 use Rattle.theorem_agreement.proofs.Outcomes.{Fine, taken-fine, refused-fine, refused-plain, guarded-fine}
-
--- the judgement of frames gives 0, 7, 8 or 9
-module _ (s : Setup) where
-  judged-low : (k : ℕ) (x : List ℕ) (ys : List (List ℕ)) → Low (judged sha256 s k x ys .number)
-  unfolding judged
-  judged-low k x [] = (refl, refl, refl)
-  judged-low k x (y ∷ ys) =
-      by-cond (λ (v : Verdict). Low (v .number)) (eqb (faulty sha256 s y) 0)
-      (λ _. by-cond (λ (v : Verdict). Low (v .number)) (childOf x y) (λ _. judged-low (k + 1) y ys) (λ _. (refl, refl, refl)))
-      (λ _. fault-low sha256 (blockForm s) y)
-
-  pub judgedAll-low : (x : List ℕ) (ys : List (List ℕ)) → Low (judgedAll sha256 s x ys .number)
-  unfolding judgedAll
-  judgedAll-low x ys =
-      by-cond (λ (v : Verdict). Low (v .number)) (eqb (faulty sha256 s x) 0) (λ _. judged-low 1 x ys) (λ _. fault-low sha256 (blockForm s) x)
 
 module _ (s : Setup) (past : List Event) (i : ℕ) (entry : List ℕ)
     (c : State) (st : Standing s past i c) (rests : Rested c) where
@@ -100,18 +85,18 @@ module _ (s : Setup) (past : List Event) (i : ℕ) (entry : List ℕ)
   unfolding branched
   branched-fine out [] fits known whole = refused-plain s past i c st rests out 6 0 refl refl
   branched-fine out (x ∷ xs) fits known whole =
-      by-cond (Fine s past i c) (eqb (judgedAll sha256 (setupOf (c .replica)) x xs .number) 0)
+      by-cond (Fine s past i c) (eqb (judgedRun sha256 (setupOf (c .replica)) 0 none (x ∷ xs) .number) 0)
       (λ j. by-cond (Fine s past i c) (ltb (round (lastOf x xs)) (c .replica .round .0))
       (λ _. refused-plain s past i c st rests out 10 0 refl refl)
       (λ l. let r : Block s x × Row s x xs = rows (eqb-true _ _ j) in
       placed-fine fits x xs (r .0) (r .1) known whole (ltb-false _ _ l) out _ refl))
-      (λ j. let l : Low (judgedAll sha256 (setupOf (c .replica)) x xs .number) = judgedAll-low (setupOf (c .replica)) x xs in
+      (λ j. let l : Low (judgedRun sha256 (setupOf (c .replica)) 0 none (x ∷ xs) .number) = run-low (setupOf (c .replica)) 0 none (x ∷ xs) in
       refused-plain s past i c st rests out _ _ (l .0) (l .1))
     where
-      rows : judgedAll sha256 (setupOf (c .replica)) x xs .number ≡ 0 → Block s x × Row s x xs
+      rows : judgedRun sha256 (setupOf (c .replica)) 0 none (x ∷ xs) .number ≡ 0 → Block s x × Row s x xs
       rows e =
           branch-row s x xs
-          (ap (λ k. judgedAll sha256 k x xs .number) (sym (setup-is s i (c .replica) (st .good .fixed))) ∙ e)
+          (ap (λ k. judgedRun sha256 k 0 none (x ∷ xs) .number) (sym (setup-is s i (c .replica) (st .good .fixed))) ∙ e) whole
 
   pub branch-fine : (bytes out : List ℕ) → (wholeFrames (c .replica .«last_round» .0) bytes ≡ true → Known s past (framesOf bytes))
       → Fine s past i c (branchWith sha256 c bytes entry out)

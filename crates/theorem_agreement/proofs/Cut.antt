@@ -18,7 +18,8 @@ use Rattle.apollo.specs.Replica.{validReplica, validMasks}
 use Rattle.apollo.specs.Enter.{State}
 use Rattle.apollo.specs.Judging.{judgedEach}
 use Rattle.apollo.specs.Outcome.{Outcome, refused, taken, guarded}
-use Rattle.apollo.specs.Branch.{lastOf, firstUncertified, grown, judgedAll, placed, branched, branchWith}
+use Rattle.apollo.specs.BlockRun.{lastOf, judgedRun}
+use Rattle.apollo.specs.Branch.{firstUncertified, grown, placed, branched, branchWith}
 use Rattle.apollo.specs.Blame.{oneSet, anyFresh, heard, handing}
 use Rattle.apollo.specs.Equivocation.{isPair, second, equivocationWith}
 use Rattle.apollo.proofs.Frames.{whole-true}
@@ -26,8 +27,7 @@ use Rattle.apollo.proofs.Equivocation.{Case, invalid-record, not-pair, faulty-f
 use Rattle.theorem_agreement.specs.Run.{branch, blame, blames, tick, equivocation, uncut, framesIn, recordOnly, answer}
 use Rattle.theorem_agreement.specs.Claim.{CutHandsNothing}
 use Rattle.theorem_agreement.proofs.Tests.{by-cond, cond-false}
-use Rattle.theorem_agreement.proofs.Judged.{each-low}
-use Rattle.theorem_agreement.proofs.Branch.{judgedAll-low}
+use Rattle.theorem_agreement.proofs.Judged.{each-low, run-low}
 
 -- where an outcome is answered 6, P holds
 abbrev If6 : Type 0 → Outcome → Type 0
@@ -59,10 +59,10 @@ module _ (P : Type 0) (c : State) (entry out : List ℕ) where
   branched-6 : (x : List ℕ) (xs : List (List ℕ)) → If6 P (branched sha256 entry out c (x ∷ xs))
   unfolding branched
   branched-6 x xs =
-      by-cond (If6 P) (eqb (judgedAll sha256 (setupOf (c .replica)) x xs .number) 0)
+      by-cond (If6 P) (eqb (judgedRun sha256 (setupOf (c .replica)) 0 none (x ∷ xs) .number) 0)
       (λ _. by-cond (If6 P) (ltb (round (lastOf x xs)) (c .replica .round .0)) (λ _. other 10 0 refl)
       (λ _. placed-6 x xs (attach (c .log) x (round x - 1))))
-      (λ _. other _ _ (judgedAll-low (setupOf (c .replica)) x xs .2))
+      (λ _. other _ _ (run-low (setupOf (c .replica)) 0 none (x ∷ xs) .2))
 
   heard-6 : (x : List ℕ) (xs : List (List ℕ)) → If6 P (heard sha256 entry out c (x ∷ xs))
   unfolding heard taken

@@ -15,7 +15,7 @@ use Rattle.apollo.specs.Frame.{kind, signer, round, height, parent, digest}
 use Rattle.apollo.specs.Log.{slot, store}
 use Rattle.apollo.specs.Masks.{certified}
 use Rattle.apollo.specs.Replica.{leads}
-use Rattle.apollo.specs.BenchSheet.{block}
+use Rattle.apollo.specs.BlockRun.{block}
 use Rattle.apollo.specs.Enter.{State, Effect, commit, tipped, waiting, hearing, holding, entered, ownBlock, proposing, enterRound, settle}
 use Rattle.apollo.proofs.Tests.{both}
 use Rattle.theorem_agreement.specs.Run.{Event, emitted, In, emit}

@@ -21,7 +21,7 @@ use Rattle.apollo.specs.Outcome.{refused}
 use Rattle.apollo.specs.Equivocation.{marked, isPair, second, conflicting, equivocationWith}
 use Rattle.apollo.proofs.Fault.{Passes}
 use Rattle.apollo.proofs.Rotation.{leader-low}
-use Rattle.apollo.proofs.Judging.{block-of}
+use Rattle.apollo.proofs.BlockRun.{block-of}
 use Rattle.apollo.proofs.Equivocation.{judged, Case, invalid-record, not-pair, faulty-frame, not-conflicting, leader-marked, by-case}
 use Rattle.apollo.proofs.Frames.{pair-frames}
 use Rattle.theorem_agreement.specs.Run.{Event, emit, emittedBy, recordOnly}

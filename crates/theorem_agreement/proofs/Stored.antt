@@ -9,7 +9,7 @@ use Rattle.apollo.specs.declared.Setup.{Setup}
 use Rattle.apollo.specs.Frame.{kind, round, height}
 use Rattle.apollo.specs.Log.{slot, filled, store, clearAbove}
 use Rattle.apollo.specs.Masks.{certified}
-use Rattle.apollo.specs.BenchSheet.{block}
+use Rattle.apollo.specs.BlockRun.{block}
 use Rattle.theorem_agreement.specs.Run.{Event, Seen}
 use Rattle.theorem_agreement.proofs.Slots.{store-same, store-other, length-store, length-clear, clear-low, clear-high, slot-beyond, filled-nil}
 use Rattle.theorem_agreement.proofs.Chain.{Held, Joins, Chain, chain-map, within, held-level}

@@ -7,7 +7,7 @@ use mathlib.Core.Bool.{true}
 use Rattle.apollo.specs.declared.Setup.{Setup}
 use Rattle.apollo.specs.Setup.{leader}
 use Rattle.apollo.specs.Frame.{round, digest}
-use Rattle.apollo.specs.BenchSheet.{block}
+use Rattle.apollo.specs.BlockRun.{block}
 use Rattle.theorem_agreement.specs.Run.{Event, Seen}
 
 -- card k is the leader of a round of which two good blocks were seen that have different digests (names)

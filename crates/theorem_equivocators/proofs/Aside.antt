@@ -19,7 +19,8 @@ use Rattle.apollo.specs.Replica.{withEquivocators, leads, validNumbers, validRo
 use Rattle.apollo.specs.Enter.{State, state, Effect, commitLimit, commit, tipped, waiting, hearing, holding, entered, ownBlock, proposing, enterRound, settle}
 use Rattle.apollo.specs.Judging.{judgedEach}
 use Rattle.apollo.specs.Outcome.{Outcome, refused, nextLeader, taken, guarded}
-use Rattle.apollo.specs.Branch.{lastOf, firstUncertified, grown, judgedAll, adopting, placed, branched, branchWith}
+use Rattle.apollo.specs.BlockRun.{lastOf, judgedRun}
+use Rattle.apollo.specs.Branch.{firstUncertified, grown, adopting, placed, branched, branchWith}
 use Rattle.apollo.specs.Blame.{oneSet, anyFresh, hearingAll, heard, handing}
 use Rattle.apollo.specs.Tick.{blaming, ticked, tickWith}
 use Rattle.apollo.specs.Equivocation.{first, equivocationWith}
@@ -94,7 +95,7 @@ module _ (m : ℕ) where
       unfolding branched
       branched-aside c [] = refused-aside c 6 0
       branched-aside c (x ∷ xs) =
-          across otherOutcome (eqb (judgedAll sha256 (setupOf (c .replica)) x xs .number) 0)
+          across otherOutcome (eqb (judgedRun sha256 (setupOf (c .replica)) 0 none (x ∷ xs) .number) 0)
           (across otherOutcome (ltb (round (lastOf x xs)) (c .replica .round .0)) (refused-aside c 10 0)
           (placed-aside c x xs (attach (c .log) x (round x - 1)))) (refused-aside c _ _)
 

@@ -7,10 +7,10 @@ use mathlib.Core.Bool.{Bool, true}
 use Rattle.apollo.specs.declared.Setup.{Setup}
 use Rattle.apollo.specs.Setup.{replicas, leader, validRotation}
 use Rattle.apollo.specs.Frame.{round, digest}
-use Rattle.apollo.specs.BenchSheet.{block}
+use Rattle.apollo.specs.BlockRun.{block}
 use Rattle.apollo.specs.Enter.{State}
 use Rattle.apollo.proofs.Rotation.{leader-low}
-use Rattle.apollo.proofs.Judging.{block-parts}
+use Rattle.apollo.proofs.BlockRun.{block-parts}
 use Rattle.theorem_agreement.specs.Run.{Event, emitted, In, Seen, start, run}
 use Rattle.theorem_agreement.specs.Marks.{Equivocated}
 use Rattle.theorem_agreement.proofs.Good.{Extends}
