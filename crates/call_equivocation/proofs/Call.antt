@@ -94,10 +94,10 @@ module _ (r : Replica) (x : List ℕ) (v : Verdict) where
 
 pair-answer : (r : Replica) (bytes : List ℕ) → validRecord r ≡ true
     → answered r (firstFrame bytes) (judgedPair (setupOf r) bytes) ≡ equivocationCall r bytes
+unfolding answered judgedPair judgedTwo
 pair-answer r bytes t = go _ (by-case sha256 r bytes)
   where
     go : (a : Marked) → Case sha256 r bytes a → answered r (firstFrame bytes) (judgedPair (setupOf r) bytes) ≡ a
-    unfolding answered judgedPair judgedTwo
     go a (invalid-record v) = absurd (true≢false (sym t ∙ v))
     go a (not-pair v p) = rw p
     go a (faulty-frame v p j) = let n = ne-eqb (judged sha256 r bytes .number) 0 j in rw (p, n) (rw n)

@@ -102,10 +102,10 @@ module _ (c : State) (bytes : List ℕ) where
   Of m = If6 (uncut (isPair bytes) bytes ≡ []) (recordOnly c m)
 
   pair-6 : Of (equivocationWith sha256 (c .replica) bytes)
+  unfolding recordOnly
   pair-6 = go _ (by-case sha256 (c .replica) bytes)
     where
       go : (m : Marked) → Case sha256 (c .replica) bytes m → Of m
-      unfolding recordOnly
       go m (invalid-record v) z = absurd (omega (arith, z))
       go m (not-pair v p) z = unfold uncut in cond-false _ _ p
       go m (faulty-frame v p j) z =

@@ -187,6 +187,7 @@ module _ (c : State) (m : ℕ) where
 
   equivocation-aside : validRecord (withEquivocators (c .replica) m) ≡ validRecord (c .replica) → (bytes : List ℕ)
       → bare (equivocationWith sha256 (withEquivocators (c .replica) m) bytes) ≡ bare (equivocationWith sha256 (c .replica) bytes)
+  unfolding recordOnly remarkedOutcome
   equivocation-aside same bytes = go _ (by-case sha256 (c .replica) bytes)
     where
       is : (a : Marked) → Case sha256 (withEquivocators (c .replica) m) bytes a
@@ -195,7 +196,6 @@ module _ (c : State) (m : ℕ) where
 
       go : (a : Marked) → Case sha256 (c .replica) bytes a
           → bare (equivocationWith sha256 (withEquivocators (c .replica) m) bytes) ≡ bare a
-      unfolding recordOnly remarkedOutcome
       go a (invalid-record v) = is _ (invalid-record (same ∙ v))
       go a (not-pair v p) = is _ (not-pair (same ∙ v) p)
       go a (faulty-frame v p j) = is _ (faulty-frame (same ∙ v) p j)
