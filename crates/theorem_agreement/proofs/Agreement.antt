@@ -10,7 +10,7 @@ use lib.Dec.{leb, eqb}
 use borrow.Author.Tests.{leb-true, leb-false}
 use Rattle.sha256.specs.Fips.{sha256}
 use Rattle.apollo.specs.declared.Setup.{Setup}
-use Rattle.apollo.specs.Setup.{replicas}
+use Rattle.apollo.specs.Setup.{setup, replicas}
 use Rattle.apollo.specs.Frame.{signer, checked}
 use Rattle.apollo.specs.Log.{genesis, slot, chain}
 use Rattle.apollo.specs.Enter.{State, commitLimit}
@@ -19,12 +19,15 @@ use Rattle.apollo.specs.Outcome.{Outcome}
 use Rattle.theorem_agreement.specs.Run.{Call, opening, act, handed, emitted, In, Seen, World, start, framesIn, hand, after, opened, answer, callAt, step, run}
 use Rattle.apollo.specs.Calls.{openCall}
 use Rattle.theorem_agreement.specs.Premises.{Each, Lawful, Unforged, Premises}
-use Rattle.theorem_agreement.specs.Claim.{Agreement, Beginnings, ByRound, Near, NeverInvalid, OnlyGrows}
+use Rattle.theorem_agreement.specs.Claim.{Agreement, Beginnings, ByRound, Near, NeverInvalid, OnlyGrows, OpenedLeadersDiffer}
 use Rattle.theorem_agreement.proofs.Tests.{and-true, by-cond}
+use Rattle.theorem_agreement.proofs.Leaders.{leaders-differ}
 use Rattle.theorem_agreement.proofs.Slots.{chain-slots, chain-more, highest-le, highest-grows}
 use Rattle.theorem_agreement.proofs.Past.{Grows, seen-grows, hand-grows, Given, hand-back}
 use Rattle.theorem_agreement.proofs.Good.{Renewed, committed-low, Extends, extends-refl, extends-trans, limit-grows}
 use Rattle.theorem_agreement.proofs.Valid.{valid}
+use Rattle.theorem_agreement.proofs.Outcomes.{Fine}
+use Rattle.theorem_agreement.proofs.Open.{open-fine}
 use Rattle.theorem_agreement.proofs.World.{Inv, Stepped, note-grows, note-handed, step-stepped, start-inv, run-inv}
 use Rattle.theorem_agreement.proofs.Honest.{Honest, same-limit, committed-near, no-revert, emitted-stands}
 
@@ -261,3 +264,11 @@ beginnings s correct calls more p =
     seen : (x : List ℕ) → (x ≡ genesis) ⊎ Seen x (run start calls .past) → (x ≡ genesis) ⊎ Seen x (run start (calls ++ more) .past)
     seen x (inl e) = inl e
     seen x (inr q) = inr (seen-grows (run start calls .past) (run start (calls ++ more) .past) grows x q)
+
+pub opened-leaders-differ : OpenedLeadersDiffer
+unfolding start
+opened-leaders-differ id f timeout last rotation log masks entry out e =
+    let s : Setup = setup f last rotation in
+    let x : (c : State) × Fine s [] id c (openCall id f timeout last rotation log masks entry out) =
+    open-fine s [] id id f timeout last rotation log masks entry out .fine e refl refl refl refl (λ y p. p) (start-inv s .tidy) in
+    leaders-differ s (x .1 .standing .good .fixed .turns)

@@ -6,12 +6,13 @@ use mathlib.Core.Option.{some}
 use mathlib.Core.List.{List, [], _++_}
 use mathlib.Core.Bool.{Bool, true}
 use Rattle.apollo.specs.declared.Setup.{Setup}
-use Rattle.apollo.specs.Setup.{replicas, leader, validRotation}
+use Rattle.apollo.specs.Setup.{setup, replicas, leader, validRotation}
 use Rattle.apollo.specs.Frame.{kind, round}
 use Rattle.apollo.specs.Log.{slot, filled}
 use Rattle.apollo.specs.Replica.{validReplica, validMasks}
 use Rattle.apollo.specs.Enter.{State}
 use Rattle.apollo.specs.Committed.{committed, Begins}
+use Rattle.apollo.specs.Calls.{openCall}
 use Rattle.apollo.specs.Refusal.{badReplica, badLength, revertsCommitted}
 use Rattle.theorem_agreement.specs.Run.{Act, Call, emitted, answered, In, World, start, framesIn, answer, run}
 use Rattle.theorem_agreement.specs.Premises.{Each, Lawful, Premises}
@@ -75,8 +76,17 @@ OnlyGrows =
 abbrev pub CutHandsNothing : Type 0
 CutHandsNothing = (c : State) (a : Act) → answer c a .answer .number ≡ badLength → framesIn c a ≡ []
 
--- Document 02, F-4: "f + 1 rounds in a row have different leaders", and n even do. It is one law for every n and every rotation that
--- passes 17 at open and 2 later, and no list of calls is in it
+-- Document 02, F-4: "f + 1 rounds in a row have different leaders", and n even do
+abbrev pub DifferentLeaders : Setup → Type 0
+DifferentLeaders s = (r q : ℕ) → 1 ≤ r → r < q → q < r + replicas s → leader s r ≢ leader s q
+
+-- It is one law for every n and every rotation that passes 17 at open and 2 later, and no list of calls is in it
 abbrev pub LeadersDiffer : Type 0
-LeadersDiffer =
-    (s : Setup) → validRotation s ≡ true → (r q : ℕ) → 1 ≤ r → r < q → q < r + replicas s → leader s r ≢ leader s q
+LeadersDiffer = (s : Setup) → validRotation s ≡ true → DifferentLeaders s
+
+-- so for the rotation that is lent to any open that is taken
+abbrev pub OpenedLeadersDiffer : Type 0
+OpenedLeadersDiffer =
+    (id f timeout lastRound : ℕ) (rotation log masks entry out : List ℕ)
+    → openCall id f timeout lastRound rotation log masks entry out .answer .number ≡ 0
+    → DifferentLeaders (setup f lastRound rotation)
