@@ -15,34 +15,17 @@ use Rattle.apollo.specs.declared.Marked.{Marked}
 use Rattle.apollo.specs.declared.Verdict.{Verdict}
 use Rattle.apollo.specs.Bytes.{same}
 use Rattle.apollo.specs.Setup.{setupOf, leader}
-use Rattle.apollo.specs.Frame.{round, digest, blockForm, firstFrame}
+use Rattle.apollo.specs.Frame.{round, digest, framesOf, blockForm, firstFrame}
 use Rattle.apollo.specs.Replica.{withMark, validRecord}
-use Rattle.apollo.specs.Judging.{verdict, noRefusal, fault, judgedEach}
+use Rattle.apollo.specs.Judging.{verdict, noRefusal, judgedEach}
 use Rattle.apollo.specs.Equivocation.{marked, second, conflicting}
 use Rattle.apollo.specs.Calls.{equivocationCall}
 use Rattle.apollo.proofs.Tests.{cond-true, cond-false}
+use Rattle.apollo.proofs.Frames.{pair-frames}
 use Rattle.apollo.proofs.Rotation.{leader-low}
 use Rattle.apollo.proofs.Equivocation.{judged, Case, invalid-record, not-pair, faulty-frame, not-conflicting, leader-marked, by-case, case-is}
 use Rattle.apollo.proofs.Validity.{record-turns}
 use Rattle.call_equivocation.specs.Judge.{judgedTwo, judgedPair}
-
--- frame by frame
-module _ (s : Setup) (x y : List ℕ) (k : ℕ) (d : k ≡ fault sha256 (blockForm s) x) where
-  abbrev Each : Verdict → Type 0
-  Each v = v ≡ judgedEach sha256 (blockForm s) 0 (x ∷ y ∷ [])
-
-  pub first-bad : k ≢ 0 → Each (verdict k 0)
-  unfolding judgedEach
-  first-bad n = rw (← d, ne-eqb k 0 n)
-
-  module _ (z : k ≡ 0) (l : ℕ) (e : l ≡ fault sha256 (blockForm s) y) where
-    pub second-bad : l ≢ 0 → Each (verdict l 1)
-    unfolding judgedEach
-    second-bad n = rw (← d, eq-eqb k 0 z, ← e, ne-eqb l 0 n)
-
-    pub none-bad : l ≡ 0 → Each noRefusal
-    unfolding judgedEach
-    none-bad w = rw (← d, eq-eqb k 0 z, ← e, eq-eqb l 0 w)
 
 -- together
 module _ (x y : List ℕ) (p q : ℕ) (d : p ≡ round x) (e : q ≡ round y) where
@@ -54,29 +37,38 @@ module _ (x y : List ℕ) (p q : ℕ) (d : p ≡ round x) (e : q ≡ round y) wh
   unfolding conflicting
   one-round z b f = rw (← d, ← e, eq-eqb p q z, f)
 
-module _ (s : Setup) (x y : List ℕ) (v : Verdict) (d : v ≡ judgedEach sha256 (blockForm s) 0 (x ∷ y ∷ [])) where
-  pub two-faulty : v .number ≢ 0 → v ≡ judgedTwo s x y
+module _ (s : Setup) (bytes : List ℕ) (two : length bytes ≡ 1024) (v : Verdict)
+    (d : v ≡ judgedEach sha256 (blockForm s) 0 (framesOf bytes)) where
+  abbrev judgedBoth : Verdict
+  judgedBoth = judgedTwo s (firstFrame bytes) (second bytes)
+
+  each-is : v ≡ judgedEach sha256 (blockForm s) 0 (firstFrame bytes ∷ second bytes ∷ [])
+  each-is = d ∙ ap (judgedEach sha256 (blockForm s) 0) (pair-frames bytes two)
+
+  pub two-faulty : v .number ≢ 0 → v ≡ judgedBoth
   unfolding judgedTwo
-  two-faulty n = rw (← d, ne-eqb (v .number) 0 n)
+  two-faulty n = rw (← each-is, ne-eqb (v .number) 0 n)
 
-  module _ (z : v .number ≡ 0) (b : Bool) (e : b ≡ conflicting x y) where
-    pub two-alike : b ≡ false → verdict 18 0 ≡ judgedTwo s x y
-    unfolding judgedTwo
-    two-alike f = rw (← d, eq-eqb (v .number) 0 z, ← e, f)
+  module _ (z : v .number ≡ 0) (x y : List ℕ) (ex : x ≡ firstFrame bytes) (ey : y ≡ second bytes) (b : Bool) (e : b ≡ conflicting x y) where
+    conflict-is : b ≡ conflicting (firstFrame bytes) (second bytes)
+    conflict-is = rw (ex, ey) at e
 
-    pub two-conflicting : b ≡ true → noRefusal ≡ judgedTwo s x y
+    pub two-alike : b ≡ false → verdict 18 0 ≡ judgedBoth
     unfolding judgedTwo
-    two-conflicting t = rw (← d, eq-eqb (v .number) 0 z, ← e, t)
+    two-alike f = rw (← each-is, eq-eqb (v .number) 0 z, ← conflict-is, f)
+
+    pub two-conflicting : b ≡ true → noRefusal ≡ judgedBoth
+    unfolding judgedTwo
+    two-conflicting t = rw (← each-is, eq-eqb (v .number) 0 z, ← conflict-is, t)
 
 module _ (s : Setup) (bytes : List ℕ) where
   pub pair-cut : length bytes ≢ 1024 → verdict 6 0 ≡ judgedPair s bytes
   unfolding judgedPair
   pair-cut n = rw (ne-eqb (length bytes) 1024 n)
 
-  pub pair-whole : length bytes ≡ 1024 → (x y : List ℕ) (v : Verdict) → x ≡ firstFrame bytes → y ≡ second bytes → v ≡ judgedTwo s x y
-      → v ≡ judgedPair s bytes
+  pub pair-whole : length bytes ≡ 1024 → (v : Verdict) → v ≡ judgedTwo s (firstFrame bytes) (second bytes) → v ≡ judgedPair s bytes
   unfolding judgedPair
-  pair-whole l x y v a b e = rw (eq-eqb (length bytes) 1024 l, ← a, ← b, e)
+  pair-whole l v e = rw (eq-eqb (length bytes) 1024 l) e
 
 -- what the call answers to a pair so judged
 unfoldable pub answered : Replica → (x : List ℕ) → Verdict → Marked

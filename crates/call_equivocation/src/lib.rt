@@ -3,12 +3,11 @@ use apollo::Marked;
 use apollo::Replica;
 use apollo::Setup;
 use apollo::Verdict;
+use frame_forms::Form;
 ghost use mathlib.Core.Path.{_≡_};
-ghost use mathlib.Core.List.{[], _∷_};
-ghost use Rattle.sha256.specs.Fips.{sha256};
-ghost use Rattle.apollo.specs.Frame.{blockForm};
-ghost use Rattle.apollo.specs.Judging.{judgedEach};
-ghost use Rattle.apollo.specs.Equivocation.{marked, conflicting};
+ghost use lib.ListN.{length};
+ghost use Rattle.apollo.specs.Frame.{firstFrame};
+ghost use Rattle.apollo.specs.Equivocation.{marked, second, conflicting};
 ghost use Rattle.apollo.specs.Calls.{equivocationCall};
 ghost use Rattle.call_equivocation.specs.Judge.{judgedTwo, judgedPair};
 
@@ -19,24 +18,6 @@ fn answer(number: u8, place: u32, r: Replica) -> Marked
         number,
         place,
         replica: r,
-    }
-}
-
-// 7 and 8 of frame x, then of frame y.
-fn judge_each(s: Setup, x: &[u8], y: &[u8]) -> Verdict
-    ensures { λ v. ⌜ v ≡ judgedEach sha256 (blockForm s) 0 (now (x .entry) ∷ now (y .entry) ∷ []) ⌝ }
-{
-    let number = frame_forms::block_fault(s, x);
-    if number != 0 {
-        return Verdict { number, place: 0 };
-    }
-    let number = frame_forms::block_fault(s, y);
-    if number != 0 {
-        return Verdict { number, place: 1 };
-    }
-    Verdict {
-        number: 0,
-        place: 0,
     }
 }
 
@@ -51,14 +32,15 @@ fn is_conflicting(x: &[u8], y: &[u8]) -> bool
 }
 
 // 7 and 8 of both, then 18.
-fn judge_two(s: Setup, x: &[u8], y: &[u8]) -> Verdict
-    ensures { λ v. ⌜ v ≡ judgedTwo s (now (x .entry)) (now (y .entry)) ⌝ }
+fn judge_two(s: Setup, frames: &[u8]) -> Verdict
+    requires { ⌜ length (now frames) ≡ 1024 ⌝ }
+    ensures { λ v. ⌜ v ≡ judgedTwo s (firstFrame (now (frames .entry))) (second (now (frames .entry))) ⌝ }
 {
-    let each = judge_each(s, x, y);
+    let each = judging::judge_each(Form::Block, s, frames);
     if each.number != 0 {
         return each;
     }
-    if !is_conflicting(x, y) {
+    if !is_conflicting(slices::part(frames, 0, 512), slices::part(frames, 512, 512)) {
         return Verdict {
             number: apollo::refusal::NOT_EQUIVOCATION,
             place: 0,
@@ -80,11 +62,7 @@ fn judge_pair(s: Setup, frames: &[u8]) -> Verdict
             place: 0,
         };
     }
-    judge_two(
-        s,
-        slices::part(frames, 0, 512),
-        slices::part(frames, 512, 512),
-    )
+    judge_two(s, frames)
 }
 
 // Two frames are handed in: 2, 6, 7 and 8 of the first and of the second, 18; taken, the round's leader is marked.

@@ -8,11 +8,7 @@ returns : tie.Need-returns
 returns c = pair-cut _ _ (c .if1 .taken)
 
 returns-2 : tie.Need-returns-2
-returns-2 c =
-    let q = c .before in
-    let p = q .before in
-    pair-whole _ _ (p .before .if1 .left) _ _ _ (p .part .ensures) (q .part2 .ensures) (c .judge-two .ensures)
+returns-2 c = pair-whole _ _ (c .before .if1 .left) _ (c .judge-two .ensures)
 
 pub judge-pair-spec : {M : Type 1} → statement M
-judge-pair-spec =
-    tie.close (tie.spec returns (λ c κs. search needs) (λ c κs. search needs) (λ c κs. search needs) returns-2)
+judge-pair-spec = tie.close (tie.spec returns (λ c κs. search needs) returns-2)
