@@ -1,17 +1,17 @@
 -- Read as the code answers it. Assumes nothing.
 use mathlib.Core.Path.{_≡_, refl, sym, _∙_}
-use mathlib.Core.Bool.{Bool, true, false, not, cond}
+use mathlib.Core.Bool.{Bool, true, false, _&&_, not, cond}
 use mathlib.Core.List.{List}
 use Prim.Native.Nat.{ℕ, zero, suc, _+_, _-_, _*_, _≤_, _<_}
 use native.Mathlib.Omega.{arith}
-use lib.Dec.{eqb}
+use lib.Dec.{eqb, leb}
 use lib.ListN.{length}
 use borrow.Author.Tests.{eq-eqb, ne-eqb, eqb-false, leb-true, not-false}
 use Rattle.apollo.specs.declared.Replica.{Replica}
 use Rattle.apollo.specs.declared.Part.{Part}
 use Rattle.apollo.specs.Bytes.{part}
-use Rattle.apollo.specs.Frame.{entryLength}
-use Rattle.apollo.specs.Log.{slot}
+use Rattle.apollo.specs.Frame.{entryLength, height}
+use Rattle.apollo.specs.Log.{slot, filled}
 use Rattle.apollo.specs.Replica.{validReplica}
 use Rattle.apollo.specs.Read.{ReadOutcome, partOf, readable, lowest, readCall}
 use Rattle.apollo.proofs.Tests.{and-second, by-cond}
@@ -60,20 +60,28 @@ read-bytes r log h =
 lowest-found : (log : List ℕ) (h lo k : ℕ) → (lowest log h lo k ≡ 0 → ⊥)
     → (lowest log h lo k ≤ lo + k) × (readable (slot log (lowest log h lo k)) h ≡ true)
 unfolding lowest
-lowest-found log h lo zero n = absurd (n refl)
+lowest-found log h lo zero = λ n. absurd (n refl)
 lowest-found log h lo (suc k) =
     by-cond (λ q. (q ≡ 0 → ⊥) → (q ≤ lo + suc k) × (readable (slot log q) h ≡ true)) (readable (slot log (lo + 1)) h) (λ e n. (omega arith, e))
     (λ e n. let i : (lowest log h (lo + 1) k ≤ lo + 1 + k) × (readable (slot log (lowest log h (lo + 1) k)) h ≡ true) = lowest-found log h (lo + 1) k n in
     (omega (arith, i .0), i .1))
 
+entry-low : (x : List ℕ) (h : ℕ) → readable x h ≡ true → entryLength x ≤ 400
+unfolding readable
+entry-low x h e = leb-true (entryLength x) 400 (and-second (filled x && eqb (height x) h) (leb (entryLength x) 400) e)
+
 -- the part lies in the log, whole
 pub part-fits : (r : Replica) (log : List ℕ) (h : ℕ) → readCall r log h .answer .start + readCall r log h .answer .length ≤ length log
-unfolding readCall readable
+unfolding readCall
 part-fits r log h =
     let Fits : ReadOutcome → Type 0 = λ o. o .answer .start + o .answer .length ≤ length log in
     let q : ℕ = lowest log h 0 (r .«committed_round» .0) in
-    by-cond Fits (not (validReplica r log)) (λ e. omega arith) (λ v. by-cond Fits (eqb q 0) (λ z. omega arith) (λ n.
-    let i : (q ≤ r .«committed_round» .0) × (readable (slot log q) h ≡ true) = lowest-found log h 0 (r .«committed_round» .0) (eqb-false q 0 n) in
-    let b : 512 * r .«committed_round» .0 ≤ length log = committed-fits r log h true (sym (not-false _ v)) refl in
-    let l : entryLength (slot log q) ≤ 400 = leb-true (entryLength (slot log q)) 400 (and-second _ _ (i .1)) in
-    omega arith))
+    by-cond Fits (not (validReplica r log)) (λ _. omega arith)
+    (λ v. by-cond Fits (eqb q 0) (λ _. omega arith)
+    (λ n.
+    let some : (q ≡ 0 → ⊥) = eqb-false q 0 n in
+    let found : (q ≤ 0 + r .«committed_round» .0) × (readable (slot log q) h ≡ true) = lowest-found log h 0 (r .«committed_round» .0) some in
+    let within : 512 * r .«committed_round» .0 ≤ length log = committed-fits r log h true (sym (not-false _ v)) refl in
+    let g : 512 * (q - 1) + 44 + entryLength (slot log q) ≤ length log =
+    omega (arith, found .0, within, entry-low (slot log q) h (found .1)) in
+    g))

@@ -16,4 +16,4 @@ entryPart log r = record { number = 0; start = 512 * (r - 1) + 44; length = entr
 
 -- the place of the bytes of x from `start` on: the block of memory that x lies in, and the offset there
 abbrev pub placeIn : RefT (List ℕ) → (start : ℕ) → ℕ × ℕ
-placeIn x start = (x .ptr .0, x .ptr .1 + start)
+placeIn x start = (x .ptr .0, start + x .ptr .1)

@@ -20,8 +20,7 @@ returns c =
     let p = c .before .read-part .ensures in
     let log = c .before .before .before .args .log in (
       c .cut .ensures .0 ∙ (ap (λ (p : Part). part (log .now) (p .start) (p .length)) p ∙ read-bytes _ _ _),
-      c .cut .ensures .1 ∙ ap (λ (p : Part). placeIn log (p .start)) p,
-      ap (λ (p : Part). p .number) p,
+      (c .cut .ensures .1 ∙ ap (λ (p : Part). placeIn log (p .start)) p, ap (λ (p : Part). p .number) p),
     )
 
 pub read-spec : {M : Type 1} → statement M
