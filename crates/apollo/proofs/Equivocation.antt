@@ -1,6 +1,6 @@
 -- Equivocation by cases: what it answers, with what the tests before that showed. Assumes nothing.
 use Prim.Native.Nat.{ℕ}
-use mathlib.Core.Path.{_≡_, refl, sym, ap, _∙_}
+use mathlib.Core.Path.{_≡_}
 use mathlib.Core.Logic.{_≢_}
 use mathlib.Core.List.{List, [], _∷_}
 use mathlib.Core.Bool.{true, false, not}
@@ -14,7 +14,7 @@ use Rattle.apollo.specs.Frame.{round, blockForm, firstFrame}
 use Rattle.apollo.specs.Replica.{withMark, validRecord}
 use Rattle.apollo.specs.Judging.{judgedEach}
 use Rattle.apollo.specs.Equivocation.{marked, isPair, second, conflicting, accusing, equivocationWith}
-use Rattle.apollo.proofs.Tests.{by-cond, cond-true, cond-false}
+use Rattle.apollo.proofs.Tests.{by-cond}
 
 module _ (hash : List ℕ → List ℕ) (r : Replica) (bytes : List ℕ) where
   -- 7 and 8 of the two frames

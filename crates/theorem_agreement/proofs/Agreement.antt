@@ -16,10 +16,10 @@ use Rattle.apollo.specs.Log.{genesis, slot, chain}
 use Rattle.apollo.specs.Enter.{State, commitLimit}
 use Rattle.apollo.specs.Committed.{committed, Begins}
 use Rattle.apollo.specs.Outcome.{Outcome}
-use Rattle.theorem_agreement.specs.Run.{Call, opening, act, handed, emitted, In, Seen, World, start, framesIn, hand, after, opened, answer, callAt, step, run}
+use Rattle.theorem_agreement.specs.Run.{Call, opening, act, handed, emitted, In, Seen, World, isOpen, present, start, framesIn, hand, after, opened, answer, callAt, step, run}
 use Rattle.apollo.specs.Calls.{openCall}
 use Rattle.theorem_agreement.specs.Premises.{Each, Lawful, Unforged, Premises}
-use Rattle.theorem_agreement.specs.Claim.{Agreement, Beginnings, ByRound, Near, NeverInvalid, OnlyGrows, OpenedLeadersDiffer}
+use Rattle.theorem_agreement.specs.Claim.{Agreed, Agreement, AllCorrect, Beginnings, ByRound, Near, NeverInvalid, OnlyGrows, OpenedLeadersDiffer}
 use Rattle.theorem_agreement.proofs.Tests.{and-true, by-cond}
 use Rattle.theorem_agreement.proofs.Leaders.{leaders-differ}
 use Rattle.theorem_agreement.proofs.Slots.{chain-slots, chain-more, highest-le, highest-grows}
@@ -187,6 +187,20 @@ agreement s correct calls p =
       kept = λ a. let r = inv .reverting a in no-revert s correct (run start calls .past) h (r .0) (r .1) (r .2) (r .3);
       stands = λ i j x c q ci e k m. emitted-stands s correct (run start calls .past) h i j x c q (inv .good j c m) ci e k;
     }
+
+pub all-correct : AllCorrect
+unfolding present
+all-correct s calls p =
+    let a : Agreed (present w) w = agreement s (present w) calls p in
+    record { prefixes = a .prefixes; kept = a .kept; stands = λ i j x c q _ e. a .stands i j x c q (opened-it i x e (w .states i) refl) e }
+  where
+    w : World
+    w = run start calls
+
+    -- who emitted a frame has opened
+    opened-it : (i : ℕ) (x : List ℕ) → In (emitted i x) (w .past) → (c : Option State) → w .states i ≡ c → isOpen (w .states i) ≡ true
+    opened-it i x e none z = absurd (run-inv s calls start (p .lawful) (start-inv s) .asleep i z x e)
+    opened-it i x e (some c) z = ap isOpen z
 
 pub by-round : ByRound
 by-round s correct calls p i j c d ec ed = (

@@ -14,7 +14,7 @@ use Rattle.apollo.specs.Enter.{State}
 use Rattle.apollo.specs.Committed.{committed, Begins}
 use Rattle.apollo.specs.Calls.{openCall}
 use Rattle.apollo.specs.Refusal.{badReplica, badLength, revertsCommitted}
-use Rattle.theorem_agreement.specs.Run.{Act, Call, emitted, answered, In, World, start, framesIn, answer, run}
+use Rattle.theorem_agreement.specs.Run.{Act, Call, emitted, answered, In, World, present, start, framesIn, answer, run}
 use Rattle.theorem_agreement.specs.Premises.{Each, Lawful, Premises}
 
 -- the claim, of the world that the list leaves
@@ -32,6 +32,12 @@ pub record Agreed (correct : ℕ → Bool) (w : World) : Type 0 where
 abbrev pub Agreement : Type 0
 Agreement =
     (s : Setup) (correct : ℕ → Bool) (calls : List (ℕ × Call)) → Premises s correct calls → Agreed correct (run start calls)
+
+-- The same in document 01's own words. The list has "the calls at all sound cards", so all that open in it are counted as correct, and the
+-- claim is about the blocks of all; "each number below n that no sound card bears counts as one of the other cards, a missing card's too".
+abbrev pub AllCorrect : Type 0
+AllCorrect =
+    (s : Setup) (calls : List (ℕ × Call)) → Premises s (present (run start calls)) calls → Agreed (λ i. true) (run start calls)
 
 -- The claim is about the world after the last call. A beginning of a list that meets the premises meets them too, so the claim, and all
 -- that follows from the premises, holds after each call of the list

@@ -37,8 +37,8 @@ module _ (s : Setup) where
       × (padded rotation ≡ s .rotation)
   Lawful w i (act a) = (c : State) × (w .states i ≡ some c)
 
-  -- The replicas counted as correct ("sound"). Others may take part in the list if they keep the rules above; demand 3 is the case
-  -- where all that take part are counted.
+  -- The replicas counted as correct ("sound"). Others may take part in the list if they keep the rules above; in document 01's own
+  -- form of demand 3 all that take part are counted (`AllCorrect`).
   module _ (correct : ℕ → Bool) where
     -- at most f of the numbers below n are not a correct replica's: those are "the other cards", missing ones too
     abbrev pub Mostly : Type 0

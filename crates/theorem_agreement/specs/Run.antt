@@ -5,7 +5,7 @@ use mathlib.Core.Path.{_≡_}
 use mathlib.Core.Logic.{_⊎_}
 use mathlib.Core.Option.{Option, none, some}
 use mathlib.Core.List.{List, [], _∷_}
-use mathlib.Core.Bool.{Bool, cond}
+use mathlib.Core.Bool.{Bool, true, false, cond}
 use lib.Dec.{eqb}
 use Rattle.sha256.specs.Fips.{sha256}
 use Rattle.apollo.specs.declared.Marked.{Marked}
@@ -49,6 +49,14 @@ Seen x past = In (handed x) past ⊎ ((i : ℕ) × In (emitted i x) past)
 pub record World : Type 0 where
   pub states : ℕ → Option State
   pub past : List Event
+
+-- the replicas of a world: those that have opened
+abbrev pub isOpen : Option State → Bool
+isOpen none = false
+isOpen (some c) = true
+
+unfoldable pub present : World → ℕ → Bool
+present w i = isOpen (w .states i)
 
 -- before the first call
 unfoldable pub start : World

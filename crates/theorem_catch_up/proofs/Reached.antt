@@ -17,7 +17,7 @@ use Rattle.theorem_agreement.specs.Run.{Call, start, run}
 use Rattle.theorem_agreement.specs.Premises.{Premises}
 use Rattle.theorem_witness.proofs.Frames.{b1, b3, b4, m0, m2, checked1, checked-m0, checked-m2}
 use Rattle.theorem_witness.proofs.Answers.{out, all, opened-1, blaming-2, heard-0, skipped-0, skipped-2, last-0, last-2}
-use Rattle.theorem_witness.proofs.Witness.{setup, correct, first-six, first-seven, first-eight, first-ten, six-premises, seven-premises, eight-premises, ten-premises, six-leave, seven-leave, eight-leave, ten-leave}
+use Rattle.theorem_witness.proofs.Witness.{setup, correct, first-five, first-seven, first-eight, first-ten, five-premises, seven-premises, eight-premises, ten-premises, five-leave, seven-leave, eight-leave, ten-leave}
 use Rattle.theorem_catch_up.specs.CatchUp.{missing, received, beneath, Comes, Reached}
 
 early-blames : number (blamesCall opened-1 (m2 ++ m0) [] out) ≡ 14
@@ -55,7 +55,7 @@ unfolding setup all opened-1 blaming-2 heard-0 skipped-0 skipped-2 last-0 last-2
 reached =
     record {
       over = at first-ten ten-premises 0 2 last-0 last-2 (ten-leave .0) (ten-leave .1) (λ z. omega (arith, z)) b4 [] refl (verdict 3 0) refl;
-      behind = at first-six six-premises 0 2 heard-0 blaming-2 (six-leave .0) (six-leave .1) (λ z. omega (arith, z)) b1 [] refl (verdict 10 0) refl;
+      behind = at first-five five-premises 0 2 heard-0 blaming-2 (five-leave .0) (five-leave .1) (λ z. omega (arith, z)) b1 [] refl (verdict 10 0) refl;
       taken = at first-eight eight-premises 2 0 skipped-2 skipped-0 (eight-leave .1) (eight-leave .0) (λ z. omega (arith, z)) b3 [] refl (verdict 0 0) refl;
       waits = at first-seven seven-premises 2 0 blaming-2 skipped-0 (seven-leave .2) (seven-leave .0) (λ z. omega (arith, z)) b1 (b3 ∷ []) refl (verdict 13 2) refl;
       waits-for = refl;

@@ -1,13 +1,13 @@
 -- A list of calls that meets demand 3's premises, with SHA-256 itself and another rotation than the old turn, where a leader does
 -- nothing after its open, its round is blamed and skipped, one replica commits by blames alone, and two commit a block above that round.
--- At the end two blocks of the skipped round turn up, and their leader is marked. Its first six, seven, eight and ten calls meet the
--- premises too. Assumes nothing.
+-- At the end two blocks of the skipped round turn up, and their leader is marked. Its first five, six, seven, eight and ten calls meet
+-- the premises too, and of the first six all replicas are correct. Assumes nothing.
 use Prim.Native.Nat.{ℕ}
-use mathlib.Core.Path.{_≡_, refl, sym, ap, _∙_, subst}
+use mathlib.Core.Path.{_≡_, refl, sym, ap, _∙_, subst, fun-ext}
 use mathlib.Core.Logic.{_⊎_, inl, inr}
 use mathlib.Core.Option.{some}
 use mathlib.Core.List.{List, [], _∷_, _++_}
-use mathlib.Core.Bool.{Bool, false, not, cond}
+use mathlib.Core.Bool.{Bool, true, false, _||_, cond}
 use native.Mathlib.Omega.{arith}
 use lib.Dec.{eqb}
 use Rattle.apollo.specs.Bytes.{zeros, same}
@@ -21,18 +21,19 @@ use Rattle.apollo.specs.Enter.{State}
 use Rattle.apollo.specs.Committed.{committed}
 use Rattle.apollo.specs.Outcome.{stateOf}
 use Rattle.apollo.specs.Calls.{blamesCall}
-use Rattle.theorem_agreement.specs.Run.{Act, branch, blame, blames, tick, equivocation, Call, opening, act, Event, handed, emitted, answered, In, Seen, World, start, uncut, framesIn, emit, answer, run}
+use Rattle.theorem_agreement.specs.Run.{Act, branch, blame, blames, tick, equivocation, Call, opening, act, Event, handed, emitted, answered, In, Seen, World, isOpen, present, start, uncut, framesIn, emit, answer, run}
 use Rattle.theorem_agreement.specs.Premises.{Mostly, Patient, Distinct, Premises}
 use Rattle.theorem_agreement.specs.Claim.{Agreed}
-use Rattle.theorem_agreement.proofs.Agreement.{agreement, beginnings}
+use Rattle.theorem_agreement.proofs.Agreement.{agreement, all-correct, beginnings}
 use Rattle.theorem_witness.proofs.Frames.{d1, d2, d3, d4, e0, e2, b1, b2, b2′, b3, b4, m0, m2, checked1, checked2, checked2′, checked3, checked4, checked-m0, checked-m2}
 use Rattle.theorem_witness.proofs.Answers.{out, rotation, log0, all, opened-1, opened-2, opened-0, first-0, blaming-2, heard-0, skipped-0, skipped-2, last-2, last-0, marked-0, open-1, open-2, open-0, take-1, tick-2, hear-2, tick-0, hear-set, take-3, take-4, mark-1}
 use Rattle.theorem_witness.proofs.Worlds.{given, next, Goes, stay, then, goes, lawful, unforged, opens, acts, marks}
 
 -- The list: f = 1, T = 4, a timeout of one tick, the rotation 2, 1, 0; replica 1, the leader of round 2, is not correct.
---   1 opens, and hears nothing; 2 opens and emits block 1; 0 opens; 0 takes block 1
+--   2 opens and emits block 1; 0 opens; 0 takes block 1
 --   2 ticks and blames round 2; 0 hears that
 --   0 ticks and blames round 2, which is now certified: it enters round 3, emits block 3 on block 1 and commits block 1
+--   1 opens, and hears nothing
 --   2 hears both blames as a set, its own bit standing already: it passes round 2 and commits block 1
 --   2 takes block 3, emits block 4 and commits block 3; 0 takes block 4 and commits block 3
 --   0, whose rounds are over, is handed two blocks of round 2 that nobody here emitted, and marks 1
@@ -54,11 +55,14 @@ ticking = tick [] out
 accusing : List ℕ → Act
 accusing bs = equivocation bs
 
+pub first-five : List (ℕ × Call)
+first-five = (2, openAt 2) ∷ (0, openAt 0) ∷ (0, act (taking b1)) ∷ (2, act ticking) ∷ (0, act (hearing m2)) ∷ []
+
 pub first-six : List (ℕ × Call)
-first-six = (1, openAt 1) ∷ (2, openAt 2) ∷ (0, openAt 0) ∷ (0, act (taking b1)) ∷ (2, act ticking) ∷ (0, act (hearing m2)) ∷ []
+first-six = first-five ++ ((0, act ticking) ∷ [])
 
 pub first-seven : List (ℕ × Call)
-first-seven = first-six ++ ((0, act ticking) ∷ [])
+first-seven = first-six ++ ((1, openAt 1) ∷ [])
 
 pub first-eight : List (ℕ × Call)
 first-eight = first-seven ++ ((2, act (hearingSet (m2 ++ m0))) ∷ [])
@@ -74,25 +78,25 @@ calls = first-ten ++ ((0, act (accusing (b2 ++ b2′))) ∷ [])
 
 -- the worlds that it goes through
 w0 : World
-w0 = next start 1 [] opened-1 []
+w0 = next start 2 [] opened-2 (b1 ∷ [])
 
 w1 : World
-w1 = next w0 2 [] opened-2 (b1 ∷ [])
+w1 = next w0 0 [] opened-0 []
 
 w2 : World
-w2 = next w1 0 [] opened-0 []
+w2 = next w1 0 (b1 ∷ []) first-0 []
 
 w3 : World
-w3 = next w2 0 (b1 ∷ []) first-0 []
+w3 = next w2 2 [] blaming-2 (m2 ∷ [])
 
 w4 : World
-w4 = next w3 2 [] blaming-2 (m2 ∷ [])
+w4 = next w3 0 (m2 ∷ []) heard-0 []
 
 w5 : World
-w5 = next w4 0 (m2 ∷ []) heard-0 []
+w5 = next w4 0 [] skipped-0 (m0 ∷ b3 ∷ [])
 
 w6 : World
-w6 = next w5 0 [] skipped-0 (m0 ∷ b3 ∷ [])
+w6 = next w5 1 [] opened-1 []
 
 w7 : World
 w7 = next w6 2 (m2 ∷ m0 ∷ []) skipped-2 []
@@ -107,7 +111,7 @@ w10 : World
 w10 = next w9 0 (b2 ∷ b2′ ∷ []) marked-0 []
 
 worlds : Unit {0}
-unfolding openAt taking hearing hearingSet ticking accusing first-six first-seven first-eight last-two first-ten calls start given next emit w0 w1 w2 w3 w4 w5 w6 w7 w8 w9 w10
+unfolding openAt taking hearing hearingSet ticking accusing first-five first-six first-seven first-eight last-two first-ten calls start given next emit w0 w1 w2 w3 w4 w5 w6 w7 w8 w9 w10
 worlds = tt
 
 -- replicas 0 and 2 are correct
@@ -115,26 +119,33 @@ unfoldable pub setup : Setup
 setup = record { f = 1; «last_round» = record { 0 = 4 }; rotation = padded rotation }
 
 unfoldable pub correct : ℕ → Bool
-correct i = not (eqb i 1)
+correct i = eqb 0 i || eqb 2 i
 
 -- a frame was emitted by the replica that it names
 by : (x : List ℕ) (i : ℕ) → signer x ≡ i → emitted (signer x) x ≡ emitted i x
 by x i e = ap (λ k. emitted k x) e
 
-six : Goes setup correct start first-six w5
-unfolding worlds setup framesIn uncut answer all opened-1 opened-2 opened-0 first-0 blaming-2 heard-0
-six =
-    opens setup correct start 1 1 rotation log0 (zeros 4) [] opened-1 [] refl refl open-1 tt
-    (opens setup correct w0 2 1 rotation log0 (zeros 4) [] opened-2 (b1 ∷ []) refl refl open-2 (refl, tt)
-    (opens setup correct w1 0 1 rotation log0 (zeros 4) [] opened-0 [] refl refl open-0 tt
-    (acts setup correct w2 0 (taking b1) opened-0 first-0 (b1 ∷ []) [] refl refl (checked1, tt) (inr (inr (inl (by b1 2 refl))), tt) take-1 tt
-    (acts setup correct w3 2 ticking opened-2 blaming-2 [] (m2 ∷ []) refl refl tt tt tick-2 (refl, tt)
-    (acts setup correct w4 0 (hearing m2) first-0 heard-0 (m2 ∷ []) [] refl refl (checked-m2, tt) (inr (inl (by m2 2 refl)), tt) hear-2 tt
-    stay)))))
+five : Goes setup correct start first-five w4
+unfolding worlds setup framesIn uncut answer all opened-2 opened-0 first-0 blaming-2 heard-0
+five =
+    opens setup correct start 2 1 rotation log0 (zeros 4) [] opened-2 (b1 ∷ []) refl refl open-2 (refl, tt)
+    (opens setup correct w0 0 1 rotation log0 (zeros 4) [] opened-0 [] refl refl open-0 tt
+    (acts setup correct w1 0 (taking b1) opened-0 first-0 (b1 ∷ []) [] refl refl (checked1, tt) (inr (inr (inl (by b1 2 refl))), tt) take-1 tt
+    (acts setup correct w2 2 ticking opened-2 blaming-2 [] (m2 ∷ []) refl refl tt tt tick-2 (refl, tt)
+    (acts setup correct w3 0 (hearing m2) first-0 heard-0 (m2 ∷ []) [] refl refl (checked-m2, tt) (inr (inl (by m2 2 refl)), tt) hear-2 tt
+    stay))))
 
-seventh : Goes setup correct w5 ((0, act ticking) ∷ []) w6
+sixth : Goes setup correct w4 ((0, act ticking) ∷ []) w5
 unfolding worlds setup framesIn uncut answer all heard-0 skipped-0
-seventh = acts setup correct w5 0 ticking heard-0 skipped-0 [] (m0 ∷ b3 ∷ []) refl refl tt tt tick-0 (refl, (refl, tt)) stay
+sixth = acts setup correct w4 0 ticking heard-0 skipped-0 [] (m0 ∷ b3 ∷ []) refl refl tt tt tick-0 (refl, (refl, tt)) stay
+
+six : Goes setup correct start first-six w5
+unfolding first-six
+six = then setup correct five sixth
+
+seventh : Goes setup correct w5 ((1, openAt 1) ∷ []) w6
+unfolding worlds setup all opened-1
+seventh = opens setup correct w5 1 1 rotation log0 (zeros 4) [] opened-1 [] refl refl open-1 tt stay
 
 seven : Goes setup correct start first-seven w6
 unfolding first-seven
@@ -144,7 +155,7 @@ eighth : Goes setup correct w6 ((2, act (hearingSet (m2 ++ m0))) ∷ []) w7
 unfolding worlds setup framesIn uncut answer all blaming-2 skipped-0 skipped-2
 eighth =
     acts setup correct w6 2 (hearingSet (m2 ++ m0)) blaming-2 skipped-2 (m2 ∷ m0 ∷ []) [] refl refl (checked-m2, (checked-m0, tt))
-    (inr (inr (inr (inr (inr (inr (inl (by m2 2 refl))))))), (inr (inr (inl (by m0 0 refl))), tt)) hear-set tt stay
+    (inr (inr (inr (inr (inr (inr (inr (inl (by m2 2 refl)))))))), (inr (inr (inr (inl (by m0 0 refl)))), tt)) hear-set tt stay
 
 eight : Goes setup correct start first-eight w7
 unfolding first-eight
@@ -154,7 +165,7 @@ two : Goes setup correct w7 last-two w9
 unfolding worlds setup framesIn uncut answer all skipped-0 skipped-2
 two =
     acts setup correct w7 2 (taking b3) skipped-2 last-2 (b3 ∷ []) (b4 ∷ []) refl refl (checked3, tt)
-    (inr (inr (inr (inr (inl (by b3 0 refl))))), tt) take-3 (refl, tt)
+    (inr (inr (inr (inr (inr (inl (by b3 0 refl)))))), tt) take-3 (refl, tt)
     (acts setup correct w8 0 (taking b4) skipped-0 last-0 (b4 ∷ []) [] refl refl (checked4, tt) (inr (inl (by b4 2 refl)), tt) take-4 tt
     stay)
 
@@ -217,7 +228,7 @@ is-other = inr (inr (inr (inr (inr (inr refl)))))
 
 known-all : KnownAll (w10 .past)
 unfolding worlds
-known-all = (tt, (is-other, (is-one, (tt, (is4, (tt, (is4, (is3, (tt, (is0, (is2, (tt, (is3, (is0, (tt, (is2, (tt, (is2, (tt, (is1, (tt, (tt, (is1, (tt, tt))))))))))))))))))))))))
+known-all = (tt, (is-other, (is-one, (tt, (is4, (tt, (is4, (is3, (tt, (is0, (is2, (tt, (tt, (is3, (is0, (tt, (is2, (tt, (is2, (tt, (is1, (tt, (tt, (is1, tt))))))))))))))))))))))))
 
 known : (e : Event) → In e (run start calls .past) → Known e
 known e p = known-in (w10 .past) known-all e (subst (λ (w : World). In e (w .past)) (goes setup correct steps) p)
@@ -341,7 +352,7 @@ pub commits : (committed marked-0 ≡ b1 ∷ b3 ∷ []) × (committed last-2 ≡
 unfolding all last-0 marked-0 last-2 committed chain
 commits = (refl, refl)
 
--- The first ten, eight, seven and six calls meet the premises too.
+-- The first ten, eight, seven, six and five calls meet the premises too.
 pub ten-premises : Premises setup correct first-ten
 unfolding calls
 ten-premises = beginnings setup correct first-ten _ premises
@@ -358,12 +369,36 @@ pub six-premises : Premises setup correct first-six
 unfolding first-seven
 six-premises = beginnings setup correct first-six _ seven-premises
 
--- Six leave replica 2 with its blame of round 2, and replica 0 with that one alone.
-pub six-leave : Leaves first-six 0 heard-0 × Leaves first-six 2 blaming-2
+pub five-premises : Premises setup correct first-five
+unfolding first-six
+five-premises = beginnings setup correct first-five _ six-premises
+
+-- Five leave replica 2 with its blame of round 2, and replica 0 with that one alone.
+pub five-leave : Leaves first-five 0 heard-0 × Leaves first-five 2 blaming-2
 unfolding worlds
-six-leave =
-    let e : (i : ℕ) → run start first-six .states i ≡ w5 .states i = λ i. ap (λ (w : World). w .states i) (goes setup correct six) in
+five-leave =
+    let e : (i : ℕ) → run start first-five .states i ≡ w4 .states i = λ i. ap (λ (w : World). w .states i) (goes setup correct five) in
     (e 0, e 2)
+
+-- Six are a list in document 01's own words: replicas 0 and 2 are all that open in it, and both are correct; replica 1 is missing.
+all-present : (i : ℕ) → isOpen (w5 .states i) ≡ correct i
+unfolding worlds correct
+all-present i = go (eqb 0 i) refl (eqb 2 i) refl
+  where
+    go : (b : Bool) → eqb 0 i ≡ b → (d : Bool) → eqb 2 i ≡ d → isOpen (w5 .states i) ≡ (eqb 0 i || eqb 2 i)
+    go true e d f = rw e
+    go false e true f = rw (e, f)
+    go false e false f = rw (e, f)
+
+present-six : present (run start first-six) ≡ correct
+unfolding present
+present-six = fun-ext (λ i. ap (λ (w : World). isOpen (w .states i)) (goes setup correct six) ∙ all-present i)
+
+pub all-counted : Premises setup (present (run start first-six)) first-six
+all-counted = subst (λ p. Premises setup p first-six) (sym present-six) six-premises
+
+pub all-agreed : Agreed (λ i. true) (run start first-six)
+all-agreed = all-correct setup first-six all-counted
 
 -- Seven leave replica 1 where it opened, replica 2 with its blame of round 2, and replica 0 waiting for round 4, with round 2 skipped.
 pub seven-leave : Leaves first-seven 0 skipped-0 × Leaves first-seven 1 opened-1 × Leaves first-seven 2 blaming-2
