@@ -14,11 +14,11 @@ use Rattle.sha256.specs.Fips.{sha256}
 use Rattle.apollo.specs.declared.Replica.{Replica}
 use Rattle.apollo.specs.Bytes.{number4, zeros, same}
 use Rattle.apollo.specs.Rotation.{inTurn, padded}
-use Rattle.apollo.specs.Setup.{replicas, leader, setup, setupOf}
+use Rattle.apollo.specs.Setup.{replicas, leader, setup, setupOf, validLimits}
 use Rattle.apollo.specs.Frame.{kind, signer, round, height, parent, digest, linked, sealed, blameHead, makeBlock, makeBlame}
 use Rattle.apollo.specs.Log.{genesis, slot, filled, store, clearAbove, attach, highest}
 use Rattle.apollo.specs.Masks.{bit, mask, addBlame}
-use Rattle.apollo.specs.Replica.{fresh, leads, validNumbers, validSetup, withCommitted}
+use Rattle.apollo.specs.Replica.{fresh, leads, validOwn, validOpening, withCommitted}
 use Rattle.apollo.specs.Enter.{State, Effect, commitLimit, commit, tipped, hearing, holding, entered, ownBlock, proposing, enterRound, settle}
 use Rattle.apollo.specs.Outcome.{taken, stateOf}
 use Rattle.apollo.specs.BlockRun.{lastOf, block}
@@ -285,7 +285,7 @@ no-blocks = record { size = length-zeros 3072; slots = λ k l. let z : k ≡ 0 =
 unfoldable pub opening : (id : ℕ) → State
 opening id = stateOf (openCall id 1 2 6 (turn 1) (zeros 3072) (zeros 6) [] out)
 
-opened : (id : ℕ) → validSetup (fresh id 1 2 6 (turn 1)) (zeros 3072) ≡ true
+opened : (id : ℕ) → validOpening (fresh id 1 2 6 (turn 1)) (zeros 3072) ≡ true
     → opening id ≡ enterRound sha256 [] (state id 0 (zeros 3072) (zeros 6)) .state
 unfolding opening out taken fresh
 opened id valid =
@@ -296,14 +296,14 @@ pub opening-0 : Made (opening 0) 0 1 (zeros 6)
 opening-0 =
     let m : Made (enterRound sha256 [] (state 0 0 (zeros 3072) (zeros 6)) .state) 0 1 (zeros 6) =
     entered-leads 0 0 0 (zeros 3072) (zeros 6) (omega arith) no-blocks refl (unfold leads leader padded inTurn zeros in refl) in
-    record { log = m .log; is = opened 0 (unfold validSetup validNumbers fresh zeros in refl) ∙ m .is; holds = m .holds }
+    record { log = m .log; is = opened 0 (unfold validOpening validLimits validOwn fresh zeros in refl) ∙ m .is; holds = m .holds }
 
 pub opening-1 : Made (opening 1) 1 0 (zeros 6)
 opening-1 =
     record {
       log = zeros 3072;
       is =
-          opened 1 (unfold validSetup validNumbers fresh zeros in refl)
+          opened 1 (unfold validOpening validLimits validOwn fresh zeros in refl)
           ∙ entered-waits 1 0 0 (zeros 3072) (zeros 6) (omega arith) no-blocks (unfold leads leader padded inTurn zeros in refl);
       holds = no-blocks;
     }

@@ -17,7 +17,7 @@ use Rattle.apollo.specs.Rotation.{isRotation, padded}
 use Rattle.apollo.specs.Setup.{leader, setup}
 use Rattle.apollo.specs.Frame.{round, height, digest, sealed, blockHead, makeBlock}
 use Rattle.apollo.specs.Log.{slot, genesis, store, highest}
-use Rattle.apollo.specs.Replica.{fresh, zeroReplica, leads, validSetup, validReplica, validMasks}
+use Rattle.apollo.specs.Replica.{fresh, zeroReplica, leads, validOpening, validReplica, validMasks}
 use Rattle.apollo.specs.Enter.{State, Effect, commitLimit, commit, tipped, holding, entered, ownBlock, proposing, enterRound}
 use Rattle.apollo.specs.Outcome.{Outcome, refused, taken, guarded, stateOf}
 use Rattle.apollo.specs.Open.{openWith}
@@ -27,7 +27,7 @@ use Rattle.apollo.specs.BenchSheet.{turn, number, newRound}
 use Rattle.apollo.specs.BlockRun.{block}
 use Rattle.apollo.proofs.Tests.{both, cond-true, cond-false}
 use Rattle.apollo.proofs.Rotation.{turn-rotation, turn-seat, padded-valid}
-use Rattle.apollo.proofs.Validity.{ValidSetup, valid-setup, valid-of}
+use Rattle.apollo.proofs.Validity.{ValidOpening, valid-opening, valid-of}
 use Rattle.apollo.proofs.Slots.{length-zeros, length-store}
 use Rattle.apollo.proofs.Made.{block-length, block-made}
 
@@ -38,7 +38,7 @@ unopened log masks = record { replica = zeroReplica; log = log; masks = masks }
 abbrev opened : (id f timeout T : ℕ) (rotation : List ℕ) → State
 opened id f timeout T rotation = record { replica = fresh id f timeout T rotation; log = zeros (512 * T); masks = zeros T }
 
-module _ (id f timeout T : ℕ) (rotation log masks entry out : List ℕ) (valid : validSetup (fresh id f timeout T rotation) log ≡ true)
+module _ (id f timeout T : ℕ) (rotation log masks entry out : List ℕ) (valid : validOpening (fresh id f timeout T rotation) log ≡ true)
     (lent : validMasks (fresh id f timeout T rotation) masks ≡ true) (turns : isRotation (2 * f + 1) rotation ≡ true)
     (room : 1024 ≤ length out) where
   opens : openCall id f timeout T rotation log masks entry out
@@ -47,8 +47,8 @@ module _ (id f timeout T : ℕ) (rotation log masks entry out : List ℕ) (valid
   unfolding openWith fresh
   opens =
       let r : Replica = fresh id f timeout T rotation in
-      let v : not (validSetup r log && validMasks r masks) ≡ false =
-      ap not (both (validSetup r log) (validMasks r masks) valid lent) in
+      let v : not (validOpening r log && validMasks r masks) ≡ false =
+      ap not (both (validOpening r log) (validMasks r masks) valid lent) in
       cond-false _ _ v ∙ cond-false _ _ (ap not turns) ∙ cond-false _ _ (le-ltb (length out) 1024 room)
 
   pub open-fits : length entry ≤ 400
@@ -63,7 +63,7 @@ module _ (id f timeout T : ℕ) (rotation log masks entry out : List ℕ) (valid
   unfolding refused
   open-401 l = ap number (opens ∙ cond-true _ _ (lt-ltb 400 (length entry) (omega arith)))
 
-module _ (f timeout : ℕ) (log masks entry out : List ℕ) (valid : validSetup (fresh 0 f timeout 1 (turn f)) log ≡ true)
+module _ (f timeout : ℕ) (log masks entry out : List ℕ) (valid : validOpening (fresh 0 f timeout 1 (turn f)) log ≡ true)
     (lent : validMasks (fresh 0 f timeout 1 (turn f)) masks ≡ true) (room : 1024 ≤ length out) (l : length entry ≤ 400) where
   new : State
   new = opened 0 f timeout 1 (turn f)
@@ -134,7 +134,7 @@ module _ (f timeout : ℕ) (log masks entry out : List ℕ) (valid : validSetup 
   left-valid : validReplica (left .replica) (left .log) ≡ true
   unfolding new first left stored entered proposing holding tipped commit commitLimit fresh leads
   left-valid =
-      let s : ValidSetup (fresh 0 f timeout 1 (turn f)) log = valid-setup (fresh 0 f timeout 1 (turn f)) log valid in
+      let s : ValidOpening (fresh 0 f timeout 1 (turn f)) log = valid-opening (fresh 0 f timeout 1 (turn f)) log valid in
       let low : 1 ≤ f = s .f-least in
       let c : (highest stored (1 - f) ≡ 0) × (height (slot stored (highest stored (1 - f))) ≡ 0) =
       none-committed (1 - f) (omega arith) in

@@ -21,7 +21,7 @@ use Rattle.apollo.specs.Tick.{blaming, ticked, tickWith}
 use Rattle.apollo.specs.Calls.{tickCall}
 use Rattle.apollo.specs.BenchSheet.{Callable, Blames, Item3, number, newCommitted}
 use Rattle.apollo.proofs.Tests.{and-first, both, by-cond, cond-true, cond-false}
-use Rattle.apollo.proofs.Validity.{ValidSetup, Valid, valid, valid-of}
+use Rattle.apollo.proofs.Validity.{ValidOpening, Valid, valid, valid-of}
 use Rattle.apollo.proofs.Judging.{passes}
 use Rattle.apollo.proofs.Slots.{slot-length, store-other}
 use Rattle.apollo.proofs.Made.{block-length, blame-length, blame-round, blame-form, blame-checked}
@@ -81,7 +81,7 @@ lower : {s : State} {out : List ℕ} → Callable s out → (out′ : List ℕ) 
 unfolding waiting leads
 lower {s} c out′ room n l =
     let f : Valid (s .replica) (s .log) = valid (s .replica) (s .log) (c .valid) in
-    let g : ValidSetup (s .replica) (s .log) = f .setup in
+    let g : ValidOpening (s .replica) (s .log) = f .setup in
     record {
       valid =
           valid-of (withTimer (withRound (s .replica) (s .replica .round .0)) n) (s .log) (record {

@@ -3,17 +3,25 @@ use Prim.Native.Nat.{ℕ, _+_, _*_, _^_, _≤_, _<_}
 use mathlib.Core.Path.{_≡_, ap}
 use mathlib.Core.List.{List}
 use mathlib.Core.Bool.{true, false, _&&_, not}
-use lib.ListN.{length, length-replicate}
+use lib.ListN.{length}
 use lib.Dec.{eqb, leb, ltb}
 use borrow.Author.Tests.{ltb-true, leb-true, eqb-true, lt-ltb, le-leb, eq-eqb, not-true}
 use Rattle.apollo.specs.declared.Replica.{Replica}
-use Rattle.apollo.specs.Bytes.{zeros, within}
-use Rattle.apollo.specs.Setup.{setupOf, replicas, validRotation}
-use Rattle.apollo.specs.Replica.{leads, validNumbers, validRounds, validMarks, validRecord, validLog, validSetup, validReplica}
+use Rattle.apollo.specs.declared.Setup.{Setup}
+use Rattle.apollo.specs.Bytes.{within}
+use Rattle.apollo.specs.Setup.{setupOf, replicas, validRotation, validLimits, validSetup}
+use Rattle.apollo.specs.Replica.{leads, validOwn, validRounds, validMarks, validRecord, validLog, validOpening, validReplica}
 use Rattle.apollo.proofs.Tests.{and-true, both, within-true, within-of}
 
+-- f and T are in range
+pub record Limits (s : Setup) : Type 0 where
+  pub f-least : 1 ≤ s .f
+  pub f-most : s .f ≤ 7
+  pub last-least : 1 ≤ s .«last_round» .0
+  pub last-most : s .«last_round» .0 ≤ 4096
+
 -- own number, f, wait, T and the length of the log are in range
-pub record ValidSetup (r : Replica) (log : List ℕ) : Type 0 where
+pub record ValidOpening (r : Replica) (log : List ℕ) : Type 0 where
   pub id-below : r .id < 2 * r .f + 1
   pub f-least : 1 ≤ r .f
   pub f-most : r .f ≤ 7
@@ -25,7 +33,7 @@ pub record ValidSetup (r : Replica) (log : List ℕ) : Type 0 where
 
 -- the other fields are
 pub record Valid (r : Replica) (log : List ℕ) : Type 0 where
-  pub setup : ValidSetup r log
+  pub setup : ValidOpening r log
   pub rotation : validRotation (setupOf r) ≡ true
   pub round-least : 1 ≤ r .round .0
   pub round-most : r .round .0 ≤ r .«last_round» .0 + 1
@@ -38,66 +46,67 @@ pub record Valid (r : Replica) (log : List ℕ) : Type 0 where
   pub marks : r .equivocators < 2 ^ replicas (setupOf r)
   pub waits : leads r ≡ false
 
-pub valid-setup : (r : Replica) (log : List ℕ) → validSetup r log ≡ true → ValidSetup r log
-unfolding validSetup validNumbers
-valid-setup r log e =
+pub limits : (s : Setup) → validLimits s ≡ true → Limits s
+unfolding validLimits
+limits s e =
+    let a = and-true (within 1 (s .f) 7) (within 1 (s .«last_round» .0) 4096) e in
+    let f = within-true 1 (s .f) 7 (a .0) in
+    let l = within-true 1 (s .«last_round» .0) 4096 (a .1) in
+    record { f-least = f .0; f-most = f .1; last-least = l .0; last-most = l .1 }
+
+pub valid-opening : (r : Replica) (log : List ℕ) → validOpening r log ≡ true → ValidOpening r log
+unfolding validOpening validOwn
+valid-opening r log e =
     let a = and-true _ (eqb (length log) (512 * r .«last_round» .0)) e in
-    let b = and-true _ (within 1 (r .«last_round» .0) 4096) (a .0) in
-    let c = and-true _ (within 1 (r .timeout .0) 60000) (b .0) in
-    let d = and-true (ltb (r .id) (replicas (setupOf r))) (within 1 (r .f) 7) (c .0) in
-    let f : (1 ≤ r .f) × (r .f ≤ 7) = within-true 1 (r .f) 7 (d .1) in
+    let b = and-true (validLimits (setupOf r)) _ (a .0) in
+    let c = and-true (ltb (r .id) (replicas (setupOf r))) (within 1 (r .timeout .0) 60000) (b .1) in
+    let l : Limits (setupOf r) = limits (setupOf r) (b .0) in
     let t : (1 ≤ r .timeout .0) × (r .timeout .0 ≤ 60000) = within-true 1 (r .timeout .0) 60000 (c .1) in
-    let l : (1 ≤ r .«last_round» .0) × (r .«last_round» .0 ≤ 4096) = within-true 1 (r .«last_round» .0) 4096 (b .1) in
     record {
-      id-below = ltb-true (r .id) (replicas (setupOf r)) (d .0);
-      f-least = f .0;
-      f-most = f .1;
+      id-below = ltb-true (r .id) (replicas (setupOf r)) (c .0);
+      f-least = l .f-least;
+      f-most = l .f-most;
       timeout-least = t .0;
       timeout-most = t .1;
-      last-least = l .0;
-      last-most = l .1;
+      last-least = l .last-least;
+      last-most = l .last-most;
       size = eqb-true (length log) (512 * r .«last_round» .0) (a .1);
     }
 
-setup-of : (r : Replica) (log : List ℕ) → ValidSetup r log → validNumbers r ≡ true
-unfolding validNumbers
-setup-of r log s =
-    both _ (within 1 (r .«last_round» .0) 4096)
-    (both _ (within 1 (r .timeout .0) 60000)
-    (both (ltb (r .id) (replicas (setupOf r))) (within 1 (r .f) 7)
-    (lt-ltb (r .id) (replicas (setupOf r)) (s .id-below))
-    (within-of 1 (r .f) 7 (s .f-least) (s .f-most)))
-    (within-of 1 (r .timeout .0) 60000 (s .timeout-least) (s .timeout-most)))
-    (within-of 1 (r .«last_round» .0) 4096 (s .last-least) (s .last-most))
+opening-of : (r : Replica) (log : List ℕ) → ValidOpening r log → (validLimits (setupOf r) ≡ true) × (validOwn r ≡ true)
+unfolding validLimits validOwn
+opening-of r log s = (
+  both (within 1 (r .f) 7) (within 1 (r .«last_round» .0) 4096) (within-of 1 (r .f) 7 (s .f-least) (s .f-most))
+      (within-of 1 (r .«last_round» .0) 4096 (s .last-least) (s .last-most)),
+  both (ltb (r .id) (replicas (setupOf r))) (within 1 (r .timeout .0) 60000) (lt-ltb (r .id) (replicas (setupOf r)) (s .id-below))
+      (within-of 1 (r .timeout .0) 60000 (s .timeout-least) (s .timeout-most)),
+)
 
 -- the parts of a record's test
 record Parts (r : Replica) : Type 0 where
-  numbers : validNumbers r ≡ true
+  limited : validLimits (setupOf r) ≡ true
   rotation : validRotation (setupOf r) ≡ true
+  own : validOwn r ≡ true
   rounds : validRounds r ≡ true
   marks : validMarks r ≡ true
   waits : leads r ≡ false
 
 parts : (r : Replica) → validRecord r ≡ true → Parts r
-unfolding validRecord
+unfolding validRecord validSetup
 parts r e =
     let a = and-true _ (not (leads r)) e in
     let m = and-true _ (validMarks r) (a .0) in
     let v = and-true _ (validRounds r) (m .0) in
-    let n = and-true (validNumbers r) (validRotation (setupOf r)) (v .0) in
-    record { numbers = n .0; rotation = n .1; rounds = v .1; marks = m .1; waits = not-true (leads r) (a .1) }
+    let o = and-true _ (validOwn r) (v .0) in
+    let n = and-true (validLimits (setupOf r)) (validRotation (setupOf r)) (o .0) in
+    record { limited = n .0; rotation = n .1; own = o .1; rounds = v .1; marks = m .1; waits = not-true (leads r) (a .1) }
 
 -- a record by itself: few cards, whose rotation is valid
 pub record-turns : (r : Replica) → validRecord r ≡ true → (r .f ≤ 7) × (validRotation (setupOf r) ≡ true)
-unfolding validSetup zeros
-record-turns r e =
-    let p : Parts r = parts r e in
-    let log : List ℕ = zeros (512 * r .«last_round» .0) in
-    let l : validLog r log ≡ true = eq-eqb _ _ (length-replicate {A = ℕ} (512 * r .«last_round» .0) 0) in
-    (valid-setup r log (both (validNumbers r) (validLog r log) (p .numbers) l) .f-most, p .rotation)
+record-turns r e = let p : Parts r = parts r e in (limits (setupOf r) (p .limited) .f-most, p .rotation)
 
 pub valid : (r : Replica) (log : List ℕ) → validReplica r log ≡ true → Valid r log
-unfolding validReplica validSetup validRounds
+unfolding validReplica validOpening validRounds
 valid r log e =
     let z = and-true (validRecord r) (validLog r log) e in
     let p : Parts r = parts r (z .0) in
@@ -110,7 +119,10 @@ valid r log e =
     let w : (1 ≤ r .round .0) × (r .round .0 ≤ r .«last_round» .0 + 1) =
     within-true 1 (r .round .0) (r .«last_round» .0 + 1) (k .0) in
     record {
-      setup = valid-setup r log (both (validNumbers r) (validLog r log) (p .numbers) (z .1));
+      setup =
+          valid-opening r log
+          (both (validLimits (setupOf r) && validOwn r) (validLog r log)
+          (both (validLimits (setupOf r)) (validOwn r) (p .limited) (p .own)) (z .1));
       rotation = p .rotation;
       round-least = w .0;
       round-most = w .1;
@@ -142,13 +154,15 @@ rounds-of r log s =
     (le-leb (r .«committed_height» .0) (r .«committed_round» .0) (s .committed-height))
 
 pub valid-of : (r : Replica) (log : List ℕ) → Valid r log → validReplica r log ≡ true
-unfolding validReplica validRecord
+unfolding validReplica validRecord validSetup
 valid-of r log s =
+    let o = opening-of r log (s .setup) in
     both (validRecord r) (validLog r log)
     (both _ (not (leads r))
     (both _ (ltb (r .equivocators) (2 ^ replicas (setupOf r)))
-    (both (validNumbers r && validRotation (setupOf r)) (validRounds r)
-    (both (validNumbers r) (validRotation (setupOf r)) (setup-of r log (s .setup)) (s .rotation)) (rounds-of r log s))
+    (both _ (validRounds r)
+    (both (validLimits (setupOf r) && validRotation (setupOf r)) (validOwn r)
+    (both (validLimits (setupOf r)) (validRotation (setupOf r)) (o .0) (s .rotation)) (o .1)) (rounds-of r log s))
     (lt-ltb (r .equivocators) (2 ^ replicas (setupOf r)) (s .marks)))
     (ap not (s .waits)))
     (eq-eqb (length log) (512 * r .«last_round» .0) (s .setup .size))

@@ -16,7 +16,7 @@ use Rattle.apollo.specs.Setup.{setup, setupOf, leader}
 use Rattle.apollo.specs.Frame.{signer, round, blockForm, blameForm, linked, checked}
 use Rattle.apollo.specs.Log.{genesis, slot, filled}
 use Rattle.apollo.specs.Masks.{mask, addBlame, certified}
-use Rattle.apollo.specs.Replica.{fresh, validSetup, validReplica, validMasks}
+use Rattle.apollo.specs.Replica.{fresh, validOpening, validReplica, validMasks}
 use Rattle.apollo.specs.Enter.{State, commit}
 use Rattle.apollo.specs.BlockRun.{lastOf, block, blocks}
 use Rattle.apollo.specs.Outcome.{Outcome, stateOf}
@@ -136,7 +136,7 @@ pub record BenchSheet : Type 0 where
       → (round (lastOf x xs) ≡ 2 → number (branchCall s (flatten (x ∷ xs)) entry out) ≡ 10)
       × (round (lastOf x xs) ≡ 3 → ¬ (number (branchCall s (flatten (x ∷ xs)) entry out) ≡ 10))
   -- open, then branch, blame, blames and tick
-  pub item-7 : ((id f timeout T : ℕ) (rotation log masks entry out : List ℕ) → validSetup (fresh id f timeout T rotation) log ≡ true
+  pub item-7 : ((id f timeout T : ℕ) (rotation log masks entry out : List ℕ) → validOpening (fresh id f timeout T rotation) log ≡ true
       → validMasks (fresh id f timeout T rotation) masks ≡ true → isRotation (2 * f + 1) rotation ≡ true → 1024 ≤ length out
       → (length entry ≡ 400 → number (openCall id f timeout T rotation log masks entry out) ≡ 0)
       × (length entry ≡ 401 → number (openCall id f timeout T rotation log masks entry out) ≡ 5))
@@ -172,7 +172,7 @@ pub record BenchSheet : Type 0 where
       → linked (slot (s .log) 3) y ≡ true → round y ≡ 4
       → number (branchCall s (slot (s .log) 1 ++ slot (s .log) 2 ++ slot (s .log) 3 ++ y) entry out) ≡ 0)
   pub item-11 : (f timeout : ℕ) (log masks entry out entry′ out′ : List ℕ)
-      → validSetup (fresh 0 f timeout 1 (turn f)) log ≡ true → validMasks (fresh 0 f timeout 1 (turn f)) masks ≡ true → 1024 ≤ length out
+      → validOpening (fresh 0 f timeout 1 (turn f)) log ≡ true → validMasks (fresh 0 f timeout 1 (turn f)) masks ≡ true → 1024 ≤ length out
       → length entry ≤ 400
       → (number (openCall 0 f timeout 1 (turn f) log masks entry out) ≡ 0)
       × (openCall 0 f timeout 1 (turn f) log masks entry out .answer .frames ≡ 1)

@@ -1,4 +1,5 @@
 pub mod Bytes
+pub mod Refusal
 pub mod Rotation
 pub mod Setup
 pub mod Frame
@@ -7,7 +8,6 @@ pub mod Masks
 pub mod Replica
 pub mod Enter
 pub mod Committed
-pub mod Refusal
 pub mod Judging
 pub mod BlockRun
 pub mod Outcome

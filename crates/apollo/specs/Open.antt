@@ -8,7 +8,7 @@ use Rattle.apollo.specs.declared.Replica.{Replica}
 use Rattle.apollo.specs.Bytes.{zeros}
 use Rattle.apollo.specs.Rotation.{isRotation}
 use Rattle.apollo.specs.Setup.{setupOf, replicas}
-use Rattle.apollo.specs.Replica.{fresh, zeroReplica, validSetup, validMasks}
+use Rattle.apollo.specs.Replica.{fresh, zeroReplica, validOpening, validMasks}
 use Rattle.apollo.specs.Enter.{State, enterRound}
 use Rattle.apollo.specs.Outcome.{Outcome, refused, taken}
 use Rattle.apollo.specs.Refusal.{badSetup, badRotation, outTooShort, entryTooLong}
@@ -20,7 +20,7 @@ module _ (hash : List ℕ → List ℕ) where
       let r : Replica = fresh id f timeout lastRound rotation in
       let old : State = record { replica = zeroReplica; log = log; masks = masks } in
       let new : State = record { replica = r; log = zeros (512 * lastRound); masks = zeros lastRound } in
-      cond (not (validSetup r log && validMasks r masks)) (refused old out badSetup 0)
+      cond (not (validOpening r log && validMasks r masks)) (refused old out badSetup 0)
       (cond (not (isRotation (replicas (setupOf r)) rotation)) (refused old out badRotation 0)
       (cond (ltb (length out) 1024) (refused old out outTooShort 0)
       (cond (ltb 400 (length entry)) (refused old out entryTooLong 0) (taken (enterRound hash entry new) out))))

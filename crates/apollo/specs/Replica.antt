@@ -7,7 +7,7 @@ use lib.Dec.{eqb, leb, ltb}
 use Rattle.apollo.specs.declared.Replica.{Replica}
 use Rattle.apollo.specs.Bytes.{zeros, within}
 use Rattle.apollo.specs.Rotation.{padded}
-use Rattle.apollo.specs.Setup.{setupOf, replicas, leader, validRotation}
+use Rattle.apollo.specs.Setup.{setupOf, replicas, leader, validLimits, validSetup}
 use Rattle.apollo.specs.Masks.{setBit}
 
 -- the record with these in place of R, ticks left, tip, committed and marks
@@ -100,11 +100,9 @@ zeroReplica =
 unfoldable pub leads : Replica → Bool
 leads r = leb (r .round .0) (r .«last_round» .0) && eqb (leader (setupOf r) (r .round .0)) (r .id)
 
--- own number, f, wait and T
-unfoldable pub validNumbers : Replica → Bool
-validNumbers r =
-    ltb (r .id) (replicas (setupOf r)) && within 1 (r .f) 7 && within 1 (r .timeout .0) 60000
-    && within 1 (r .«last_round» .0) 4096
+-- own number and wait
+unfoldable pub validOwn : Replica → Bool
+validOwn r = ltb (r .id) (replicas (setupOf r)) && within 1 (r .timeout .0) 60000
 
 -- R, ticks left, tip and committed
 unfoldable pub validRounds : Replica → Bool
@@ -120,7 +118,7 @@ validMarks r = ltb (r .equivocators) (2 ^ replicas (setupOf r))
 
 -- the record by itself: all fields in their ranges, and R not led by this replica
 unfoldable pub validRecord : Replica → Bool
-validRecord r = validNumbers r && validRotation (setupOf r) && validRounds r && validMarks r && not (leads r)
+validRecord r = validSetup (setupOf r) && validOwn r && validRounds r && validMarks r && not (leads r)
 
 -- one slot a round
 abbrev pub validLog : Replica → (log : List ℕ) → Bool
@@ -130,9 +128,9 @@ validLog r log = eqb (length log) (512 * r .«last_round» .0)
 abbrev pub validMasks : Replica → (masks : List ℕ) → Bool
 validMasks r masks = eqb (length masks) (r .«last_round» .0)
 
--- what open tests by 1, but for the masks
-unfoldable pub validSetup : Replica → (log : List ℕ) → Bool
-validSetup r log = validNumbers r && validLog r log
+-- what open tests by 1, but for the masks; the rotation comes behind it, by 17
+unfoldable pub validOpening : Replica → (log : List ℕ) → Bool
+validOpening r log = validLimits (setupOf r) && validOwn r && validLog r log
 
 -- the record with its log
 unfoldable pub validReplica : Replica → (log : List ℕ) → Bool

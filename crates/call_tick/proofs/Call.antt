@@ -19,7 +19,7 @@ use Rattle.apollo.specs.Enter.{State, Effect, waiting, hearing, settle, state}
 use Rattle.apollo.specs.Outcome.{Outcome, nextLeader, taken, outcome}
 use Rattle.apollo.specs.Tick.{blaming, ticked, tickWith}
 use Rattle.frame_writing.proofs.Make.{length-blame}
-use Rattle.refusals.specs.Number.{guardNumber}
+use Rattle.refusals.specs.Number.{guardOf}
 use Rattle.refusals.proofs.Passed.{Passed, passed}
 use Rattle.refusals.proofs.Answer.{guarded-by}
 use Rattle.tip.specs.Ready.{Ready}
@@ -69,7 +69,7 @@ module _ (r : Replica) (log masks entry out : List ℕ) where
       rw d
   counted k false e = rw (ne-eqb (r .timer .0) 1 k)
 
-  module _ (n : ℕ) (en : n ≡ guardNumber r log masks (length entry) (length out)) where
+  module _ (n : ℕ) (en : n ≡ guardOf r log masks (length entry) (length out)) where
     pub tick-refused : (a : Answer) → (n ≡ 0 → ⊥) → a ≡ refusedAnswer r n 0
         → outcome a log masks out ≡ tickWith sha256 (state r log masks) entry out
     unfolding tickWith

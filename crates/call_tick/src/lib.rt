@@ -16,7 +16,7 @@ pub fn tick(
         ≡ tickCall (state replica (now (log .entry)) (now (masks .entry))) (now (entry .entry)) (now (out .entry)) ⌝ }
 {
     let is_valid = record_ranges::valid_record(replica);
-    let number = refusals::of_tick(is_valid, replica, log, masks, entry.len(), out.len());
+    let number = refusals::guard(is_valid, replica, log, masks, entry.len(), out.len());
     if number != 0 {
         return calls::refused(replica, number, 0);
     }

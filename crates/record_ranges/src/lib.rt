@@ -1,19 +1,15 @@
 // The tests of a record, for any numbers in it: the ranges of the fields and of what is lent beside them.
 use apollo::Replica;
 ghost use mathlib.Core.Path.{_≡_};
-ghost use Rattle.apollo.specs.Replica.{validNumbers, validRounds, validMarks, validRecord, validLog, validMasks, validSetup};
+ghost use Rattle.apollo.specs.Replica.{validOwn, validRounds, validMarks, validRecord, validLog, validMasks};
 
-// Own number, f, timeout and T are in range.
-fn valid_numbers(r: Replica) -> bool
-    ensures { λ b. ⌜ b ≡ validNumbers r ⌝ }
+// Own number and timeout are in range.
+pub fn valid_own(r: Replica) -> bool
+    ensures { λ b. ⌜ b ≡ validOwn r ⌝ }
 {
     let id = r.id as u32;
-    let f = r.f as u32;
-    let last = r.last_round.0;
-    (id < 2 * f + 1)
-        & ((1 <= f) & (f <= 7))
-        & ((1 <= r.timeout.0) & (r.timeout.0 <= 60000))
-        & ((1 <= last) & (last <= 4096))
+    let n = 2 * (r.f as u32) + 1;
+    (id < n) & ((1 <= r.timeout.0) & (r.timeout.0 <= 60000))
 }
 
 // There is one slot a round.
@@ -22,13 +18,6 @@ pub fn valid_log(r: Replica, log: &[u8]) -> bool
 {
     let size = 512 * (r.last_round.0 as usize);
     log.len() == size
-}
-
-// What open tests by 1, but for the masks.
-pub fn valid_setup(r: Replica, log: &[u8]) -> bool
-    ensures { λ b. ⌜ b ≡ validSetup r (now (log .entry)) ⌝ }
-{
-    valid_numbers(r) & valid_log(r, log)
 }
 
 // The fields that a call changes are in range. In two steps: the compiler joins the comparisons of one step into vectors, whose
@@ -65,8 +54,9 @@ pub fn valid_record(r: Replica) -> bool
 {
     let seats = r.rotation;
     let n = 2 * (r.f as usize) + 1;
-    valid_numbers(r)
+    setup_ranges::valid_limits(r.f, r.last_round.0)
         & rotation::valid_rotation(seats, n)
+        & valid_own(r)
         & valid_rounds(r)
         & valid_marks(r)
         & !record::leads(r)

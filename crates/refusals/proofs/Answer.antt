@@ -13,11 +13,11 @@ use Rattle.apollo.specs.Rotation.{isRotation}
 use Rattle.apollo.specs.Setup.{setupOf, replicas, validRotation}
 use Rattle.apollo.proofs.Tests.{and-first}
 use Rattle.apollo.proofs.Rotation.{padded-same}
-use Rattle.apollo.proofs.Validity.{ValidSetup, valid-setup}
+use Rattle.apollo.proofs.Validity.{ValidOpening, valid-opening}
 use Rattle.apollo.specs.Bytes.{zeros}
 use Rattle.apollo.specs.declared.Verdict.{Verdict}
 use Rattle.apollo.specs.Judging.{verdict}
-use Rattle.apollo.specs.Replica.{fresh, zeroReplica, validSetup, validReplica, validMasks}
+use Rattle.apollo.specs.Replica.{fresh, zeroReplica, validOpening, validReplica, validMasks}
 use Rattle.apollo.specs.Enter.{State, enterRound}
 use Rattle.apollo.specs.Outcome.{Outcome, refused, taken, guarded}
 use Rattle.apollo.specs.Open.{openWith}
@@ -29,7 +29,7 @@ use Rattle.branch.proofs.Answer.{branch-answer}
 use Rattle.blame_set.specs.Set as Set
 use Rattle.blame_set.specs.Set.{judgedSet}
 use Rattle.blame_set.proofs.Answer.{set-answer}
-use Rattle.refusals.specs.Number.{roomNumber, openNumber, guardNumber}
+use Rattle.refusals.specs.Number.{roomNumber, openNumber, guardNumber, guardOf}
 use Rattle.refusals.specs.Blames.{guardedSet}
 use Rattle.refusals.specs.Branch.{guardedBranch}
 
@@ -83,11 +83,11 @@ module _ (id f timeout last : ℕ) (rotation log masks entry out : List ℕ) whe
   abbrev r : Replica
   r = fresh id f timeout last rotation
 
-  same-rotation : not (validSetup r log && validMasks r masks) ≡ false
+  same-rotation : not (validOpening r log && validMasks r masks) ≡ false
       → not (eqb (length rotation) (replicas (setupOf r)) && validRotation (setupOf r)) ≡ not (isRotation (replicas (setupOf r)) rotation)
   same-rotation e =
-      let v : ValidSetup r log =
-      valid-setup r log (and-first (validSetup r log) (validMasks r masks) (not-false (validSetup r log && validMasks r masks) e)) in
+      let v : ValidOpening r log =
+      valid-opening r log (and-first (validOpening r log) (validMasks r masks) (not-false (validOpening r log && validMasks r masks) e)) in
       ap not (padded-same (setupOf r) rotation (omega (arith, v .f-most)) (unfold fresh in refl))
 
   pub open-by : openWith sha256 id f timeout last rotation log masks entry out
@@ -95,17 +95,17 @@ module _ (id f timeout last : ℕ) (rotation log masks entry out : List ℕ) whe
       (taken (enterRound sha256 entry new) out) (λ n. refused closed out n 0)
   unfolding openWith openNumber roomNumber
   open-by =
-      open-chain (not (validSetup r log && validMasks r masks)) _ (not (isRotation (replicas (setupOf r)) rotation))
+      open-chain (not (validOpening r log && validMasks r masks)) _ (not (isRotation (replicas (setupOf r)) rotation))
       (ltb (length out) 1024) (ltb 400 (length entry)) (taken (enterRound sha256 entry new) out) (λ n. refused closed out n 0)
       same-rotation
 
 module _ (s : State) (entry out : List ℕ) where
   abbrev number : ℕ
-  number = guardNumber (s .replica) (s .log) (s .masks) (length entry) (length out)
+  number = guardOf (s .replica) (s .log) (s .masks) (length entry) (length out)
 
   -- branch, blame, blames and tick
   pub guarded-by : (o : Outcome) → guarded s entry out o ≡ by-number number o (λ n. refused s out n 0)
-  unfolding guarded guardNumber roomNumber
+  unfolding guarded guardNumber validReplica roomNumber
   guarded-by o =
       guard-chain (not (validReplica (s .replica) (s .log) && validMasks (s .replica) (s .masks)))
       (eqb (s .replica .round .0) (s .replica .«last_round» .0 + 1)) (ltb (length out) 1024) (ltb 400 (length entry)) o

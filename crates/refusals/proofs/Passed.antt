@@ -12,15 +12,15 @@ use Rattle.apollo.specs.declared.Verdict.{Verdict}
 use Rattle.apollo.specs.Frame.{framesOf}
 use Rattle.apollo.specs.Judging.{verdict}
 use Rattle.apollo.specs.Setup.{setupOf, replicas, validRotation}
-use Rattle.apollo.specs.Replica.{validSetup, validReplica, validMasks}
-use Rattle.apollo.proofs.Validity.{ValidSetup, Valid}
+use Rattle.apollo.specs.Replica.{validOpening, validReplica, validMasks}
+use Rattle.apollo.proofs.Validity.{ValidOpening, Valid}
 use Rattle.apollo.proofs.Tests.{and-first, and-second}
-use Rattle.apollo.proofs.Validity.{valid-setup, valid}
+use Rattle.apollo.proofs.Validity.{valid-opening, valid}
 use Rattle.branch.specs.declared.Judged.{Judged}
 use Rattle.branch.specs.Judge.{refusal, judgedBranch}
 use Rattle.blame_set.specs.Set.{HaveBits, judgedSet}
 use Rattle.blame_set.proofs.Answer.{set-bits}
-use Rattle.refusals.specs.Number.{roomNumber, openNumber, guardNumber}
+use Rattle.refusals.specs.Number.{roomNumber, openNumber, guardNumber, guardOf}
 use Rattle.refusals.specs.Blames.{guardedSet}
 use Rattle.refusals.specs.Branch.{guardedBranch}
 
@@ -51,7 +51,7 @@ room entry out e =
 
 -- open that is not refused
 pub record Opened (r : Replica) (log masks : List ℕ) (entry out : ℕ) : Type 0 where
-  pub valid : ValidSetup r log
+  pub valid : ValidOpening r log
   pub masks-size : length masks ≡ r .«last_round» .0
   pub out-least : 1024 ≤ out
   pub entry-most : entry ≤ 400
@@ -68,19 +68,19 @@ module _ (r : Replica) (log masks : List ℕ) (entry out : ℕ) where
   unfolding openNumber
   opened size e =
       let turns = not (eqb size (replicas (setupOf r)) && validRotation (setupOf r)) in
-      let p = first-failed (not (validSetup r log && validMasks r masks)) 0 (cond turns 17 (roomNumber entry out)) e in
+      let p = first-failed (not (validOpening r log && validMasks r masks)) 0 (cond turns 17 (roomNumber entry out)) e in
       let t = first-failed turns 16 (roomNumber entry out) (p .1) in
-      let v = not-false (validSetup r log && validMasks r masks) (p .0) in
+      let v = not-false (validOpening r log && validMasks r masks) (p .0) in
       let q = room entry out (t .1) in
       record {
-        valid = valid-setup r log (and-first (validSetup r log) (validMasks r masks) v);
-        masks-size = eqb-true (length masks) (r .«last_round» .0) (and-second (validSetup r log) (validMasks r masks) v);
+        valid = valid-opening r log (and-first (validOpening r log) (validMasks r masks) v);
+        masks-size = eqb-true (length masks) (r .«last_round» .0) (and-second (validOpening r log) (validMasks r masks) v);
         out-least = q .0;
         entry-most = q .1;
       }
 
-  pub passed : guardNumber r log masks entry out ≡ 0 → Passed r log entry out
-  unfolding guardNumber
+  pub passed : guardOf r log masks entry out ≡ 0 → Passed r log entry out
+  unfolding guardNumber validReplica
   passed e =
       let end = eqb (r .round .0) (r .«last_round» .0 + 1) in
       let p = first-failed (not (validReplica r log && validMasks r masks)) 1 (cond end 3 (roomNumber entry out)) e in
@@ -96,7 +96,7 @@ module _ (r : Replica) (log masks : List ℕ) (entry out : ℕ) where
   pub set-passed : (most : ℕ) (x : List ℕ) → guardedSet most r log masks x entry out .number ≡ 0 → Passed r log entry out × HaveBits (framesOf x)
   unfolding guardedSet
   set-passed most x e =
-      let g : ℕ = guardNumber r log masks entry out in
+      let g : ℕ = guardOf r log masks entry out in
       let q : (g ≡ 0) × (judgedSet most r masks x .number ≡ 0) = set-none (eqb g 0) g (judgedSet most r masks x) refl e in
       let p : Passed r log entry out = passed (q .0) in
       (p, set-bits most r masks x (p .valid .setup .f-most) (q .1))
@@ -105,7 +105,7 @@ module _ (r : Replica) (log masks : List ℕ) (entry out : ℕ) where
       → Passed r log entry out × (judgedBranch r log masks x .number ≡ 0)
   unfolding guardedBranch
   branch-passed x e =
-      let g : ℕ = guardNumber r log masks entry out in
+      let g : ℕ = guardOf r log masks entry out in
       let q : (g ≡ 0) × (guardedBranch r log masks x entry out ≡ judgedBranch r log masks x) =
       branch-none (eqb g 0) g (judgedBranch r log masks x) refl e in
       (passed (q .0), rw (q .1) at e)

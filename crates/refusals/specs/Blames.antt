@@ -7,8 +7,8 @@ use Rattle.apollo.specs.declared.Replica.{Replica}
 use Rattle.apollo.specs.declared.Verdict.{Verdict}
 use Rattle.apollo.specs.Judging.{verdict}
 use Rattle.blame_set.specs.Set.{judgedSet}
-use Rattle.refusals.specs.Number.{guardNumber}
+use Rattle.refusals.specs.Number.{guardOf}
 
 unfoldable pub guardedSet : (most : ℕ) → Replica → (log masks bytes : List ℕ) (entry out : ℕ) → Verdict
 guardedSet most r log masks bytes entry out =
-    cond (eqb (guardNumber r log masks entry out) 0) (judgedSet most r masks bytes) (verdict (guardNumber r log masks entry out) 0)
+    cond (eqb (guardOf r log masks entry out) 0) (judgedSet most r masks bytes) (verdict (guardOf r log masks entry out) 0)

@@ -6,9 +6,9 @@ use lib.Dec.{eqb}
 use Rattle.apollo.specs.declared.Replica.{Replica}
 use Rattle.branch.specs.declared.Judged.{Judged}
 use Rattle.branch.specs.Judge.{refusal, judgedBranch}
-use Rattle.refusals.specs.Number.{guardNumber}
+use Rattle.refusals.specs.Number.{guardOf}
 
 unfoldable pub guardedBranch : Replica → (log masks bytes : List ℕ) (entry out : ℕ) → Judged
 guardedBranch r log masks bytes entry out =
-    cond (eqb (guardNumber r log masks entry out) 0) (judgedBranch r log masks bytes)
-    (refusal (guardNumber r log masks entry out) 0)
+    cond (eqb (guardOf r log masks entry out) 0) (judgedBranch r log masks bytes)
+    (refusal (guardOf r log masks entry out) 0)

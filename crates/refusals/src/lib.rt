@@ -1,12 +1,11 @@
 // What refuses a call: the number of the first refusal, 0 if there is none, and for a branch and for blames its place. Of the entry
-// and the out buffer the length is enough. Every public function takes any record, and slices of any length and content; `of_tick` is told
+// and the out buffer the length is enough. Every public function takes any record, and slices of any length and content; `guard` is told
 // whether the record, by itself, is valid.
 use apollo::Replica;
 use apollo::Verdict;
 use branch::Judged;
 ghost use mathlib.Core.Path.{_≡_};
 ghost use Prim.Native.Nat.{_≤_};
-ghost use Rattle.apollo.specs.Replica.{validRecord};
 ghost use Rattle.refusals.specs.Number.{roomNumber, openNumber, guardNumber};
 ghost use Rattle.refusals.specs.Blames.{guardedSet};
 ghost use Rattle.refusals.specs.Branch.{guardedBranch};
@@ -28,29 +27,21 @@ fn judge_room(entry: usize, out: usize) -> u8
 pub fn of_open(r: Replica, length: usize, log: &[u8], masks: &[u16], entry: usize, out: usize) -> u8
     ensures { λ n. ⌜ n ≡ openNumber r length (now (log .entry)) (now (masks .entry)) entry out ⌝ }
 {
-    if !(record_ranges::valid_setup(r, log) & record_ranges::valid_masks(r, masks)) {
+    let number = setup_ranges::refusal(record::setup(r), length);
+    if !(record_ranges::valid_own(r)
+        & record_ranges::valid_log(r, log)
+        & record_ranges::valid_masks(r, masks)) {
         return apollo::refusal::BAD_SETUP;
     }
-    let seats = r.rotation;
-    let n = 2 * (r.f as usize) + 1;
-    if !((length == n) & rotation::valid_rotation(seats, n)) {
-        return apollo::refusal::BAD_ROTATION;
+    if number != 0 {
+        return number;
     }
     judge_room(entry, out)
 }
 
-// Tick, and first in branch, blame and blames: 2 to 5. The caller tests the record by itself, from its own copy: the compiler then makes no
-// other.
-pub fn of_tick(
-    is_valid: bool,
-    r: Replica,
-    log: &[u8],
-    masks: &[u16],
-    entry: usize,
-    out: usize,
-) -> u8
-    requires { ⌜ «is_valid» ≡ validRecord r ⌝ }
-    ensures { λ n. ⌜ n ≡ guardNumber r (now (log .entry)) (now (masks .entry)) entry out ⌝ }
+// Tick, branch, blame and blames: 2 to 5. The caller tests the record by itself, from its own copy: the compiler then makes no other.
+pub fn guard(is_valid: bool, r: Replica, log: &[u8], masks: &[u16], entry: usize, out: usize) -> u8
+    ensures { λ n. ⌜ n ≡ guardNumber «is_valid» r (now (log .entry)) (now (masks .entry)) entry out ⌝ }
 {
     if !(is_valid & record_ranges::valid_log(r, log) & record_ranges::valid_masks(r, masks)) {
         return apollo::refusal::BAD_REPLICA;
@@ -77,7 +68,7 @@ pub fn of_blames(
     ensures { λ v. ⌜ v ≡ guardedSet most r (now (log .entry)) (now (masks .entry)) (now (frames .entry)) entry out ⌝ }
 {
     let is_valid = record_ranges::valid_record(r);
-    let number = of_tick(is_valid, r, log, masks, entry, out);
+    let number = guard(is_valid, r, log, masks, entry, out);
     if number != 0 {
         return Verdict { number, place: 0 };
     }
@@ -96,7 +87,7 @@ pub fn of_branch(
     ensures { λ j. ⌜ j ≡ guardedBranch r (now (log .entry)) (now (masks .entry)) (now (frames .entry)) entry out ⌝ }
 {
     let is_valid = record_ranges::valid_record(r);
-    let number = of_tick(is_valid, r, log, masks, entry, out);
+    let number = guard(is_valid, r, log, masks, entry, out);
     if number != 0 {
         return Judged {
             number,

@@ -17,12 +17,12 @@ use Rattle.apollo.specs.Frame.{height, frames}
 use Rattle.apollo.specs.Log.{genesis, slot, filled}
 use Rattle.apollo.specs.Masks.{count, bit, mask, certified}
 use Rattle.apollo.proofs.Masks.{bit-zero}
-use Rattle.apollo.specs.Replica.{fresh, validSetup, validMasks}
+use Rattle.apollo.specs.Replica.{fresh, validOpening, validMasks}
 use Rattle.apollo.specs.Enter.{State, commitLimit, enterRound}
 use Rattle.apollo.specs.Outcome.{Outcome, refused, taken}
 use Rattle.apollo.specs.Open.{openWith}
 use Rattle.apollo.proofs.Rotation.{padded-valid}
-use Rattle.apollo.proofs.Validity.{ValidSetup, valid-setup}
+use Rattle.apollo.proofs.Validity.{ValidOpening, valid-opening}
 use Rattle.theorem_agreement.specs.Run.{Event, emitted, In, emittedBy}
 use Rattle.theorem_agreement.proofs.Tests.{clash, and-true, by-cond}
 use Rattle.theorem_agreement.proofs.Counts.{count-none}
@@ -129,12 +129,12 @@ module _ (s : Setup) (past : List Event) (i : ℕ) where
       }
 
   ranges : (id f timeout last : ℕ) (rotation log masks : List ℕ)
-      → (validSetup (fresh id f timeout last rotation) log && validMasks (fresh id f timeout last rotation) masks) ≡ true
+      → (validOpening (fresh id f timeout last rotation) log && validMasks (fresh id f timeout last rotation) masks) ≡ true
       → isRotation (2 * f + 1) rotation ≡ true → id ≡ i → f ≡ s .f → last ≡ s .«last_round» .0 → padded rotation ≡ s .rotation
       → Fixed s i id f timeout last (padded rotation)
   unfolding fresh
   ranges id f timeout last rotation log masks v t ei ef el er =
-      let x : ValidSetup (fresh id f timeout last rotation) log = valid-setup _ log (and-true _ _ v .0) in
+      let x : ValidOpening (fresh id f timeout last rotation) log = valid-opening _ log (and-true _ _ v .0) in
       record {
         id-is = ei;
         f-is = ef;
@@ -154,7 +154,7 @@ module _ (s : Setup) (past : List Event) (i : ℕ) where
     abbrev new : State
     new = record { replica = fresh id f timeout last rotation; log = zeros (512 * last); masks = zeros last }
 
-    made : (validSetup (new .replica) log && validMasks (new .replica) masks) ≡ true → isRotation (2 * f + 1) rotation ≡ true
+    made : (validOpening (new .replica) log && validMasks (new .replica) masks) ≡ true → isRotation (2 * f + 1) rotation ≡ true
         → length entry ≤ 400 → OpenFine id f last rotation (taken (enterRound sha256 entry new) out)
     unfolding taken
     made v t fits =
@@ -178,7 +178,7 @@ module _ (s : Setup) (past : List Event) (i : ℕ) where
     pub open-fine : Opens (openWith sha256 id f timeout last rotation log masks entry out)
     unfolding openWith fresh
     open-fine =
-        by-cond Opens (not (validSetup (new .replica) log && validMasks (new .replica) masks))
+        by-cond Opens (not (validOpening (new .replica) log && validMasks (new .replica) masks))
         (λ _. refusal id f last rotation _ out 1 refl refl refl)
         (λ v. by-cond Opens (not (isRotation (2 * f + 1) rotation)) (λ _. refusal id f last rotation _ out 17 refl refl refl)
         (λ t. by-cond Opens (ltb (length out) 1024) (λ _. refusal id f last rotation _ out 4 refl refl refl)

@@ -11,7 +11,7 @@ use Rattle.apollo.specs.Log.{slot}
 use Rattle.apollo.specs.Replica.{validRecord, validLog, validReplica, validMasks}
 use Rattle.apollo.specs.Enter.{State}
 use Rattle.apollo.proofs.Tests.{and-true, both}
-use Rattle.apollo.proofs.Validity.{ValidSetup, Valid, valid-of}
+use Rattle.apollo.proofs.Validity.{ValidOpening, Valid, valid-of}
 use Rattle.theorem_agreement.specs.Run.{Event}
 use Rattle.theorem_agreement.proofs.Chain.{held-level, rises}
 use Rattle.theorem_agreement.proofs.Good.{Renewed, Rested, committed-held, setup-is, Good, committed-tip}
@@ -38,8 +38,8 @@ module _ (s : Setup) (past : List Event) (i : ℕ) (c : State) (g : Good s past 
   height-round =
       omega (arith, r .committed-height, held-level (s .«last_round» .0) _ _ (slot (c .log)) _ (g .stored .chain) _ (committed-held r))
 
-  valid-setup : ValidSetup (c .replica) (c .log)
-  valid-setup =
+  valid-opening : ValidOpening (c .replica) (c .log)
+  valid-opening =
       record {
         f-least = g .fixed .f-one;
         f-most = g .fixed .f-top;
@@ -54,7 +54,7 @@ module _ (s : Setup) (past : List Event) (i : ℕ) (c : State) (g : Good s past 
   valid-record : Valid (c .replica) (c .log)
   valid-record =
       record {
-        setup = valid-setup;
+        setup = valid-opening;
         rotation = ap validRotation (setup-is s i (c .replica) (g .fixed)) ∙ g .fixed .turns;
         round-least = omega (arith, g .tip-below);
         round-most = omega (arith, g .reach, g .fixed .last-is);

@@ -15,7 +15,7 @@ use Rattle.apollo.specs.Setup.{setupOf, leader}
 use Rattle.apollo.specs.Frame.{round, height, framesOf, firstFrame, wholeFrames, blameForm, makeBlame}
 use Rattle.apollo.specs.Log.{attach}
 use Rattle.apollo.specs.Masks.{bit, certified}
-use Rattle.apollo.specs.Replica.{withEquivocators, leads, validNumbers, validRounds, validMarks, validRecord, validLog, validReplica, validMasks}
+use Rattle.apollo.specs.Replica.{withEquivocators, leads, validOwn, validRounds, validMarks, validRecord, validLog, validReplica, validMasks}
 use Rattle.apollo.specs.Enter.{State, state, Effect, commitLimit, commit, tipped, waiting, hearing, holding, entered, ownBlock, proposing, enterRound, settle}
 use Rattle.apollo.specs.Judging.{judgedEach}
 use Rattle.apollo.specs.Outcome.{Outcome, refused, nextLeader, taken, guarded}
@@ -143,7 +143,7 @@ guarded-kept c entry out o e =
 
 record-aside : (r : Replica) (m : ℕ) → validMarks r ≡ true → validMarks (withEquivocators r m) ≡ true
     → validRecord (withEquivocators r m) ≡ validRecord r
-unfolding validRecord validNumbers validRounds leads
+unfolding validRecord validOwn validRounds leads
 record-aside r m e d = rw (d, e)
 
 valid-aside : (r : Replica) (log : List ℕ) (m : ℕ) → validMarks r ≡ true → validMarks (withEquivocators r m) ≡ true

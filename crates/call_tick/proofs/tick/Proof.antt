@@ -5,6 +5,7 @@ use native.Mathlib.Omega.{arith}
 use lib.ListN.{length}
 use borrow.Author.Needs.{needs}
 use borrow.Rule.Slice.PartMut.{same-len-mid}
+use Rattle.refusals.proofs.Number.{guard-of}
 use Rattle.call_tick.proofs.Call.{tick-refused, tick-down, tick-passed, tick-asks, tick-out, frames-few}
 use Rattle.call_tick.proofs.tick.Statement.{statement}
 use Rattle.call_tick.proofs.tick.Tie as tie
@@ -15,7 +16,7 @@ returns c =
     let g = i .before in
     let s = g .before .before .before .before .before .before .before .before in
     let a = s .args in
-    tick-refused (a .replica) (a .log .now) (a .masks .now) (a .entry .now) (a .out .now) _ (g .of-tick .ensures) _ (i .if1 .taken) (c .refused .ensures)
+    tick-refused (a .replica) (a .log .now) (a .masks .now) (a .entry .now) (a .out .now) _ (guard-of _ _ _ _ _ (g .before .before .before .valid-record .ensures) (g .guard .ensures)) _ (i .if1 .taken) (c .refused .ensures)
 
 returns-2 : tie.Need-returns-2
 returns-2 c =
@@ -24,7 +25,7 @@ returns-2 c =
     let g = i .before in
     let s = g .before .before .before .before .before .before .before .before in
     let a = s .args in
-    tick-down (a .replica) (a .log .now) (a .masks .now) (a .entry .now) (a .out .now) _ (g .of-tick .ensures) (i .if1 .left) _ (k .if2 .taken) (c .count-down .ensures)
+    tick-down (a .replica) (a .log .now) (a .masks .now) (a .entry .now) (a .out .now) _ (guard-of _ _ _ _ _ (g .before .before .before .valid-record .ensures) (g .guard .ensures)) (i .if1 .left) _ (k .if2 .taken) (c .count-down .ensures)
 
 put-blame-requires : tie.Need-put-blame-requires
 put-blame-requires c κs =
@@ -32,7 +33,7 @@ put-blame-requires c κs =
     let g = i .before in
     let s = g .before .before .before .before .before .before .before .before in
     let a = s .args in
-    omega (arith, tick-passed (a .replica) (a .log .now) (a .masks .now) (a .entry .now) (a .out .now) _ (g .of-tick .ensures) (i .if1 .left) .out-least)
+    omega (arith, tick-passed (a .replica) (a .log .now) (a .masks .now) (a .entry .now) (a .out .now) _ (guard-of _ _ _ _ _ (g .before .before .before .valid-record .ensures) (g .guard .ensures)) (i .if1 .left) .out-least)
 
 sub-hear : tie.Need-sub-hear
 sub-hear c =
@@ -41,7 +42,7 @@ sub-hear c =
     let g = i .before in
     let s = g .before .before .before .before .before .before .before .before in
     let a = s .args in
-    omega (arith, u .put-blame .kept .0, tick-passed (a .replica) (a .log .now) (a .masks .now) (a .entry .now) (a .out .now) _ (g .of-tick .ensures) (i .if1 .left) .out-least)
+    omega (arith, u .put-blame .kept .0, tick-passed (a .replica) (a .log .now) (a .masks .now) (a .entry .now) (a .out .now) _ (guard-of _ _ _ _ _ (g .before .before .before .valid-record .ensures) (g .guard .ensures)) (i .if1 .left) .out-least)
 
 part-hear-start : tie.Need-part-hear-start
 part-hear-start c =
@@ -50,7 +51,7 @@ part-hear-start c =
     let g = i .before in
     let s = g .before .before .before .before .before .before .before .before in
     let a = s .args in
-    omega (arith, u .put-blame .kept .0, tick-passed (a .replica) (a .log .now) (a .masks .now) (a .entry .now) (a .out .now) _ (g .of-tick .ensures) (i .if1 .left) .out-least)
+    omega (arith, u .put-blame .kept .0, tick-passed (a .replica) (a .log .now) (a .masks .now) (a .entry .now) (a .out .now) _ (guard-of _ _ _ _ _ (g .before .before .before .valid-record .ensures) (g .guard .ensures)) (i .if1 .left) .out-least)
 
 hear-requires : tie.Need-hear-requires
 hear-requires c κs =
@@ -60,7 +61,7 @@ hear-requires c κs =
     let g = i .before in
     let s = g .before .before .before .before .before .before .before .before in
     let a = s .args in
-    tick-asks (a .replica) (a .log .now) (a .masks .now) (a .entry .now) (a .out .now) _ (g .of-tick .ensures) (i .if1 .left) _ (u .put-blame .ensures) _ (w .with-timer .ensures)
+    tick-asks (a .replica) (a .log .now) (a .masks .now) (a .entry .now) (a .out .now) _ (guard-of _ _ _ _ _ (g .before .before .before .valid-record .ensures) (g .guard .ensures)) (i .if1 .left) _ (u .put-blame .ensures) _ (w .with-timer .ensures)
 
 add-a : tie.Need-add-a
 add-a c =
@@ -93,14 +94,14 @@ returns-3 c =
     let g = i .before in
     let s = g .before .before .before .before .before .before .before .before in
     let a = s .args in
-    tick-out (a .replica) (a .log .now) (a .masks .now) (a .entry .now) (a .out .now) _ (g .of-tick .ensures) (i .if1 .left) _ (u .put-blame .ensures) _ _ _ _ _ (k .if2 .left) (w .with-timer .ensures) (e .hear .ensures)
+    tick-out (a .replica) (a .log .now) (a .masks .now) (a .entry .now) (a .out .now) _ (guard-of _ _ _ _ _ (g .before .before .before .valid-record .ensures) (g .guard .ensures)) (i .if1 .left) _ (u .put-blame .ensures) _ _ _ _ _ (k .if2 .left) (w .with-timer .ensures) (e .hear .ensures)
 
 pub tick-spec : {M : Type 1} → statement M
 tick-spec =
     tie.close
     (tie.spec
     (λ c κs. tt)
-    (λ c κs. c .before .before .valid-record .ensures)
+    (λ c κs. tt)
     (λ c κs. tt)
     (λ c. refl)
     (λ c. refl)

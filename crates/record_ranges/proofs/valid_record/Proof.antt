@@ -8,9 +8,10 @@ returns : tie.Need-returns
 returns c =
     let m = c .before in
     let v = m .before in
-    let t = v .before in
-    record-test _ (t .before .valid-numbers .ensures) (t .valid-rotation .ensures) (v .valid-rounds .ensures) (m .valid-marks .ensures)
-    (c .leads .ensures)
+    let o = v .before in
+    let t = o .before in
+    record-test _ (t .before .valid-limits .ensures) (t .valid-rotation .ensures) (o .valid-own .ensures) (v .valid-rounds .ensures)
+    (m .valid-marks .ensures) (c .leads .ensures)
 
 pub valid-record-spec : {M : Type 1} → statement M
 valid-record-spec =
@@ -19,6 +20,7 @@ valid-record-spec =
     (λ c. search needs)
     (λ c. search needs)
     (λ c. search needs)
+    (λ c κs. search needs)
     (λ c κs. search needs)
     (λ c κs. search needs)
     (λ c κs. search needs)
