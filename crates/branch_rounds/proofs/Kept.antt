@@ -12,14 +12,14 @@ use Rattle.apollo.specs.Log.{slot}
 use Rattle.branch_rounds.specs.Keeps.{keepsFrame, keepsAll}
 use Rattle.frame.proofs.Frames.{rest, rest-next, rest-end, frame-part}
 
+pub keeps-none : (log : List ℕ) (lo : ℕ) (x : List ℕ) (c r : ℕ) → r ≡ round x → r ≤ c → r ≡ 0 → false ≡ keepsFrame log lo x c
+unfolding keepsFrame
+keeps-none log lo x c r e h z = rw (← e, le-ltb c r h, le-ltb 0 r (omega arith))
+
 module _ (log : List ℕ) (lo : ℕ) (x : List ℕ) (c r : ℕ) (b : Bool) (e : r ≡ round x) where
   pub keeps-past : c < r → b ≡ blank log (512 * lo) (512 * c) → b ≡ keepsFrame log lo x c
   unfolding keepsFrame
   keeps-past h d = rw (← e, lt-ltb c r h) d
-
-  pub keeps-none : r ≤ c → r ≡ 0 → false ≡ keepsFrame log lo x c
-  unfolding keepsFrame
-  keeps-none h z = rw (← e, le-ltb c r h, le-ltb 0 r (omega arith))
 
   module _ (h : r ≤ c) (z : r ≡ 0 → ⊥) (d : b ≡ blank log (512 * lo) (512 * (r - 1))) where
     pub keeps-not : b ≡ false → false ≡ keepsFrame log lo x c

@@ -15,7 +15,7 @@ returns-2 : tie.Need-returns-2
 returns-2 c =
     let f = c .before .before in
     let a = f .before .before .before .args in
-    keeps-none (a .log .now) (a .lo) (a .x .now) (a .committed) (f .round .result) _ (f .round .ensures) (c .before .if1 .left) (c .if2 .taken)
+    keeps-none (a .log .now) (a .lo) (a .x .now) (a .committed) (f .round .result) (f .round .ensures) (c .before .if1 .left) (c .if2 .taken)
 
 returns-3 : tie.Need-returns-3
 returns-3 c =
