@@ -75,6 +75,19 @@ blocks-any s p (x ∷ xs) e =
     let q = blocks-parts s p x xs e in
     blocks-of s none x xs (q .0) refl (q .2)
 
+-- the first frames of a run
+pub blocks-front : (s : Setup) (p : Option (List ℕ)) (xs zs : List (List ℕ)) → blocks s p (xs ++ zs) ≡ true → blocks s p xs ≡ true
+blocks-front s p [] zs e = blocks-none s p
+blocks-front s p (x ∷ xs) zs e =
+    let q = blocks-parts s p x (xs ++ zs) e in
+    blocks-of s p x xs (q .0) (q .1) (blocks-front s (some x) xs zs (q .2))
+
+pub blocks-whole : (s : Setup) (p : Option (List ℕ)) (xs : List (List ℕ)) → blocks s p xs ≡ true → Whole xs
+blocks-whole s p [] e = tt
+blocks-whole s p (x ∷ xs) e =
+    let q = blocks-parts s p x xs e in
+    (block-length s x (q .0), blocks-whole s (some x) xs (q .2))
+
 -- a good run is refused nothing
 pub judged-blocks : (s : Setup) (k : ℕ) (p : Option (List ℕ)) (xs : List (List ℕ)) → blocks s p xs ≡ true
     → judgedRun sha256 s k p xs ≡ noRefusal

@@ -2,7 +2,7 @@
 use Prim.Native.Nat.{ℕ, zero, suc, _+_, _-_, _≤_, _<_}
 use mathlib.Core.Path.{_≡_, refl, sym, ap, _∙_, subst}
 use mathlib.Core.Logic.{inl, inr}
-use mathlib.Core.Option.{none, some}
+use mathlib.Core.Option.{Option, none, some}
 use mathlib.Core.List.{List, [], _∷_}
 use mathlib.Core.Bool.{true, _&&_}
 use native.Mathlib.Omega.{arith}
@@ -117,11 +117,14 @@ module _ (s : Setup) where
       let c = child-parts x y (q .1) in
       (formed y (p .0) (p .1), linked-joins x y (c .0), c .1, run-row y ys (q .2))
 
+  pub blocks-row : (p : Option (List ℕ)) (x : List ℕ) (ys : List (List ℕ)) → blocks s p (x ∷ ys) ≡ true → Block x × Row x ys
+  blocks-row p x ys e =
+      let q = blocks-parts s p x ys e in
+      let b = block-parts s x (q .0) in
+      (formed x (b .0) (b .1), run-row x ys (q .2))
+
   pub branch-row : (x : List ℕ) (ys : List (List ℕ)) → judgedRun sha256 s 0 none (x ∷ ys) .number ≡ 0 → Whole (x ∷ ys) → Block x × Row x ys
-  branch-row x ys e w =
-      let q = blocks-parts s none x ys (blocks-judged s 0 none (x ∷ ys) e w) in
-      let p = block-parts s x (q .0) in
-      (formed x (p .0) (p .1), run-row x ys (q .2))
+  branch-row x ys e w = blocks-row none x ys (blocks-judged s 0 none (x ∷ ys) e w)
 
   -- the frames handed in that have a right check are seen
   abbrev pub Known : List Event → List (List ℕ) → Type 0

@@ -125,7 +125,7 @@ module _ (s : Setup) (correct : ℕ → Bool) (calls : List (ℕ × Call)) (p : 
   invariant : Inv s w
   invariant = run-inv s calls start (p .lawful) (start-inv s)
 
-  honest : Honest s correct (w .past)
+  pub honest : Honest s correct (w .past)
   honest =
       record {
         mostly = p .mostly;
@@ -234,7 +234,7 @@ unfolding run
 run-append [] bs w = refl
 run-append (e ∷ es) bs w = run-append es bs (step w (e .0) (e .1))
 
-each-append : (P : World → ℕ → Call → Type 0) (es bs : List (ℕ × Call)) (w : World) → Each P w (es ++ bs)
+pub each-append : (P : World → ℕ → Call → Type 0) (es bs : List (ℕ × Call)) (w : World) → Each P w (es ++ bs)
     → Each P w es × Each P (run w es) bs
 unfolding run
 each-append P [] bs w l = (tt, l)
@@ -261,6 +261,10 @@ unfolding run
 run-grows [] w e p = p
 run-grows (a ∷ bs) w e p = run-grows bs (step w (a .0) (a .1)) e (step-grows w (a .0) (a .1) e p)
 
+pub append-grows : (calls more : List (ℕ × Call)) → Grows (run start calls .past) (run start (calls ++ more) .past)
+append-grows calls more e q =
+    subst (λ (w : World). In e (w .past)) (sym (run-append calls more start)) (run-grows more (run start calls) e q)
+
 pub beginnings : Beginnings
 beginnings s correct calls more p =
     record {
@@ -268,16 +272,12 @@ beginnings s correct calls more p =
       mostly = p .mostly;
       unforged = each-append (Unforged s correct) calls more start (p .unforged) .0;
       distinct = λ x y a b. p .distinct x y (seen x a) (seen y b);
-      patient = λ i x c e. p .patient i x c (grows (emitted i x) e);
+      patient = λ i x c e. p .patient i x c (append-grows calls more (emitted i x) e);
     }
   where
-    grows : Grows (run start calls .past) (run start (calls ++ more) .past)
-    grows e q =
-        subst (λ (w : World). In e (w .past)) (sym (run-append calls more start)) (run-grows more (run start calls) e q)
-
     seen : (x : List ℕ) → (x ≡ genesis) ⊎ Seen x (run start calls .past) → (x ≡ genesis) ⊎ Seen x (run start (calls ++ more) .past)
     seen x (inl e) = inl e
-    seen x (inr q) = inr (seen-grows (run start calls .past) (run start (calls ++ more) .past) grows x q)
+    seen x (inr q) = inr (seen-grows (run start calls .past) (run start (calls ++ more) .past) (append-grows calls more) x q)
 
 pub opened-leaders-differ : OpenedLeadersDiffer
 unfolding start

@@ -12,6 +12,7 @@ pub mod Good
 pub mod Effects
 pub mod Judged
 pub mod Adopt
+pub mod Above
 pub mod Valid
 pub mod Outcomes
 pub mod Tick
@@ -20,7 +21,9 @@ pub mod Branch
 pub mod Equivocation
 pub mod Open
 pub mod World
+pub mod GoodRun
 pub mod Fork
 pub mod Honest
 pub mod Agreement
+pub mod Earlier
 pub mod Cut

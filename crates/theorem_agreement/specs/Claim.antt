@@ -16,6 +16,7 @@ use Rattle.apollo.specs.Calls.{openCall}
 use Rattle.apollo.specs.Refusal.{badReplica, badLength, revertsCommitted}
 use Rattle.theorem_agreement.specs.Run.{Act, Call, emitted, answered, In, World, present, start, framesIn, answer, run}
 use Rattle.theorem_agreement.specs.Premises.{Each, Lawful, Premises}
+use Rattle.theorem_agreement.specs.Cases.{OfLawful, OfPremises, EachState, TwoStates}
 
 -- the claim, of the world that the list leaves
 pub record Agreed (correct : ℕ → Bool) (w : World) : Type 0 where
@@ -49,16 +50,14 @@ Beginnings =
 -- as at the end of a term, all lists are the same
 abbrev pub ByRound : Type 0
 ByRound =
-    (s : Setup) (correct : ℕ → Bool) (calls : List (ℕ × Call)) → Premises s correct calls → (i j : ℕ) (c d : State)
-    → run start calls .states i ≡ some c → run start calls .states j ≡ some d
-    → (c .replica .round .0 ≤ d .replica .round .0 → Begins (committed c) (committed d))
-    × (c .replica .round .0 ≡ d .replica .round .0 → committed c ≡ committed d)
+    OfPremises (λ s calls. TwoStates calls (λ c d.
+    (c .replica .round .0 ≤ d .replica .round .0 → Begins (committed c) (committed d))
+    × (c .replica .round .0 ≡ d .replica .round .0 → committed c ≡ committed d)))
 
 -- and R is at most 2f + 1 above the committed round
 abbrev pub Near : Type 0
 Near =
-    (s : Setup) (correct : ℕ → Bool) (calls : List (ℕ × Call)) → Premises s correct calls → (i : ℕ) (c : State)
-    → run start calls .states i ≡ some c → c .replica .round .0 ≤ c .replica .«committed_round» .0 + 2 * s .f + 1
+    OfPremises (λ s calls. EachState calls (λ c. c .replica .round .0 ≤ c .replica .«committed_round» .0 + 2 * s .f + 1))
 
 -- Beyond demand 3, with no premise about honesty or names: no state meets refusal 2, of these calls or of read and fetch
 pub record Valid (w : World) : Type 0 where
@@ -69,7 +68,7 @@ pub record Valid (w : World) : Type 0 where
   pub answers : In (answered badReplica) (w .past) → ⊥
 
 abbrev pub NeverInvalid : Type 0
-NeverInvalid = (s : Setup) (calls : List (ℕ × Call)) → Each (Lawful s) start calls → Valid (run start calls)
+NeverInvalid = OfLawful (λ s calls. Valid (run start calls))
 
 -- and a replica's committed list only ever grows, whatever anyone sent
 abbrev pub OnlyGrows : Type 0

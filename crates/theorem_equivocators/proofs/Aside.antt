@@ -23,7 +23,7 @@ use Rattle.apollo.specs.BlockRun.{lastOf, judgedRun}
 use Rattle.apollo.specs.Branch.{firstUncertified, grown, adopting, placed, branched, branchWith}
 use Rattle.apollo.specs.Blame.{oneSet, anyFresh, hearingAll, heard, handing}
 use Rattle.apollo.specs.Tick.{blaming, ticked, tickWith}
-use Rattle.apollo.specs.Equivocation.{first, equivocationWith}
+use Rattle.apollo.specs.Equivocation.{equivocationWith}
 use Rattle.apollo.specs.Read.{readCall}
 use Rattle.apollo.specs.Fetch.{fetchCall}
 use Rattle.apollo.proofs.Masks.{bit-kept}

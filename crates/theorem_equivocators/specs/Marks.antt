@@ -15,7 +15,8 @@ use Rattle.apollo.specs.Enter.{State, state}
 use Rattle.apollo.specs.Outcome.{Outcome}
 use Rattle.apollo.specs.Calls.{readCall, fetchCall}
 use Rattle.theorem_agreement.specs.Run.{Act, equivocation, Call, start, answer, run}
-use Rattle.theorem_agreement.specs.Premises.{Each, Lawful, Unforged, Premises}
+use Rattle.theorem_agreement.specs.Premises.{Each, Lawful, Unforged}
+use Rattle.theorem_agreement.specs.Cases.{OfLawful, EachState, PremisesMet, StateLeft}
 use Rattle.theorem_agreement.specs.Marks.{Equivocated}
 
 -- card k is marked in a record
@@ -31,8 +32,7 @@ HighBits =
 -- A mark stands for two blocks: whoever is marked, two good blocks of one round that it led were seen, and their names differ.
 abbrev pub Shown : Type 0
 Shown =
-    (s : Setup) (calls : List (ℕ × Call)) → Each (Lawful s) start calls → (i : ℕ) (c : State) → run start calls .states i ≡ some c
-    → (k : ℕ) → IsMarked (c .replica) k → Equivocated s (run start calls .past) k
+    OfLawful (λ s calls. EachState calls (λ c. (k : ℕ) → IsMarked (c .replica) k → Equivocated s (run start calls .past) k))
 
 -- "A sound card is never marked", in the record of any card that keeps the rules of `Lawful`, sound or not, "while no frame is forged"
 abbrev pub NeverMarked : Type 0
@@ -89,14 +89,9 @@ MarksAside =
     (r : Replica) (log : List ℕ) (m : ℕ) → validMarks r ≡ true → validMarks (withEquivocators r m) ≡ true → Aside r log m
 
 -- Marks come: a list that meets all premises of demand 3 ends with a card marked in a correct card's record.
-pub record Reached : Type 0 where
-  pub setup : Setup
-  pub correct : ℕ → Bool
-  pub calls : List (ℕ × Call)
-  pub premises : Premises setup correct calls
-  pub by : ℕ
-  pub left : State
-  pub leaves : run start calls .states by ≡ some left
+pub record MarksCome : Type 0 where
+  pub list : PremisesMet
+  pub by : StateLeft list
   pub card : ℕ
-  pub sound : correct by ≡ true
-  pub marked : IsMarked (left .replica) card
+  pub sound : list .correct (by .i) ≡ true
+  pub marked : IsMarked (by .c .replica) card

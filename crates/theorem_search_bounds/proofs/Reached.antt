@@ -3,20 +3,15 @@ use mathlib.Core.Path.{refl}
 use Rattle.apollo.specs.Log.{slotsRead}
 use Rattle.theorem_witness.proofs.Answers.{all, skipped-0}
 use Rattle.theorem_witness.proofs.Witness.{setup, correct, first-seven, seven-premises, seven-leave}
-use Rattle.theorem_search_bounds.specs.Bounds.{certifiedRun, Reached}
+use Rattle.theorem_search_bounds.specs.Bounds.{certifiedRun, BoundsReached}
 
 -- replica 0 has skipped round 2, its limit, and finds the block of round 1
-pub reached : Reached
+pub bounds-reached : BoundsReached
 unfolding all setup skipped-0 slotsRead certifiedRun
-reached =
+bounds-reached =
     record {
-      s = setup;
-      correct = correct;
-      calls = first-seven;
-      premises = seven-premises;
-      i = 0;
-      c = skipped-0;
-      left = seven-leave .0;
+      list = record { s = setup; correct = correct; calls = first-seven; premises = seven-premises };
+      reader = record { i = 0; c = skipped-0; left = seven-leave .0 };
       f-one = refl;
       by-masks = refl;
       by-f = refl;

@@ -2,15 +2,13 @@
 -- certified rounds in a row it is the same for a term of 4,096 rounds as for one of 64.
 use Prim.Native.Nat.{ℕ, zero, suc, _+_, _≤_}
 use mathlib.Core.Path.{_≡_}
-use mathlib.Core.Option.{some}
 use mathlib.Core.List.{List}
-use mathlib.Core.Bool.{Bool, cond}
+use mathlib.Core.Bool.{cond}
 use Rattle.apollo.specs.declared.Setup.{Setup}
 use Rattle.apollo.specs.Log.{slotsRead}
 use Rattle.apollo.specs.Masks.{certified}
 use Rattle.apollo.specs.Enter.{State, commitLimit}
-use Rattle.theorem_agreement.specs.Run.{Call, start, run}
-use Rattle.theorem_agreement.specs.Premises.{Each, Lawful, Premises}
+use Rattle.theorem_agreement.specs.Cases.{OfLawful, OfPremises, EachState, PremisesMet, StateLeft}
 
 -- the slots that a commit reads in this state; a call commits by the log and the R that it leaves
 abbrev pub searched : State → ℕ
@@ -25,24 +23,16 @@ certifiedRun s masks (suc r) = cond (certified s masks (suc r)) (certifiedRun s 
 -- the limit is skipped only if it is certified
 abbrev pub ReadsCertified : Type 0
 ReadsCertified =
-    (s : Setup) (calls : List (ℕ × Call)) → Each (Lawful s) start calls → (i : ℕ) (c : State) → run start calls .states i ≡ some c
-    → searched c ≤ certifiedRun s (c .masks) (commitLimit (c .replica)) + 1
+    OfLawful (λ s calls. EachState calls (λ c. searched c ≤ certifiedRun s (c .masks) (commitLimit (c .replica)) + 1))
 
 -- and with the premises of demand 3 at most f + 1 slots
 abbrev pub ReadsFew : Type 0
-ReadsFew =
-    (s : Setup) (correct : ℕ → Bool) (calls : List (ℕ × Call)) → Premises s correct calls → (i : ℕ) (c : State)
-    → run start calls .states i ≡ some c → searched c ≤ s .f + 1
+ReadsFew = OfPremises (λ s calls. EachState calls (λ c. searched c ≤ s .f + 1))
 
 -- Neither is true with a slot less: with f = 1, in a list that meets the premises, a replica reads as many as both allow
-pub record Reached : Type 0 where
-  pub s : Setup
-  pub correct : ℕ → Bool
-  pub calls : List (ℕ × Call)
-  pub premises : Premises s correct calls
-  pub i : ℕ
-  pub c : State
-  pub left : run start calls .states i ≡ some c
-  pub f-one : s .f ≡ 1
-  pub by-masks : searched c ≡ certifiedRun s (c .masks) (commitLimit (c .replica)) + 1
-  pub by-f : searched c ≡ s .f + 1
+pub record BoundsReached : Type 0 where
+  pub list : PremisesMet
+  pub reader : StateLeft list
+  pub f-one : list .s .f ≡ 1
+  pub by-masks : searched (reader .c) ≡ certifiedRun (list .s) (reader .c .masks) (commitLimit (reader .c .replica)) + 1
+  pub by-f : searched (reader .c) ≡ list .s .f + 1

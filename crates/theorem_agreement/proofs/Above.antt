@@ -38,6 +38,12 @@ segment-last log lo (suc m) q e =
         ≡ cond b (slot log (lo + 1) ∷ segment log (lo + 1) m) (segment log (lo + 1) m) ++ lone log q
     go true ih = ap (λ zs. slot log (lo + 1) ∷ zs) ih
     go false ih = ih
+
+-- a whole chain
+pub segment-chain : (log : List ℕ) (n : ℕ) → chain log n ≡ segment log 0 n
+unfolding chain segment
+segment-chain log zero = refl
+segment-chain log (suc n) = ap (λ us. us ++ lone log (suc n)) (segment-chain log n) ∙ sym (segment-last log 0 n (suc n) (omega arith))
 
 pub segment-length : (log : List ℕ) (lo m : ℕ) → length (segment log lo m) ≤ m
 unfolding segment
