@@ -2,29 +2,30 @@
 use Prim.Native.Nat.{ℕ, zero, suc, _+_, _*_, _≤_}
 use mathlib.Core.Path.{_≡_, refl, sym, ap, ap₂, _∙_, subst}
 use mathlib.Core.Logic.{inr}
+use mathlib.Core.Option.{some}
 use mathlib.Core.List.{List, [], _∷_, _++_, flatten}
 use mathlib.Core.Bool.{not}
 use native.Mathlib.Omega.{arith}
 use lib.ListN.{length, take, drop, length-append, length-take, take-append-drop}
 use lib.Seq.{take-at}
 use lib.Dec.{eqb, ltb}
-use Rattle.apollo.specs.declared.Setup.{Setup}
 use Rattle.apollo.specs.Frame.{height, frames}
-use Rattle.apollo.specs.Log.{slot}
+use Rattle.apollo.specs.Log.{slot, chain}
 use Rattle.apollo.specs.Replica.{validReplica}
-use Rattle.apollo.specs.Fetch.{FetchOutcome, fetchCount, fetchCall}
+use Rattle.apollo.specs.Fetch.{FetchOutcome, above, fetchCount, fetchCall}
+use Rattle.apollo.proofs.Fetch.{above-append}
 use Rattle.apollo.specs.Calls.{branchCall}
-use Rattle.apollo.proofs.Judging.{block-length}
 use Rattle.apollo.proofs.Frames.{Whole}
+use Rattle.apollo.proofs.BlockRun.{blocks-whole}
 use Rattle.theorem_agreement.specs.Run.{Event, start, run}
 use Rattle.theorem_agreement.proofs.Tests.{by-cond}
 use Rattle.theorem_agreement.proofs.Frames.{frames-flatten}
 use Rattle.theorem_agreement.proofs.Good.{Good}
+use Rattle.theorem_agreement.proofs.Above.{After, segment-after, cut-from, segment}
 use Rattle.theorem_agreement.proofs.World.{start-inv, run-inv}
-use Rattle.theorem_catch_up.specs.CatchUp.{missing, verdictOf, received, GoesOn, OneFetch}
-use Rattle.theorem_catch_up.proofs.Above.{After, segment-after, cut-from, segment}
-use Rattle.theorem_catch_up.proofs.Run.{Follows}
-use Rattle.theorem_catch_up.proofs.CatchUp.{parts, chain-follows, catch-up}
+use Rattle.theorem_agreement.proofs.GoodRun.{parts, above-run}
+use Rattle.theorem_catch_up.specs.CatchUp.{missing, verdictOf, received, GoesOn, GrowsOn, OneFetch}
+use Rattle.theorem_catch_up.proofs.CatchUp.{catch-up}
 
 pub goes-on : GoesOn
 goes-on s calls l j d e h xs x ys m =
@@ -39,6 +40,9 @@ goes-on s calls l j d e h xs x ys m =
     let n : q .more ≡ a .left = omega (arith, q .to, a .to, p .to) in
     q .is ∙ ap₂ (segment (d .log)) f n ∙ sym (a .rest)
 
+pub grows-on : GrowsOn
+grows-on d e b h = (above h (b .0), ap (above h) (b .1) ∙ above-append h (chain (d .log) (d .replica .«last_round» .0)) (b .0))
+
 -- frames of 512 bytes each, end to end
 flatten-length : (xs : List (List ℕ)) → Whole xs → length (flatten xs) ≡ 512 * length xs
 unfolding flatten
@@ -49,10 +53,6 @@ whole-take : (n : ℕ) (xs : List (List ℕ)) → Whole xs → Whole (take n xs)
 whole-take zero xs w = tt
 whole-take (suc n) [] w = tt
 whole-take (suc n) (x ∷ xs) w = (w .0, whole-take n xs (w .1))
-
-whole-follows : (s : Setup) (p : List ℕ) (xs : List (List ℕ)) → Follows s p xs → Whole xs
-whole-follows s p [] f = tt
-whole-follows s p (x ∷ xs) f = (block-length s x (f .0), whole-follows s x xs (f .2))
 
 -- the frames that a fetch wrote
 module _ (n : ℕ) (xs : List (List ℕ)) (rest : List ℕ) (w : Whole xs) (l : n ≤ length xs) where
@@ -79,8 +79,8 @@ one-fetch s correct calls p i j c d ec ed tray o e x ys m entry out fits room = 
     g = run-inv s calls start (p .lawful) (start-inv s) .good j d ed
 
     whole : Whole xs
-    whole = whole-follows s (slot (d .log) (parts s (run start calls .past) j d g (c .replica .«committed_height» .0) .from)) xs
-        (chain-follows s (run start calls .past) j d g (c .replica .«committed_height» .0))
+    whole = blocks-whole s (some (slot (d .log) (parts s (run start calls .past) j d g (c .replica .«committed_height» .0) .from))) xs
+        (above-run s (run start calls .past) j d g (c .replica .«committed_height» .0))
 
     Answered : FetchOutcome → Type 0
     Answered u = frames (u .answer .count) (u .out) ≡ x ∷ ys → verdictOf (branchCall c (take (512 * u .answer .count) (u .out)) entry out) ≡ received c (c .replica .«committed_round» .0) x ys

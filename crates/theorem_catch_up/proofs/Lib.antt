@@ -1,5 +1,3 @@
-pub mod Above
-pub mod Run
 pub mod CatchUp
 pub mod Fetches
 pub mod Split

@@ -17,8 +17,8 @@ use Rattle.theorem_agreement.specs.Run.{Call, start, run}
 use Rattle.theorem_agreement.specs.Premises.{Premises}
 use Rattle.theorem_witness.proofs.Frames.{b1, b3, b4, m0, m2, checked1, checked-m0, checked-m2}
 use Rattle.theorem_witness.proofs.Answers.{out, all, opened-1, blaming-2, heard-0, skipped-0, skipped-2, last-0, last-2}
-use Rattle.theorem_witness.proofs.Witness.{setup, correct, first-five, first-seven, first-eight, first-ten, five-premises, seven-premises, eight-premises, ten-premises, five-leave, seven-leave, eight-leave, ten-leave}
-use Rattle.theorem_catch_up.specs.CatchUp.{missing, received, beneath, Comes, Reached}
+use Rattle.theorem_witness.proofs.Witness.{setup, correct, first-five, first-seven, first-eight, first-ten, five-premises, seven-premises, eight-premises, ten-premises, five-leave, seven-leave, eight-leave, ten-leave, had-waited}
+use Rattle.theorem_catch_up.specs.CatchUp.{missing, received, beneath, Comes, VerdictsCome, TakenLater}
 
 early-blames : number (blamesCall opened-1 (m2 ++ m0) [] out) ≡ 14
 unfolding all opened-1 refused
@@ -29,20 +29,14 @@ unfolding all opened-1 beneath flatten
 first-taken = rw checked1 refl
 
 -- in the world of some calls
-abbrev at : (es : List (ℕ × Call)) → Premises setup correct es → (i j : ℕ) (c d : State) → run start es .states i ≡ some c
-    → run start es .states j ≡ some d → i ≢ j → (x : List ℕ) (ys : List (List ℕ)) → missing c d ≡ x ∷ ys → (v : Verdict) → received c (c .replica .«committed_round» .0) x ys ≡ v → Comes v
+abbrev at : (es : List (ℕ × Call)) (p : Premises setup correct es) (i j : ℕ) (c d : State) → run start es .states i ≡ some c
+    → run start es .states j ≡ some d → i ≢ j → (x : List ℕ) (ys : List (List ℕ)) → missing c d ≡ x ∷ ys → (v : Verdict)
+    → received c (c .replica .«committed_round» .0) x ys ≡ v → Comes v
 at es p i j c d ec ed ne x ys m v e =
     record {
-      s = setup;
-      correct = correct;
-      calls = es;
-      premises = p;
-      i = i;
-      j = j;
-      c = c;
-      d = d;
-      c-is = ec;
-      d-is = ed;
+      list = record { s = setup; correct = correct; calls = es; premises = p };
+      back = record { i = i; c = c; left = ec };
+      other = record { i = j; c = d; left = ed };
       x = x;
       ys = ys;
       apart = ne;
@@ -50,9 +44,9 @@ at es p i j c d ec ed ne x ys m v e =
       verdict-is = e;
     }
 
-pub reached : Reached
+pub verdicts-come : VerdictsCome
 unfolding setup all opened-1 blaming-2 heard-0 skipped-0 skipped-2 last-0 last-2 above chain received
-reached =
+verdicts-come =
     record {
       over = at first-ten ten-premises 0 2 last-0 last-2 (ten-leave .0) (ten-leave .1) (λ z. omega (arith, z)) b4 [] refl (verdict 3 0) refl;
       behind = at first-five five-premises 0 2 heard-0 blaming-2 (five-leave .0) (five-leave .1) (λ z. omega (arith, z)) b1 [] refl (verdict 10 0) refl;
@@ -71,4 +65,23 @@ reached =
       out = out;
       too-early = early-blames;
       below-taken = first-taken;
+    }
+
+-- replica 2 passes round 2 by the blames of the eighth call, and commits block 1; then blocks 1 and 3 go in again
+pub taken-later : TakenLater
+unfolding setup all blaming-2 skipped-0 skipped-2 above chain received
+taken-later =
+    record {
+      list = record { s = setup; correct = correct; calls = first-eight; premises = eight-premises };
+      back = record { i = 2; c = skipped-2; left = eight-leave .1 };
+      other = record { i = 0; c = skipped-0; left = eight-leave .0 };
+      before = blaming-2;
+      had = had-waited;
+      x = b1;
+      ys = b3 ∷ [];
+      apart = λ z. omega (arith, z);
+      fetched = refl;
+      waited = refl;
+      more = omega arith;
+      taken = refl;
     }

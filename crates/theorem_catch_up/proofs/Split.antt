@@ -12,7 +12,6 @@ use borrow.Author.Tests.{eqb-true, eqb-false, leb-true, leb-false, ltb-true, ltb
 use Rattle.sha256.specs.Fips.{sha256}
 use Rattle.apollo.specs.declared.Setup.{Setup}
 use Rattle.apollo.specs.declared.Verdict.{Verdict}
-use Rattle.apollo.specs.Setup.{setupOf}
 use Rattle.apollo.specs.Frame.{round, height}
 use Rattle.apollo.specs.Log.{slot}
 use Rattle.apollo.specs.Masks.{certified, gap}
@@ -20,17 +19,19 @@ use Rattle.apollo.specs.Replica.{leads}
 use Rattle.apollo.specs.Enter.{State, Effect, commit, tipped, holding, entered, proposing, enterRound}
 use Rattle.apollo.specs.Judging.{verdict}
 use Rattle.apollo.specs.Outcome.{taken}
-use Rattle.apollo.specs.Branch.{lastOf, firstUncertified, adopting}
+use Rattle.apollo.specs.BlockRun.{lastOf, blocks}
+use Rattle.apollo.specs.Branch.{firstUncertified, adopting}
 use Rattle.apollo.specs.Fetch.{fetchable}
 use Rattle.apollo.specs.Calls.{branchCall}
 use Rattle.apollo.specs.BenchSheet.{number, newRound}
-use Rattle.theorem_agreement.specs.Run.{Call, start, run}
-use Rattle.theorem_agreement.specs.Premises.{Each, Lawful}
+use Rattle.apollo.proofs.BlockRun.{child-parts, blocks-parts}
+use Rattle.theorem_agreement.specs.Run.{Event, start, run}
 use Rattle.theorem_agreement.proofs.Tests.{clash, by-cond, cond-true}
-use Rattle.theorem_agreement.proofs.Good.{Good, setup-is}
-use Rattle.theorem_catch_up.specs.CatchUp.{lacking, received, Shared, beneath, Split}
-use Rattle.theorem_catch_up.proofs.Run.{Follows, child-parts}
-use Rattle.theorem_catch_up.proofs.CatchUp.{gc, rests, tip-most, round-d, run-on, taken-so}
+use Rattle.theorem_agreement.proofs.Chain.{Held}
+use Rattle.theorem_agreement.proofs.Good.{Good, Rested, setup-is}
+use Rattle.theorem_agreement.proofs.Agreement.{honest}
+use Rattle.theorem_catch_up.specs.CatchUp.{lacking, received, beneath, Split, SplitLater}
+use Rattle.theorem_catch_up.proofs.CatchUp.{Extending, own, taken-so, tip-most, round-d, run-on, extending, extending-late, goods, rests, gc, rc, gd, held₀, from₀, same₀}
 
 -- the first round above lo that is not certified: all before it are
 gap-found : (s : Setup) (masks : List ℕ) (lo k q : ℕ) → gap s masks lo k ≡ q → q ≢ 0
@@ -73,16 +74,16 @@ module _ (s : Setup) (masks : List ℕ) (q : ℕ) (is : q ≢ 0) where
     ends : endOf lo us < q
     between : (r : ℕ) → endOf lo us < r → r < q → certified s masks r ≡ true
 
-  below : (xs : List (List ℕ)) (p : List ℕ) → Follows s p xs → (lo : ℕ) → round p ≡ lo → firstUncertified s masks lo xs ≡ q
+  below : (xs : List (List ℕ)) (p : List ℕ) → blocks s (some p) xs ≡ true → (lo : ℕ) → round p ≡ lo → firstUncertified s masks lo xs ≡ q
       → Below lo (beneath q xs)
   unfolding firstUncertified beneath
   below [] p f lo e u = absurd (is (sym u))
   below (x ∷ xs) p f lo e u =
       by-cond (λ v. v ≡ q → Below lo (cond (ltb (round x) q) (x ∷ beneath q xs) [])) (eqb (gap s masks lo (round x - lo - 1)) 0)
-      (λ z v. on z (below xs x (f .2) (round x) refl v)) (λ z v. here v) u
+      (λ z v. on z (below xs x (blocks-parts s (some p) x xs f .2) (round x) refl v)) (λ z v. here v) u
     where
       up : lo < round x
-      up = omega (arith, child-parts s p x (f .1) .1)
+      up = omega (arith, child-parts p x (blocks-parts s (some p) x xs f .1) .1)
 
       on : eqb (gap s masks lo (round x - lo - 1)) 0 ≡ true → Below (round x) (beneath q xs)
           → Below lo (cond (ltb (round x) q) (x ∷ beneath q xs) [])
@@ -124,26 +125,20 @@ round-after c a x ys entry out =
     by-cond (λ (e : Effect). round (lastOf x ys) < e .state .replica .round .0) (leads (holding c _ _ _ .replica))
     (λ _. unfold entered commit proposing holding tipped in omega arith) (λ _. unfold entered commit holding tipped in omega arith)
 
-module _ (s : Setup) (calls : List (ℕ × Call)) (l : Each (Lawful s) start calls) (i j : ℕ) (c d : State)
-    (ec : run start calls .states i ≡ some c) (ed : run start calls .states j ≡ some d) (k : ℕ) (sh : Shared c d k)
-    (x : List ℕ) (ys zs : List (List ℕ)) (m : fetchable (d .replica) (d .log) (height (slot (c .log) k)) ≡ x ∷ (ys ++ zs))
-    (q : ℕ) (w : Lacks c k x ys q) where
+-- frames that d had above a block that c holds too, and that are answered 13 at c
+module _ (s : Setup) (past : List Event) (i j : ℕ) (c d : State) (gc : Good s past i c) (rc : Rested c) (gd : Good s past j d) (k : ℕ)
+    (held : Held (slot (c .log)) k) (same : slot (c .log) k ≡ slot (d .log) k) (x : List ℕ) (ys zs : List (List ℕ))
+    (m : fetchable (d .replica) (d .log) (height (slot (c .log) k)) ≡ x ∷ (ys ++ zs)) (q : ℕ) (w : Lacks c k x ys q) where
   abbrev R : ℕ
   R = c .replica .round .0
-
-  abbrev g : Good s (run start calls .past) i c
-  g = gc s calls l i j c d ec ed
 
   abbrev us : List (List ℕ)
   us = beneath q (x ∷ ys)
 
-  own : (vs : List (List ℕ)) → firstUncertified (setupOf (c .replica)) (c .masks) k vs ≡ firstUncertified s (c .masks) k vs
-  own vs = ap (λ u. firstUncertified u (c .masks) k vs) (setup-is s i (c .replica) (g .fixed))
-
   under : Below s (c .masks) q (w .lies) k us
   under =
-      below s (c .masks) q (w .lies) (x ∷ ys) (slot (d .log) k) (run-on s calls l i j c d ec ed k sh x ys zs m) k
-      (round-d s calls l i j c d ec ed k sh x ys zs m) (sym (own (x ∷ ys)) ∙ w .first)
+      below s (c .masks) q (w .lies) (x ∷ ys) (slot (d .log) k) (run-on s past i j c d gc rc gd k held same x ys zs m) k
+      (round-d s past i j c d gc rc gd k held same x ys zs m) (sym (own s past i j c d gc rc gd k (x ∷ ys)) ∙ w .first)
 
   -- a certified round is below R
   passed : (r : ℕ) → certified s (c .masks) r ≡ true → r < R
@@ -151,8 +146,7 @@ module _ (s : Setup) (calls : List (ℕ × Call)) (l : Each (Lawful s) start cal
     where
       go : (b : Bool) → leb R r ≡ b → r < R
       go true e =
-          absurd (clash (ap (λ u. certified u (c .masks) r) (setup-is s i (c .replica) (g .fixed)) ∙ t)
-          (rests s calls l i j c d ec ed .ahead r (leb-true _ _ e)))
+          absurd (clash (ap (λ u. certified u (c .masks) r) (setup-is s i (c .replica) (gc .fixed)) ∙ t) (rc .ahead r (leb-true _ _ e)))
       go false e = leb-false _ _ e
 
   -- above R, the frames below q end right before it
@@ -165,34 +159,54 @@ module _ (s : Setup) (calls : List (ℕ × Call)) (l : Each (Lawful s) start cal
           let f : endOf k us + 1 < q = leb-false _ _ e in
           absurd (omega (arith, passed (q - 1) (under .between (q - 1) (omega arith) (omega arith))))
 
-  module _ (entry out : List ℕ) (fits : length entry ≤ 400) (room : 1024 ≤ length out) (high : R < q) where
+  -- where runs that reach R are taken
+  module _ (ext : (z : List ℕ) (vs rest : List (List ℕ)) → fetchable (d .replica) (d .log) (height (slot (c .log) k)) ≡ z ∷ (vs ++ rest)
+      → R ≤ round (lastOf z vs) → Extending c k z vs) (entry out : List ℕ) (fits : length entry ≤ 400) (room : 1024 ≤ length out) where
     abbrev Taken : List (List ℕ) → Type 0
     Taken vs = (number (branchCall c (flatten vs) entry out) ≡ 0) × (q ≤ newRound (branchCall c (flatten vs) entry out))
 
-    those : (vs : List (List ℕ)) → us ≡ vs → Taken vs
-    those [] e =
-        absurd (omega (arith, ends-right high, ap (endOf k) e, tip-most s calls l i j c d ec ed k sh x ys zs m, g .tip-below))
-    those (z ∷ vs) e =
+    those : R < q → (vs : List (List ℕ)) → us ≡ vs → Taken vs
+    those high [] e =
+        absurd (omega (arith, ends-right high, ap (endOf k) e, tip-most s past i j c d gc rc gd k held same x ys zs m, gc .tip-below))
+    those high (z ∷ vs) e =
         let r : (rest : List (List ℕ)) × (x ∷ ys ≡ us ++ rest) = beneath-front q (x ∷ ys) in
         let n : fetchable (d .replica) (d .log) (height (slot (c .log) k)) ≡ z ∷ (vs ++ (r .0 ++ zs)) =
         m ∙ ap (λ ws. ws ++ zs) (r .1 ∙ ap (λ ws. ws ++ r .0) e) ∙ append-assoc (z ∷ vs) (r .0) zs in
         let end : round (lastOf z vs) + 1 ≡ q = ap (λ t. t + 1) (sym (end-last k z vs) ∙ ap (endOf k) (sym e)) ∙ ends-right high in
-        let none : lacking c k z vs ≡ 0 = own (z ∷ vs) ∙ ap (firstUncertified s (c .masks) k) (sym e) ∙ under .none in
+        let late : R ≤ round (lastOf z vs) = omega (arith, end) in
+        let none : lacking c k z vs ≡ 0 =
+        own s past i j c d gc rc gd k (z ∷ vs) ∙ ap (firstUncertified s (c .masks) k) (sym e) ∙ under .none in
         let o : branchCall c (flatten (z ∷ vs)) entry out ≡ taken (adopting sha256 entry c k z vs) out =
-        taken-so s calls l i j c d ec ed k sh z vs (r .0 ++ zs) n entry out fits room (w .runs) (omega (arith, end)) none in (
+        taken-so s past i j c d gc rc gd (height (slot (c .log) k)) z vs (r .0 ++ zs) n k entry out fits room (w .runs) late
+        (ext z vs (r .0 ++ zs) n late) none in (
           ap number o ∙ (unfold taken in refl),
           subst (λ t. q ≤ newRound t) (sym o) (omega (arith, end, round-after c k z vs entry out)),
         )
 
-pub split : Split
-split s calls l i j c d ec ed k sh x ys zs m q e entry out fits room = go (leb q (c .replica .round .0)) refl
-  where
-    us : List (List ℕ)
-    us = beneath q (x ∷ ys)
+    no-dead-end : (q ≤ R) ⊎ Taken us
+    no-dead-end = go (leb q R) refl
+      where
+        go : (b : Bool) → leb q R ≡ b → (q ≤ R) ⊎ Taken us
+        go true z = inl (leb-true _ _ z)
+        go false z = inr (those (leb-false _ _ z) us refl)
 
-    go : (b : Bool) → leb q (c .replica .round .0) ≡ b
-        → (q ≤ c .replica .round .0)
-        ⊎ ((number (branchCall c (flatten us) entry out) ≡ 0) × (q ≤ newRound (branchCall c (flatten us) entry out)))
-    go true z = inl (leb-true _ _ z)
-    go false z =
-        inr (those s calls l i j c d ec ed k sh x ys zs m q (lacks c k x ys q e) entry out fits room (leb-false _ _ z) us refl)
+pub split : Split
+split s calls l i j c d ec ed k sh x ys zs m q e =
+    let past : List Event = run start calls .past in
+    let gc : Good s past i c = goods s calls l i c ec in
+    let rc : Rested c = rests s calls l i c ec in
+    let gd : Good s past j d = goods s calls l j d ed in
+    no-dead-end s past i j c d gc rc gd k (sh .held) (sh .same) x ys zs m q (lacks c k x ys q e)
+    (λ z vs rest n _. extending s past i j c d gc rc gd k (sh .held) (sh .same) z vs rest n (sh .from-committed))
+
+pub split-later : SplitLater
+split-later s correct calls p i j c c₀ d ec hc hd x ys zs m q e =
+    let k : ℕ = c₀ .replica .«committed_round» .0 in
+    let w : Lacks c k x ys q = lacks c k x ys q e in
+    let held : Held (slot (c .log)) k = held₀ s correct calls p i j c c₀ d ec hc hd in
+    let same : slot (c .log) k ≡ slot (d .log) k = same₀ s correct calls p i j c c₀ d ec hc hd x ys zs m (w .late) in
+    no-dead-end s (run start calls .past) i j c d (gc s correct calls p i j c c₀ d ec hc hd) (rc s correct calls p i j c c₀ d ec hc hd)
+    (gd s correct calls p i j c c₀ d ec hc hd) k held same x ys zs (from₀ s correct calls p i j c c₀ d ec hc hd x ys zs m) q w
+    (λ z vs rest n late. extending-late s (run start calls .past) i j c d (gc s correct calls p i j c c₀ d ec hc hd)
+    (rc s correct calls p i j c c₀ d ec hc hd) (gd s correct calls p i j c c₀ d ec hc hd) k held same z vs rest n correct
+    (honest s correct calls p) late)

@@ -1,28 +1,29 @@
 -- A replica that was away comes back (document 02, F-5): what it fetches from a neighbour, where that reaches its R, is a branch that it
 -- takes once it has the blames of the rounds that the neighbour skipped.
-use Prim.Native.Nat.{ℕ, _+_, _*_, _≤_}
+use Prim.Native.Nat.{ℕ, _+_, _*_, _≤_, _<_}
 use mathlib.Core.Path.{_≡_}
 use mathlib.Core.Logic.{_⊎_, _≢_}
 use mathlib.Core.Option.{some}
 use mathlib.Core.List.{List, [], _∷_, _++_, flatten}
-use mathlib.Core.Bool.{Bool, true, cond}
+use mathlib.Core.Bool.{true, cond}
 use lib.ListN.{length, take}
 use lib.Dec.{eqb, ltb}
-use Rattle.apollo.specs.declared.Setup.{Setup}
 use Rattle.apollo.specs.declared.Verdict.{Verdict}
 use Rattle.apollo.specs.Setup.{setupOf}
 use Rattle.apollo.specs.Frame.{round, height, frames}
-use Rattle.apollo.specs.Log.{slot, filled}
+use Rattle.apollo.specs.Log.{slot, filled, chain}
+use Rattle.apollo.specs.Committed.{Begins}
 use Rattle.apollo.specs.Enter.{State}
 use Rattle.apollo.specs.Judging.{verdict, noRefusal}
 use Rattle.apollo.specs.Outcome.{Outcome}
-use Rattle.apollo.specs.Branch.{lastOf, firstUncertified}
+use Rattle.apollo.specs.BlockRun.{lastOf}
+use Rattle.apollo.specs.Branch.{firstUncertified}
 use Rattle.apollo.specs.Fetch.{FetchOutcome, fetchable, fetchCall}
 use Rattle.apollo.specs.Calls.{branchCall, blamesCall}
 use Rattle.apollo.specs.Refusal.{roundsOver, stale, notCertified, early}
-use Rattle.apollo.specs.BenchSheet.{number, newRound, blocks}
-use Rattle.theorem_agreement.specs.Run.{Call, start, run}
-use Rattle.theorem_agreement.specs.Premises.{Each, Lawful, Premises}
+use Rattle.apollo.specs.BenchSheet.{number, newRound}
+use Rattle.theorem_agreement.specs.Run.{start, run}
+use Rattle.theorem_agreement.specs.Cases.{OfLawful, OfPremises, EachState, TwoStates, Had, PremisesMet, StateLeft}
 
 -- what a replica in state d has for one in state c: its chain (line) frames above c's committed height, lowest rounds first
 abbrev pub missing : (c d : State) → List (List ℕ)
@@ -58,112 +59,125 @@ unfoldable pub beneath : (q : ℕ) → List (List ℕ) → List (List ℕ)
 beneath q [] = []
 beneath q (x ∷ xs) = cond (ltb (round x) q) (x ∷ beneath q xs) []
 
--- what holds of every replica's state d after any lawful list, whatever anyone sent
-abbrev pub OfOne : (Setup → (d : State) → Type 0) → Type 0
-OfOne P =
-    (s : Setup) (calls : List (ℕ × Call)) → Each (Lawful s) start calls → (j : ℕ) (d : State) → run start calls .states j ≡ some d → P s d
-
--- and of any two replicas' states c and d
-abbrev pub OfLawful : ((c d : State) → Type 0) → Type 0
-OfLawful P =
-    (s : Setup) (calls : List (ℕ × Call)) → Each (Lawful s) start calls → (i j : ℕ) (c d : State)
-    → run start calls .states i ≡ some c → run start calls .states j ≡ some d → P c d
-
--- what holds of any two replicas' states c and d where the list meets demand 3's premises
-abbrev pub OfPremises : ((c d : State) → Type 0) → Type 0
-OfPremises P =
-    (s : Setup) (correct : ℕ → Bool) (calls : List (ℕ × Call)) → Premises s correct calls → (i j : ℕ) (c d : State)
-    → run start calls .states i ≡ some c → run start calls .states j ≡ some d → P c d
-
 -- c answers a branch with v, for any entry and out buffer that pass 4 and 5
 abbrev pub Answers : (c : State) (bytes : List ℕ) → Verdict → Type 0
 Answers c bytes v =
     (entry out : List ℕ) → length entry ≤ 400 → 1024 ≤ length out → verdictOf (branchCall c bytes entry out) ≡ v
 
--- The frames of a chain above some height, from the first on, are good and each is the child of the one before: they pass 7, 8 and 9
-abbrev pub GoodRun : Type 0
-GoodRun =
-    OfOne (λ s d. (h : ℕ) (x : List ℕ) (ys zs : List (List ℕ)) → fetchable (d .replica) (d .log) h ≡ x ∷ (ys ++ zs)
-    → blocks s x ys ≡ true)
-
--- and a fetch that goes on from the height of one of them copies from those after it: fetches one after another give all, while d stays
+-- A fetch that goes on from the height of a frame of d's chain copies from those after it: fetches one after another give all, while d
+-- stays. They pass 7, 8 and 9 (`GoodRun`)
 abbrev pub GoesOn : Type 0
 GoesOn =
-    OfOne (λ s d. (h : ℕ) (xs : List (List ℕ)) (x : List ℕ) (ys : List (List ℕ)) → fetchable (d .replica) (d .log) h ≡ xs ++ (x ∷ ys)
-    → fetchable (d .replica) (d .log) (height x) ≡ ys)
+    OfLawful (λ s calls. EachState calls (λ d. (h : ℕ) (xs : List (List ℕ)) (x : List ℕ) (ys : List (List ℕ))
+    → fetchable (d .replica) (d .log) h ≡ xs ++ (x ∷ ys) → fetchable (d .replica) (d .log) (height x) ≡ ys))
+
+-- and where its chain has only grown, to that of e, what it has above a height begins with what it had
+abbrev pub GrowsOn : Type 0
+GrowsOn =
+    (d e : State) → Begins (chain (d .log) (d .replica .«last_round» .0)) (chain (e .log) (e .replica .«last_round» .0))
+    → (h : ℕ) → Begins (fetchable (d .replica) (d .log) h) (fetchable (e .replica) (e .log) h)
 
 -- What d has above a block that both hold, all of it or a beginning (of one fetch, say), end to end, is answered so. Never with 2, 6, 7,
 -- 8, 9, 11 or 12
 abbrev pub Continues : Type 0
 Continues =
-    OfLawful (λ c d. (k : ℕ) → Shared c d k → (x : List ℕ) (ys zs : List (List ℕ)) → beyond c d k ≡ x ∷ (ys ++ zs)
-    → Answers c (flatten (x ∷ ys)) (received c k x ys))
+    OfLawful (λ s calls. TwoStates calls (λ c d. (k : ℕ) → Shared c d k → (x : List ℕ) (ys zs : List (List ℕ))
+    → beyond c d k ≡ x ∷ (ys ++ zs) → Answers c (flatten (x ∷ ys)) (received c k x ys)))
 
 -- A blame for a round above R is early (14). After a 13 that is no dead end: the round that it names is at most R, or else the frames below
 -- that round, handed in by themselves, are taken, and then it is
-abbrev pub Split : Type 0
-Split =
-    OfLawful (λ c d. (k : ℕ) → Shared c d k → (x : List ℕ) (ys zs : List (List ℕ)) → beyond c d k ≡ x ∷ (ys ++ zs)
-    → (q : ℕ) → received c k x ys ≡ verdict notCertified q → (entry out : List ℕ) → length entry ≤ 400 → 1024 ≤ length out
+abbrev pub NoDeadEnd : (c : State) (k : ℕ) (x : List ℕ) (ys : List (List ℕ)) → Type 0
+NoDeadEnd c k x ys =
+    (q : ℕ) → received c k x ys ≡ verdict notCertified q → (entry out : List ℕ) → length entry ≤ 400 → 1024 ≤ length out
     → (q ≤ c .replica .round .0)
     ⊎ ((number (branchCall c (flatten (beneath q (x ∷ ys))) entry out) ≡ 0)
-    × (q ≤ newRound (branchCall c (flatten (beneath q (x ∷ ys))) entry out))))
+    × (q ≤ newRound (branchCall c (flatten (beneath q (x ∷ ys))) entry out)))
+
+abbrev pub Split : Type 0
+Split =
+    OfLawful (λ s calls. TwoStates calls (λ c d. (k : ℕ) → Shared c d k → (x : List ℕ) (ys zs : List (List ℕ))
+    → beyond c d k ≡ x ∷ (ys ++ zs) → NoDeadEnd c k x ys))
 
 -- With the premises, c's committed block is such a one as soon as what d has above it reaches c's R
 abbrev pub Common : Type 0
 Common =
-    OfPremises (λ c d. (x : List ℕ) (ys zs : List (List ℕ)) → missing c d ≡ x ∷ (ys ++ zs) → c .replica .round .0 ≤ round (lastOf x ys)
-    → Shared c d (c .replica .«committed_round» .0))
+    OfPremises (λ s calls. TwoStates calls (λ c d. (x : List ℕ) (ys zs : List (List ℕ)) → missing c d ≡ x ∷ (ys ++ zs)
+    → c .replica .round .0 ≤ round (lastOf x ys) → Shared c d (c .replica .«committed_round» .0)))
 
 -- so what d has above c's committed height, all of it or a beginning, is answered so, wherever it ends
 abbrev pub CatchUp : Type 0
 CatchUp =
-    OfPremises (λ c d. (x : List ℕ) (ys zs : List (List ℕ)) → missing c d ≡ x ∷ (ys ++ zs) → Answers c (flatten (x ∷ ys))
-    (received c (c .replica .«committed_round» .0) x ys))
+    OfPremises (λ s calls. TwoStates calls (λ c d. (x : List ℕ) (ys zs : List (List ℕ))
+    → missing c d ≡ x ∷ (ys ++ zs) → Answers c (flatten (x ∷ ys)) (received c (c .replica .«committed_round» .0) x ys)))
 
 -- and with one fetch at d and one branch at c: x and ys are what the fetch wrote to its out buffer (tray)
 abbrev pub OneFetch : Type 0
 OneFetch =
-    OfPremises (λ c d. (tray : List ℕ) (o : FetchOutcome) → o ≡ fetchCall (d .replica) (d .log) (c .replica .«committed_height» .0) tray
+    OfPremises (λ s calls. TwoStates calls (λ c d. (tray : List ℕ) (o : FetchOutcome)
+    → o ≡ fetchCall (d .replica) (d .log) (c .replica .«committed_height» .0) tray
     → (x : List ℕ) (ys : List (List ℕ)) → frames (o .answer .count) (o .out) ≡ x ∷ ys
-    → Answers c (take (512 * o .answer .count) (o .out)) (received c (c .replica .«committed_round» .0) x ys))
+    → Answers c (take (512 * o .answer .count) (o .out)) (received c (c .replica .«committed_round» .0) x ys)))
+
+-- Of what was fetched earlier: c is a replica's state now, c₀ one that it had, and d one that any replica had. x and ys are what d had
+-- above the height that c₀ had committed, all of it or a beginning; P speaks of c, of the round that c₀ had committed, and of these frames
+abbrev pub OfFetched : ((c : State) (k : ℕ) (x : List ℕ) (ys : List (List ℕ)) → Type 0) → Type 0
+OfFetched P =
+    OfPremises (λ s calls. (i j : ℕ) (c c₀ d : State) → run start calls .states i ≡ some c → Had calls i c₀ → Had calls j d
+    → (x : List ℕ) (ys zs : List (List ℕ)) → missing c₀ d ≡ x ∷ (ys ++ zs) → P c (c₀ .replica .«committed_round» .0) x ys)
+
+-- It is answered so too, whatever came since: c may have committed more, by the blames after a 13, say, and d's chain may be another one
+abbrev pub CatchUpLater : Type 0
+CatchUpLater = OfFetched (λ c k x ys. Answers c (flatten (x ∷ ys)) (received c k x ys))
+
+-- and a 13 is no dead end
+abbrev pub SplitLater : Type 0
+SplitLater = OfFetched NoDeadEnd
 
 -- The premises can hold, and each of these verdicts comes, on whole runs that one replica has for another
 pub record Comes (v : Verdict) : Type 0 where
-  pub s : Setup
-  pub correct : ℕ → Bool
-  pub calls : List (ℕ × Call)
-  pub premises : Premises s correct calls
-  pub i : ℕ
-  pub j : ℕ
-  pub c : State
-  pub d : State
-  pub c-is : run start calls .states i ≡ some c
-  pub d-is : run start calls .states j ≡ some d
+  pub list : PremisesMet
+  pub back : StateLeft list
+  pub other : StateLeft list
   pub x : List ℕ
   pub ys : List (List ℕ)
-  pub apart : i ≢ j
-  pub has : missing c d ≡ x ∷ ys
-  pub verdict-is : received c (c .replica .«committed_round» .0) x ys ≡ v
+  pub apart : back .i ≢ other .i
+  pub has : missing (back .c) (other .c) ≡ x ∷ ys
+  pub verdict-is : received (back .c) (back .c .replica .«committed_round» .0) x ys ≡ v
 
-pub record Reached : Type 0 where
+pub record VerdictsCome : Type 0 where
   pub over : Comes (verdict roundsOver 0)
   pub behind : Comes (verdict stale 0)
   pub taken : Comes noRefusal
   -- the round named is R: its blames go in at once
   pub waits : Comes (verdict notCertified 2)
-  pub waits-for : waits .c .replica .round .0 ≡ 2
+  pub waits-for : waits .back .c .replica .round .0 ≡ 2
   -- both hold the block of round 1 there, and c has committed nothing: from that block on d has one frame for it
-  pub shared : Shared (waits .c) (waits .d) 1
-  pub uncommitted : waits .c .replica .«committed_round» .0 ≡ 0
-  pub one-more : length (beyond (waits .c) (waits .d) 1) ≡ 1
+  pub shared : Shared (waits .back .c) (waits .other .c) 1
+  pub uncommitted : waits .back .c .replica .«committed_round» .0 ≡ 0
+  pub one-more : length (beyond (waits .back .c) (waits .other .c) 1) ≡ 1
   -- The split is needed: the round named is above R, its two blames, f + 1 of them, are early, and the frames below it are taken
   pub far : Comes (verdict notCertified 2)
-  pub far-from : far .c .replica .round .0 ≡ 1
-  pub f-one : far .s .f ≡ 1
+  pub far-from : far .back .c .replica .round .0 ≡ 1
+  pub f-one : far .list .s .f ≡ 1
   pub blames : List ℕ
   pub of-round : round blames ≡ 2
   pub two : length blames ≡ 1024
   pub out : List ℕ
-  pub too-early : number (blamesCall (far .c) blames [] out) ≡ early
-  pub below-taken : number (branchCall (far .c) (flatten (beneath 2 (far .x ∷ far .ys))) [] out) ≡ 0
+  pub too-early : number (blamesCall (far .back .c) blames [] out) ≡ early
+  pub below-taken : number (branchCall (far .back .c) (flatten (beneath 2 (far .x ∷ far .ys))) [] out) ≡ 0
+
+-- Frames are answered 13, the committed round grows by the blames of the round named (document 02, F-2), and the same frames are taken: they
+-- begin at or below it now, so that `CatchUp` does not speak of them any more
+pub record TakenLater : Type 0 where
+  pub list : PremisesMet
+  pub back : StateLeft list
+  pub other : StateLeft list
+  pub before : State
+  pub had : Had (list .calls) (back .i) before
+  pub x : List ℕ
+  pub ys : List (List ℕ)
+  pub apart : back .i ≢ other .i
+  pub fetched : missing before (other .c) ≡ x ∷ ys
+  pub waited : received before (before .replica .«committed_round» .0) x ys ≡ verdict notCertified 2
+  pub more : before .replica .«committed_round» .0 < back .c .replica .«committed_round» .0
+  pub taken : received (back .c) (before .replica .«committed_round» .0) x ys ≡ noRefusal

@@ -23,6 +23,7 @@ use Rattle.apollo.specs.Outcome.{stateOf}
 use Rattle.apollo.specs.Calls.{blamesCall}
 use Rattle.theorem_agreement.specs.Run.{Act, branch, blame, blames, tick, equivocation, Call, opening, act, Event, handed, emitted, answered, In, Seen, World, isOpen, present, start, uncut, framesIn, emit, answer, run}
 use Rattle.theorem_agreement.specs.Premises.{Mostly, Patient, Distinct, Premises}
+use Rattle.theorem_agreement.specs.Cases.{Had}
 use Rattle.theorem_agreement.specs.Claim.{Agreed}
 use Rattle.theorem_agreement.proofs.Agreement.{agreement, all-correct, beginnings}
 use Rattle.theorem_witness.proofs.Frames.{d1, d2, d3, d4, e0, e2, b1, b2, b2′, b3, b4, m0, m2, checked1, checked2, checked2′, checked3, checked4, checked-m0, checked-m2}
@@ -418,6 +419,11 @@ unfolding worlds
 eight-leave =
     let e : (i : ℕ) → run start first-eight .states i ≡ w7 .states i = λ i. ap (λ (w : World). w .states i) (goes setup correct eight) in
     (e 0, e 2)
+
+-- before the last of these replica 2 waited for round 2
+pub had-waited : Had first-eight 2 blaming-2
+unfolding first-eight
+had-waited = record { first = first-seven; rest = _; whole = refl; left = seven-leave .2 }
 
 -- Document 02, F-2, in the eighth call: replica 2 had committed nothing, and commits block 1 by the set of blames, with which it emits
 -- nothing (`hear-set`).
