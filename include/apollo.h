@@ -87,9 +87,10 @@
  *   - It asks one card at a time for its chain above the own COMMITTED height, and is sent what apollo_fetch gives, each frame with its
  *     signature. The next question goes on from the height of the last frame, until an answer has fewer frames than the tray takes (none
  *     with 15). Not above the tip's height: the own tip may be on another branch, and the first frame is then loose (11).
- *   - The frames, heard as above, are handed in as one branch, or a beginning of them is. While the premises hold, that card's host keeps
- *     these rules and its chain has only grown since, the answer is 3, 10 (they end below R: nothing to take from it; what it passed
- *     over since comes by questions), 13 or 0, and never 7, 8, 9, 11 or 12. This is proved.
+ *   - The frames, heard as above, are handed in as one branch, or a beginning of them is, then or later, though more is committed since.
+ *     While the premises hold, that card's host keeps these rules and its chain only grew from its first answer to its last, the answer
+ *     is 3, 10 (they end below R: nothing to take from it; what it passed over since comes by questions), 13 or 0, and never 7, 8, 9, 11
+ *     or 12. This is proved.
  *   - 13: get the blames of round `place` from that card, hand them in, then the branch again. If `place` is above R, they are early
  *     (14): first hand in, as a branch by themselves, the frames of rounds below `place`. They are taken, and R is then at least
  *     `place`. This is proved too.
