@@ -53,8 +53,7 @@ static apollo_replica hand_in(blame_call *call) {
   return a.replica;
 }
 
-int main(void) {
-  uint8_t digest[APOLLO_DIGEST];
+static void opening(void) {
   apollo_ticks one = {1};
   apollo_round last = {T};
   EXPECT(apollo_open(0, 1, one, last, rotation, 3, NULL, 0, masks, T, NULL, 0, out, sizeof out).number == APOLLO_BAD_SETUP);
@@ -63,28 +62,36 @@ int main(void) {
   EXPECT(apollo_open(0, 1, one, last, NULL, 0, NULL, 0, NULL, 0, NULL, 0, NULL, 0).number == APOLLO_BAD_SETUP);
   EXPECT(apollo_open(0, 1, one, last, NULL, 0, log_, LOG, masks, T, NULL, 0, NULL, 0).number == APOLLO_BAD_ROTATION);
   EXPECT(apollo_open(0, 1, one, last, rotation, 3, log_, LOG, masks, T, NULL, 0, NULL, 0).number == APOLLO_OUT_TOO_SHORT);
+}
+
+/* Card 0's block and blame, for the other cards. */
+static void frames_of_card_0(void) {
   apollo_answer a = open_card(0);
   EXPECT(proposed(a, 1));
   memcpy(block, out, sizeof block);
   a = apollo_tick(a.replica, log_, LOG, masks, T, NULL, 0, out, sizeof out);
   EXPECT(a.number == APOLLO_TAKEN && a.frames == 1 && out[0] == APOLLO_BLAME);
   memcpy(blame, out, sizeof blame);
+}
 
+static void branch(void) {
   apollo_replica r = open_card(1).replica;
   EXPECT(apollo_branch(r, NULL, 0, masks, T, block, sizeof block, NULL, 0, out, sizeof out).number == APOLLO_BAD_REPLICA);
   EXPECT(apollo_branch(r, log_, LOG, NULL, 0, block, sizeof block, NULL, 0, out, sizeof out).number == APOLLO_BAD_REPLICA);
   EXPECT(apollo_branch(r, log_, LOG, masks, T, NULL, 0, NULL, 0, out, sizeof out).number == APOLLO_BAD_LENGTH);
   EXPECT(apollo_branch(r, log_, LOG, masks, T, block, sizeof block, NULL, 0, NULL, 0).number == APOLLO_OUT_TOO_SHORT);
   EXPECT(proposed(apollo_branch(r, log_, LOG, masks, T, block, sizeof block, NULL, 0, out, sizeof out), 2));
+}
 
-  r = second_round();
+static void tick(void) {
+  apollo_replica r = second_round();
   EXPECT(apollo_tick(r, NULL, 0, masks, T, NULL, 0, out, sizeof out).number == APOLLO_BAD_REPLICA);
   EXPECT(apollo_tick(r, log_, LOG, NULL, 0, NULL, 0, out, sizeof out).number == APOLLO_BAD_REPLICA);
   EXPECT(apollo_tick(r, log_, LOG, masks, T, NULL, 0, NULL, 0).number == APOLLO_OUT_TOO_SHORT);
+}
 
-  hand_in(apollo_blame);
-  r = hand_in(apollo_blames);
-
+/* read, fetch and equivocation, of a record with a committed block */
+static void others(apollo_replica r) {
   apollo_height height = {1}, none = {0};
   EXPECT(apollo_read(r, NULL, 0, height).number == APOLLO_BAD_REPLICA);
   apollo_part p = apollo_read(r, log_, LOG, height);
@@ -93,10 +100,23 @@ int main(void) {
   EXPECT(apollo_fetch(r, log_, LOG, none, NULL, 0).number == APOLLO_OUT_TOO_SHORT);
   EXPECT(apollo_equivocation(r, NULL, 0).number == APOLLO_BAD_LENGTH);
   EXPECT(apollo_equivocation((apollo_replica){0}, NULL, 0).number == APOLLO_BAD_REPLICA);
+}
 
-  static const uint8_t empty[4] = {0xe3, 0xb0, 0xc4, 0x42}; /* the digest of no bytes begins so */
+static void digest_of_nothing(void) {
+  static const uint8_t empty[4] = {0xe3, 0xb0, 0xc4, 0x42}; /* it begins so */
+  uint8_t digest[APOLLO_DIGEST];
   apollo_digest(NULL, 0, digest);
   EXPECT(memcmp(digest, empty, sizeof empty) == 0);
+}
+
+int main(void) {
+  opening();
+  frames_of_card_0();
+  branch();
+  tick();
+  hand_in(apollo_blame);
+  others(hand_in(apollo_blames));
+  digest_of_nothing();
   puts("NULL with length 0 is an empty buffer in every call");
   return 0;
 }
