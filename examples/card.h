@@ -1,6 +1,6 @@
 /* card.h: a host for one card, for your program to copy with card.c. It lends the calls of apollo.h what they need, keeps the frames
  * that may be needed again, sends, asks and answers by the rules of docs/HOSTS.md. Your program brings cables, keys and a clock: the
- * functions host_.. below. examples/cabinet.c does so for a whole cabinet in one process, with simulated ones. */
+ * functions host_.. below. examples/cabinet does so for a whole cabinet in one process, with simulated ones. */
 #ifndef CARD_H
 #define CARD_H
 

@@ -1,5 +1,5 @@
 /* picture.h: a picture of a run of cards, one SVG file that any browser shows and prints. Hand in the calls as they are made; then
- * write. It needs no library: of apollo.h it takes types and numbers alone. examples/draw.c and examples/cabinet.c use it.
+ * write. It needs no library: of apollo.h it takes types and numbers alone. examples/draw.c and examples/cabinet use it.
  *
  * A lane for each card, time to the right: a column for each moment (a command, a tick). A long run goes on in parts below each other,
  * which fall on pages of A4 in print; a stretch in which nothing happens but ticks is folded, and the picture says so. */
