@@ -60,9 +60,9 @@ fn is_child(p: &[u8], x: &[u8]) -> bool
 fn judge_next(s: Setup, p: &[u8], x: &[u8]) -> u8
     ensures { λ k. ⌜ k ≡ judgedNext s (some (now (p .entry))) (now (x .entry)) ⌝ }
 {
-    let number = frame_forms::fault(Form::Block, s, x);
-    if number != 0 {
-        return number;
+    let fault = frame_forms::fault(Form::Block, s, x);
+    if fault != 0 {
+        return fault;
     }
     if is_child(p, x) {
         0
@@ -103,19 +103,19 @@ pub fn judge_run(s: Setup, start: Start, frames: &[u8]) -> Verdict
             place: 0,
         };
     }
-    let mut i = 1;
-    while i < n {
-        let a = 512 * i;
+    let mut next = 1;
+    while next < n {
+        let a = 512 * next;
         let p = a - 512;
         let e = a + 512;
-        let number = judge_next(s, &frames[p..a], &frames[a..e]);
-        if number != 0 {
+        let refusal = judge_next(s, &frames[p..a], &frames[a..e]);
+        if refusal != 0 {
             return Verdict {
-                number,
-                place: i as u32,
+                number: refusal,
+                place: next as u32,
             };
         }
-        i += 1;
+        next += 1;
     }
     Verdict {
         number: 0,

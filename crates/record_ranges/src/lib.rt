@@ -8,8 +8,8 @@ pub fn valid_own(r: Replica) -> bool
     ensures { λ b. ⌜ b ≡ validOwn r ⌝ }
 {
     let id = r.id as u32;
-    let n = 2 * (r.f as u32) + 1;
-    (id < n) & ((1 <= r.timeout.0) & (r.timeout.0 <= 60000))
+    let f = r.f as u32;
+    (id < 2 * f + 1) & ((1 <= r.timeout.0) & (r.timeout.0 <= 60000))
 }
 
 // There is one slot a round.

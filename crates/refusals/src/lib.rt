@@ -27,14 +27,14 @@ fn judge_room(entry: usize, out: usize) -> u8
 pub fn of_open(r: Replica, length: usize, log: &[u8], masks: &[u16], entry: usize, out: usize) -> u8
     ensures { λ n. ⌜ n ≡ openNumber r length (now (log .entry)) (now (masks .entry)) entry out ⌝ }
 {
-    let number = setup_ranges::refusal(record::setup(r), length);
+    let setup = setup_ranges::refusal(record::setup(r), length);
     if !(record_ranges::valid_own(r)
         & record_ranges::valid_log(r, log)
         & record_ranges::valid_masks(r, masks)) {
         return apollo::refusal::BAD_SETUP;
     }
-    if number != 0 {
-        return number;
+    if setup != 0 {
+        return setup;
     }
     judge_room(entry, out)
 }

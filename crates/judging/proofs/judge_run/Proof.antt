@@ -15,13 +15,13 @@ use Rattle.judging.proofs.judge_run.Statement.{statement}
 use Rattle.judging.proofs.judge_run.Tie as tie
 
 abbrev Inv-loop : tie.InvT-loop
-Inv-loop s frames n first i₀ i =
-    (1 ≤ i) × (i ≤ n)
-    × (judgedRun sha256 s i (some (part frames (512 * (i - 1)) 512)) (rest frames n i)
+Inv-loop s frames n first next₀ next =
+    (1 ≤ next) × (next ≤ n)
+    × (judgedRun sha256 s next (some (part frames (512 * (next - 1)) 512)) (rest frames n next)
     ≡ judgedRun sha256 s 1 (some (part frames 0 512)) (rest frames n 1))
 
 abbrev μ-loop : tie.MeasureT-loop
-μ-loop s frames n first i₀ i = n - i
+μ-loop s frames n first next₀ next = n - next
 
 returns : tie.Need-returns Inv-loop μ-loop
 returns c = run-none _ (c .before .before .args .frames .now) _ _ (c .if1 .taken)
@@ -48,7 +48,7 @@ returns-3 c =
     let l = n .before .before .before .before in
     let f = l .before .before in
     let b = f .before .before .before .before .args .frames .now in
-    run-stop _ b _ (l .loop .i) _ _ (omega arith) (omega arith) (n .judge-next .ensures) (l .loop .inv .2) (c .if3 .taken)
+    run-stop _ b _ (l .loop .next) _ _ (omega arith) (omega arith) (n .judge-next .ensures) (l .loop .inv .2) (c .if3 .taken)
     ∙ run-start _ b _ _ (omega arith) _ (f .judge-first .ensures) (l .before .if2 .left)
 
 loop-again : tie.Need-loop-again Inv-loop μ-loop
@@ -58,7 +58,7 @@ loop-again c =
     let b = l .before .before .before .before .before .before .args .frames .now in (
       search needs,
       search needs,
-      run-more _ b _ (l .loop .i) _ _ (omega arith) (omega arith) (n .judge-next .ensures) (l .loop .inv .2) (c .if3 .left),
+      run-more _ b _ (l .loop .next) _ _ (omega arith) (omega arith) (n .judge-next .ensures) (l .loop .inv .2) (c .if3 .left),
     )
 
 returns-4 : tie.Need-returns-4 Inv-loop μ-loop
@@ -66,7 +66,7 @@ returns-4 c =
     let l = c .before in
     let f = l .before .before in
     let b = f .before .before .before .before .args .frames .now in
-    run-end _ b _ (l .loop .i) _ _ (c .loop-test .left) (l .loop .inv .2)
+    run-end _ b _ (l .loop .next) _ _ (c .loop-test .left) (l .loop .inv .2)
     ∙ run-start _ b _ _ (omega arith) _ (f .judge-first .ensures) (l .before .if2 .left)
 
 pub judge-run-spec : {M : Type 1} → statement M
