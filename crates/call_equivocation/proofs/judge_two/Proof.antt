@@ -9,7 +9,7 @@ use Rattle.call_equivocation.proofs.judge_two.Tie as tie
 returns : tie.Need-returns
 returns c =
     let j = c .before .before in
-    two-faulty _ _ (j .before .before .pre) _ (j .judge-each .ensures) (c .if1 .taken)
+    two-faulty _ (j .before .before .args .frames .now) (j .before .before .pre) _ (j .judge-each .ensures) (c .if1 .taken)
 
 returns-2 : tie.Need-returns-2
 returns-2 c =
@@ -18,7 +18,7 @@ returns-2 c =
     let p = q .before in
     let i = p .before in
     let j = i .before .before in
-    two-alike _ _ (j .before .before .pre) _ (j .judge-each .ensures) (i .if1 .left) _ _ (p .part .ensures) (q .part2 .ensures) _
+    two-alike _ (j .before .before .args .frames .now) (j .before .before .pre) _ (j .judge-each .ensures) (i .if1 .left) _ _ (p .part .ensures) (q .part2 .ensures) _
     (d .is-conflicting .ensures) (not-true _ (c .if2 .taken))
 
 returns-3 : tie.Need-returns-3
@@ -28,7 +28,7 @@ returns-3 c =
     let p = q .before in
     let i = p .before in
     let j = i .before .before in
-    two-conflicting _ _ (j .before .before .pre) _ (j .judge-each .ensures) (i .if1 .left) _ _ (p .part .ensures) (q .part2 .ensures) _
+    two-conflicting _ (j .before .before .args .frames .now) (j .before .before .pre) _ (j .judge-each .ensures) (i .if1 .left) _ _ (p .part .ensures) (q .part2 .ensures) _
     (d .is-conflicting .ensures) (not-false _ (c .if2 .left))
 
 pub judge-two-spec : {M : Type 1} → statement M
