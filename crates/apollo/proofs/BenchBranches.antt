@@ -9,6 +9,7 @@ use lib.ListN.{length, getD, take}
 use lib.Dec.{eqb, leb, ltb, eqb·suc-zero}
 use borrow.Author.Tests.{lt-ltb, eq-eqb, ne-eqb, eqb-true, eqb-false}
 use Rattle.sha256.specs.Fips.{sha256}
+use Rattle.apollo.specs.Size.{frameSize}
 use Rattle.apollo.specs.declared.Replica.{Replica}
 use Rattle.apollo.specs.Bytes.{zeros}
 use Rattle.apollo.specs.declared.Setup.{Setup}
@@ -41,14 +42,14 @@ module _ (entry out : List ℕ) (s : State) (x : List ℕ) (xs : List (List ℕ)
       ∙ ap (refused s out 13) e
 
   module _ (none-short : firstUncertified (setupOf (s .replica)) (s .masks) a (x ∷ xs) ≡ 0) where
-    reverts : ¬ (take (512 * s .replica .«committed_round» .0) (grown (s .log) a (x ∷ xs)) ≡ take (512 * s .replica .«committed_round» .0) (s .log))
+    reverts : ¬ (take (frameSize * s .replica .«committed_round» .0) (grown (s .log) a (x ∷ xs)) ≡ take (frameSize * s .replica .«committed_round» .0) (s .log))
         → placed sha256 entry out s x xs (some a) ≡ refused s out 12 0
     unfolding placed
     reverts ne =
         cond-true _ _ (eq-eqb (firstUncertified (setupOf (s .replica)) (s .masks) a (x ∷ xs)) 0 none-short)
         ∙ cond-false _ _ (different _ _ ne)
 
-    pub adopts : take (512 * s .replica .«committed_round» .0) (grown (s .log) a (x ∷ xs)) ≡ take (512 * s .replica .«committed_round» .0) (s .log)
+    pub adopts : take (frameSize * s .replica .«committed_round» .0) (grown (s .log) a (x ∷ xs)) ≡ take (frameSize * s .replica .«committed_round» .0) (s .log)
         → placed sha256 entry out s x xs (some a) ≡ taken (adopting sha256 entry s a x xs) out
     unfolding placed
     adopts e =
@@ -91,7 +92,7 @@ module _ (s : Setup) (masks x : List ℕ) where
       cond-true _ _ (eq-eqb (gap s masks lo (round x - lo - 1)) 0 g)
 
 -- one block on round a: the slots up to a are kept, those between are zeroed
-module _ (log x : List ℕ) (a : ℕ) (above : a < round x) (fit : 512 * round x ≤ length log) (whole : length x ≡ 512) where
+module _ (log x : List ℕ) (a : ℕ) (above : a < round x) (fit : frameSize * round x ≤ length log) (whole : length x ≡ frameSize) where
   grown-other : (q : ℕ) → q < round x → slot (grown log a (x ∷ [])) q ≡ slot (clearAbove log a) q
   unfolding grown storeAll
   grown-other q b =
@@ -152,7 +153,7 @@ module _ {s : State} {x out : List ℕ} (h : Item9 s x out) (entry : List ℕ) (
     taken-9 : branchCall s x entry out ≡ taken (adopting sha256 entry s 1 x []) out
     taken-9 =
         let f : Valid (s .replica) (s .log) = valid (s .replica) (s .log) (h .callable .valid) in
-        let size : length (s .log) ≡ 512 * s .replica .«last_round» .0 = f .setup .size in
+        let size : length (s .log) ≡ frameSize * s .replica .«last_round» .0 = f .setup .size in
         let last : s .replica .«last_round» .0 ≡ 6 = h .last in
         let r : round x ≡ 3 = h .round in
         at-9
@@ -195,7 +196,7 @@ module _ {s : State} {out : List ℕ} (h : Item10 s out) (entry : List ℕ) (l :
   size-10 : 2048 ≤ length (s .log)
   size-10 =
       let f : Valid (s .replica) (s .log) = valid (s .replica) (s .log) (h .callable .valid) in
-      let size : length (s .log) ≡ 512 * s .replica .«last_round» .0 = f .setup .size in
+      let size : length (s .log) ≡ frameSize * s .replica .«last_round» .0 = f .setup .size in
       let R : s .replica .round .0 ≡ 4 = h .awaited in
       let running : s .replica .round .0 ≤ s .replica .«last_round» .0 = h .callable .running in
       omega arith
@@ -211,14 +212,14 @@ module _ {s : State} {out : List ℕ} (h : Item10 s out) (entry : List ℕ) (l :
         let log : List ℕ = s .log in
         let c : s .replica .«committed_round» .0 ≡ 2 = committed-10 h in
         let size : 2048 ≤ length log = size-10 in
-        let b : length x ≡ 512 = block-length (setupOf (s .replica)) x good in
+        let b : length x ≡ frameSize = block-length (setupOf (s .replica)) x good in
         let new : List ℕ = grown log 1 (x ∷ []) in
         let cleared : slot new 2 ≡ genesis = grown-between log x 1 (omega arith) (omega arith) b 2 (omega arith) (omega arith) in
         let none : firstUncertified (setupOf (s .replica)) (s .masks) 1 (x ∷ []) ≡ 0 =
         skips-2 (setupOf (s .replica)) (s .masks) x r ∙ cond-true _ _ two ∙ cond-true _ _ three in
-        let clash : take (512 * s .replica .«committed_round» .0) new ≡ take (512 * s .replica .«committed_round» .0) log → ⊥ =
+        let clash : take (frameSize * s .replica .«committed_round» .0) new ≡ take (frameSize * s .replica .«committed_round» .0) log → ⊥ =
         λ e.
-        let e2 : take (512 * 2) new ≡ take (512 * 2) log = subst (λ k. take (512 * k) new ≡ take (512 * k) log) c e in
+        let e2 : take (frameSize * 2) new ≡ take (frameSize * 2) log = subst (λ k. take (frameSize * k) new ≡ take (frameSize * k) log) c e in
         let same-slot : slot new 2 ≡ slot log 2 =
         sym (slot-take new 2 2 (omega arith) (omega (arith, grown-length log x 1 (omega arith) (omega arith) b))) ∙ ap (λ y. slot y 2) e2
         ∙ slot-take log 2 2 (omega arith) (omega arith) in
@@ -235,7 +236,7 @@ module _ {s : State} {out : List ℕ} (h : Item10 s out) (entry : List ℕ) (l :
     uncertified-10 two = (ap number (short-10 two), ap place (short-10 two))
 
 -- a slot stored back where the slots below it are back already
-restored : (log base : List ℕ) (r q : ℕ) → r ≡ q → 1 ≤ q → 512 * q ≤ length base → length (slot log q) ≡ 512
+restored : (log base : List ℕ) (r q : ℕ) → r ≡ q → 1 ≤ q → frameSize * q ≤ length base → length (slot log q) ≡ frameSize
     → ((k : ℕ) → k < q → slot base k ≡ slot log k)
     → (k : ℕ) → k < q + 1 → slot (store base r (slot log q)) k ≡ slot log k
 restored log base r q same-round one fit whole below k l = rw same-round (go (eqb k q) refl)
@@ -249,14 +250,14 @@ restored log base r q same-round one fit whole below k l = rw same-round (go (eq
         store-other base q (slot log q) k one fit whole ne ∙ below k (omega arith)
 
 -- storing the slots 1, 2, 3 back and a frame for round 4 keeps the first three slots
-module _ (log y : List ℕ) (size : 2048 ≤ length log) (whole : length y ≡ 512) (one : round (slot log 1) ≡ 1)
+module _ (log y : List ℕ) (size : 2048 ≤ length log) (whole : length y ≡ frameSize) (one : round (slot log 1) ≡ 1)
     (two : round (slot log 2) ≡ 2) (three : round (slot log 3) ≡ 3) (four : round y ≡ 4) where
   kept-3 : (k : ℕ) → k < 4 → slot (grown log 0 (slot log 1 ∷ slot log 2 ∷ slot log 3 ∷ y ∷ [])) k ≡ slot log k
   unfolding grown storeAll
   kept-3 k l =
-      let w1 : length (slot log 1) ≡ 512 = slot-length log 1 (omega arith) in
-      let w2 : length (slot log 2) ≡ 512 = slot-length log 2 (omega arith) in
-      let w3 : length (slot log 3) ≡ 512 = slot-length log 3 (omega arith) in
+      let w1 : length (slot log 1) ≡ frameSize = slot-length log 1 (omega arith) in
+      let w2 : length (slot log 2) ≡ frameSize = slot-length log 2 (omega arith) in
+      let w3 : length (slot log 3) ≡ frameSize = slot-length log 3 (omega arith) in
       let l0 : List ℕ = clearAbove log 0 in
       let l1 : List ℕ = store l0 (round (slot log 1)) (slot log 1) in
       let l2 : List ℕ = store l1 (round (slot log 2)) (slot log 2) in
@@ -322,7 +323,7 @@ module _ {s : State} {out : List ℕ} (h : Item10 s out) (entry : List ℕ) (l :
       let R : s .replica .round .0 ≡ 4 = h .awaited in
       let running : s .replica .round .0 ≤ s .replica .«last_round» .0 = h .callable .running in
       let committed : s .replica .«committed_round» .0 ≡ 2 = committed-10 h in
-      let whole : length y ≡ 512 = block-length (setupOf (s .replica)) y good in
+      let whole : length y ≡ frameSize = block-length (setupOf (s .replica)) y good in
       let bytes : a ++ b ++ c ++ y ≡ flatten (a ∷ b ∷ c ∷ y ∷ []) = simp (append-assoc, append-nil) refl in
       ap number (ap (λ (x : List ℕ). branchCall s x entry out) bytes
       ∙ fresh-branch (h .callable) entry l a (b ∷ c ∷ y ∷ []) (omega arith) branch-10 (omega arith)

@@ -11,6 +11,7 @@ use lib.ListN.{length, getD, length-take, length-drop}
 use lib.Dec.{eqb}
 use borrow.Author.Tests.{le-ltb, eq-eqb, ne-eqb, eqb-true, eqb-false}
 use Rattle.sha256.specs.Fips.{sha256}
+use Rattle.apollo.specs.Size.{frameSize}
 use Rattle.apollo.specs.declared.Replica.{Replica}
 use Rattle.apollo.specs.Bytes.{number4, zeros, same}
 use Rattle.apollo.specs.Rotation.{inTurn, padded}
@@ -50,7 +51,7 @@ hears-at {s} {out} c entry l j r signs one low fresh-bit =
     let at : round y ≡ r = ap (λ (z : List ℕ). round z) (sym (append-nil y)) ∙ blame-round j r [] short in
     let by : signer y ≡ j = unfold makeBlame sealed blameHead in refl in
     blame-one s y entry out ∙ passes c entry l _
-    ∙ cond-false _ _ (ap not (eq-eqb (length y) 512 (blame-length j r)))
+    ∙ cond-false _ _ (ap not (eq-eqb (length y) frameSize (blame-length j r)))
     ∙ cond-false _ _ (ap not (blame-checked j r))
     ∙ cond-false _ _ (ap not (blame-form (setupOf (s .replica)) j r signs one high short))
     ∙ cond-false _ _ (le-ltb (s .replica .round .0) (round y) (omega arith))
@@ -62,14 +63,14 @@ pub child : (i r h : ℕ) (p : List ℕ) → List ℕ
 child i r h p = makeBlock sha256 i r h (digest p) []
 
 pub record Child (r h : ℕ) (p x : List ℕ) : Type 0 where
-  pub whole : length x ≡ 512
+  pub whole : length x ≡ frameSize
   pub good : block (setup 1 6 (turn 1)) x ≡ true
   pub at : round x ≡ r
   pub high : height x ≡ h
   pub full : filled x ≡ true
   pub on : linked p x ≡ true
 
-pub children : (i r h : ℕ) (p : List ℕ) → length p ≡ 512 → i ≡ leader (setup 1 6 (turn 1)) r → 1 ≤ r → r ≤ 6 → 1 ≤ h → h ≤ r → height p + 1 ≡ h
+pub children : (i r h : ℕ) (p : List ℕ) → length p ≡ frameSize → i ≡ leader (setup 1 6 (turn 1)) r → 1 ≤ r → r ≤ 6 → 1 ≤ h → h ≤ r → height p + 1 ≡ h
     → Child r h p (child i r h p)
 unfolding child linked
 children i r h p whole led one last low high next =
@@ -98,9 +99,9 @@ unrelated p x ne =
     go true false = refl
     go false b = refl
 
-genesis-length : length genesis ≡ 512
+genesis-length : length genesis ≡ frameSize
 unfolding genesis
-genesis-length = length-zeros 512
+genesis-length = length-zeros frameSize
 
 genesis-height : height genesis ≡ 0
 unfolding genesis number4 zeros
@@ -113,7 +114,7 @@ blk (suc k) = child (k % 3) (k + 1) (k + 1) (blk k)
 
 -- its length and its height
 abbrev pub Sized : ℕ → Type 0
-Sized k = (length (blk k) ≡ 512) × (height (blk k) ≡ k)
+Sized k = (length (blk k) ≡ frameSize) × (height (blk k) ≡ k)
 
 linked-from : (k : ℕ) → k < 6 → Sized k → Child (k + 1) (k + 1) (blk k) (blk (suc k))
 unfolding blk leader

@@ -11,6 +11,7 @@ use lib.Pow.{pow-pos}
 use lib.Dec.{eqb, ltb}
 use borrow.Author.Tests.{lt-ltb, le-ltb, eq-eqb}
 use Rattle.sha256.specs.Fips.{sha256}
+use Rattle.apollo.specs.Size.{frameSize}
 use Rattle.apollo.specs.declared.Replica.{Replica}
 use Rattle.apollo.specs.Bytes.{number4, zeros}
 use Rattle.apollo.specs.Rotation.{isRotation, padded}
@@ -36,7 +37,7 @@ abbrev unopened : (log masks : List ℕ) → State
 unopened log masks = record { replica = zeroReplica; log = log; masks = masks }
 
 abbrev opened : (id f timeout T : ℕ) (rotation : List ℕ) → State
-opened id f timeout T rotation = record { replica = fresh id f timeout T rotation; log = zeros (512 * T); masks = zeros T }
+opened id f timeout T rotation = record { replica = fresh id f timeout T rotation; log = zeros (frameSize * T); masks = zeros T }
 
 module _ (id f timeout T : ℕ) (rotation log masks entry out : List ℕ) (valid : validOpening (fresh id f timeout T rotation) log ≡ true)
     (lent : validMasks (fresh id f timeout T rotation) masks ≡ true) (turns : isRotation (2 * f + 1) rotation ≡ true)
@@ -87,44 +88,44 @@ module _ (f timeout : ℕ) (log masks entry out : List ℕ) (valid : validOpenin
       open-fits 0 f timeout 1 (turn f) log masks entry out valid lent (turn-rotation (2 * f + 1)) room l
       ∙ ap (λ (e : Effect). taken e out) (cond-true _ _ (eq-eqb (leader (setup f 1 (turn f)) 1) 0 leader-1))
 
-  parent-length : length (digest (slot (zeros 512) 0)) ≡ 32
+  parent-length : length (digest (slot (zeros frameSize) 0)) ≡ 32
   unfolding slot genesis zeros
   parent-length = refl
 
-  first-length : length first ≡ 512
+  first-length : length first ≡ frameSize
   unfolding new first ownBlock fresh
-  first-length = block-length 0 1 (0 + 1) (digest (slot (zeros 512) 0)) entry parent-length l
+  first-length = block-length 0 1 (0 + 1) (digest (slot (zeros frameSize) 0)) entry parent-length l
 
   first-block : block (setup f 1 (turn f)) first ≡ true
   unfolding new first ownBlock fresh
   first-block =
-      block-made 0 1 (0 + 1) (digest (slot (zeros 512) 0)) entry parent-length l (setup f 1 (turn f)) (sym leader-1)
+      block-made 0 1 (0 + 1) (digest (slot (zeros frameSize) 0)) entry parent-length l (setup f 1 (turn f)) (sym leader-1)
       (omega arith) (omega arith) (omega arith) (omega arith) (omega arith)
 
-  first-out : take 512 ((first ++ []) ++ drop 512 out) ≡ first
-  first-out = rw append-nil (take-at first (drop 512 out) 512 first-length)
+  first-out : take frameSize ((first ++ []) ++ drop frameSize out) ≡ first
+  first-out = rw append-nil (take-at first (drop frameSize out) frameSize first-length)
 
-  first-round : round ((first ++ []) ++ drop 512 out) ≡ 1
+  first-round : round ((first ++ []) ++ drop frameSize out) ≡ 1
   unfolding new first ownBlock fresh number4 makeBlock sealed blockHead
   first-round = refl
 
   pub open-emits : (number (openCall 0 f timeout 1 (turn f) log masks entry out) ≡ 0)
       × (openCall 0 f timeout 1 (turn f) log masks entry out .answer .frames ≡ 1)
-      × (block (setup f 1 (turn f)) (take 512 (openCall 0 f timeout 1 (turn f) log masks entry out .out)) ≡ true)
+      × (block (setup f 1 (turn f)) (take frameSize (openCall 0 f timeout 1 (turn f) log masks entry out .out)) ≡ true)
       × (round (openCall 0 f timeout 1 (turn f) log masks entry out .out) ≡ 1)
       × (newRound (openCall 0 f timeout 1 (turn f) log masks entry out) ≡ 2)
   unfolding taken flatten
   open-emits = (
     ap number proposes,
     ap (λ (o : Outcome). o .answer .frames) proposes,
-    ap (λ (o : Outcome). block (setup f 1 (turn f)) (take 512 (o .out))) proposes ∙ ap (block (setup f 1 (turn f))) first-out ∙ first-block,
+    ap (λ (o : Outcome). block (setup f 1 (turn f)) (take frameSize (o .out))) proposes ∙ ap (block (setup f 1 (turn f))) first-out ∙ first-block,
     ap (λ (o : Outcome). round (o .out)) proposes ∙ first-round,
     ap newRound proposes ∙ (unfold new left entered proposing holding tipped commit fresh in refl),
   )
 
   stored : List ℕ
   unfolding first
-  stored = store (zeros 512) 1 first
+  stored = store (zeros frameSize) 1 first
 
   none-committed : (k : ℕ) → k ≡ 0 → (highest stored k ≡ 0) × (height (slot stored (highest stored k)) ≡ 0)
   unfolding highest slot genesis number4 zeros
@@ -138,8 +139,8 @@ module _ (f timeout : ℕ) (log masks entry out : List ℕ) (valid : validOpenin
       let low : 1 ≤ f = s .f-least in
       let c : (highest stored (1 - f) ≡ 0) × (height (slot stored (highest stored (1 - f))) ≡ 0) =
       none-committed (1 - f) (omega arith) in
-      let size : length (zeros 512) ≡ 512 = length-zeros 512 in
-      let kept : length stored ≡ length (zeros 512) = length-store (zeros 512) 1 first (omega arith) (omega arith) first-length in
+      let size : length (zeros frameSize) ≡ frameSize = length-zeros frameSize in
+      let kept : length stored ≡ length (zeros frameSize) = length-store (zeros frameSize) 1 first (omega arith) (omega arith) first-length in
       let a : highest stored (1 - f) ≡ 0 = c .0 in
       let b : height (slot stored (highest stored (1 - f))) ≡ 0 = c .1 in
       valid-of (left .replica) stored (record {

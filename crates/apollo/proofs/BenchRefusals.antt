@@ -8,6 +8,7 @@ use native.Mathlib.Omega.{arith}
 use lib.ListN.{length, take}
 use lib.Dec.{eqb, ltb}
 use Rattle.sha256.specs.Fips.{sha256}
+use Rattle.apollo.specs.Size.{frameSize}
 use Rattle.apollo.specs.Bytes.{same}
 use Rattle.apollo.specs.declared.Setup.{Setup}
 use Rattle.apollo.specs.Setup.{setupOf}
@@ -34,7 +35,7 @@ placed-number : (P : ℕ → Type 0) → P 0 → P 11 → P 12 → P 13 → (ent
 unfolding placed refused taken
 placed-number P p0 p11 p12 p13 entry out s x xs none = p11
 placed-number P p0 p11 p12 p13 entry out s x xs (some a) =
-    let c : ℕ = 512 * s .replica .«committed_round» .0 in
+    let c : ℕ = frameSize * s .replica .«committed_round» .0 in
     by-cond (λ o. P (number o)) (eqb (firstUncertified (setupOf (s .replica)) (s .masks) a (x ∷ xs)) 0)
     (λ _. by-cond (λ o. P (number o)) (same (take c (grown (s .log) a (x ∷ xs))) (take c (s .log))) (λ _. p0) (λ _. p12))
     (λ _. p13)
@@ -85,7 +86,7 @@ module _ {s : State} {out : List ℕ} (c : Callable s out) (bytes entry : List �
     branch-400 =
         rw (passes c entry (omega arith) _)
         (by-cond (λ o. Not5 (number o)) (wholeFrames (s .replica .«last_round» .0) bytes)
-        (λ _. branched-not-5 entry out s (frames (length bytes / 512) bytes)) (λ _ e. omega arith))
+        (λ _. branched-not-5 entry out s (frames (length bytes / frameSize) bytes)) (λ _ e. omega arith))
 
     -- a blame, and blames
     pub hand-400 : (most : ℕ) → ¬ (number (handing sha256 most s bytes entry out) ≡ 5)

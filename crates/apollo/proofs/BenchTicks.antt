@@ -9,6 +9,7 @@ use lib.ListN.{length, take, drop, length-take, length-drop}
 use lib.Seq.{take-at}
 use borrow.Author.Tests.{eq-eqb, ne-eqb, leb-true}
 use Rattle.sha256.specs.Fips.{sha256}
+use Rattle.apollo.specs.Size.{frameSize}
 use Rattle.apollo.specs.declared.Ticks.{Ticks}
 use Rattle.apollo.specs.Setup.{setupOf, setup}
 use Rattle.apollo.specs.Frame.{round, digest, sealed, blameHead, makeBlame}
@@ -54,11 +55,11 @@ module _ {s : State} {out : List ℕ} (c : Callable s out) (entry : List ℕ) (l
       let i : ℕ = s .replica .id in
       let f : Valid (s .replica) (s .log) = valid (s .replica) (s .log) (c .valid) in
       let e : Effect = settle sha256 entry (hearing (waiting s R 0) R i) R in
-      let rest : List ℕ = drop (512 * length (makeBlame sha256 i R ∷ e .emitted)) out in
+      let rest : List ℕ = drop (frameSize * length (makeBlame sha256 i R ∷ e .emitted)) out in
       let a : (makeBlame sha256 i R ++ flatten (e .emitted)) ++ rest ≡ makeBlame sha256 i R ++ (flatten (e .emitted) ++ rest) =
       append-assoc (makeBlame sha256 i R) (flatten (e .emitted)) rest in
-      let t : take 512 ((makeBlame sha256 i R ++ flatten (e .emitted)) ++ rest) ≡ makeBlame sha256 i R =
-      ap (take 512) a ∙ take-at (makeBlame sha256 i R) _ 512 (blame-length i R) in
+      let t : take frameSize ((makeBlame sha256 i R ++ flatten (e .emitted)) ++ rest) ≡ makeBlame sha256 i R =
+      ap (take frameSize) a ∙ take-at (makeBlame sha256 i R) _ frameSize (blame-length i R) in
       let high : R ≤ s .replica .«last_round» .0 = c .running in
       let last : s .replica .«last_round» .0 ≤ 4096 = f .setup .last-most in
       record {
@@ -134,12 +135,12 @@ second-blames {s} {out} c entry l entry′ out′ l′ room full e =
 
 -- entering round 5 above chain 1, 3 commits round 3, with an own block in round 5 or without
 module _ (entry : List ℕ) (fits : length entry ≤ 400) (s : State) (f : s .replica .f ≡ 1) (five : s .replica .round .0 ≡ 5)
-    (size : length (s .log) ≡ 512 * s .replica .«last_round» .0) (low : s .replica .«tip_round» .0 ≤ s .replica .«last_round» .0)
+    (size : length (s .log) ≡ frameSize * s .replica .«last_round» .0) (low : s .replica .«tip_round» .0 ≤ s .replica .«last_round» .0)
     (third : filled (slot (s .log) 3) ≡ true) (fourth : filled (slot (s .log) 4) ≡ false) where
-  own-length : length (ownBlock sha256 entry s) ≡ 512
+  own-length : length (ownBlock sha256 entry s) ≡ frameSize
   unfolding ownBlock
   own-length =
-      let whole : length (slot (s .log) (s .replica .«tip_round» .0)) ≡ 512 =
+      let whole : length (slot (s .log) (s .replica .«tip_round» .0)) ≡ frameSize =
       slot-length (s .log) (s .replica .«tip_round» .0) (omega arith) in
       block-length _ _ _ (digest (slot (s .log) (s .replica .«tip_round» .0))) entry (simp (length-take, length-drop, whole) refl) fits
 

@@ -10,6 +10,7 @@ use lib.Seq.{drop-at, take-at}
 use lib.Dec.{eqb, ltb}
 use borrow.Author.Tests.{ltb-true, eqb-true, eqb-false, eq-eqb}
 use Rattle.sha256.specs.Fips.{sha256}
+use Rattle.apollo.specs.Size.{frameSize}
 use Rattle.apollo.specs.declared.Setup.{Setup}
 use Rattle.apollo.specs.declared.Verdict.{Verdict}
 use Rattle.apollo.specs.Frame.{round, frames, blockForm, linked, checked}
@@ -20,18 +21,18 @@ use Rattle.apollo.proofs.Frames.{Whole}
 use Rattle.apollo.proofs.Fault.{fault-none, fault-number}
 
 -- a block frame is whole, and passes 7 and 8
-pub block-of : (s : Setup) (x : List ℕ) → length x ≡ 512 → checked sha256 x ≡ true → blockForm s x ≡ true → block s x ≡ true
+pub block-of : (s : Setup) (x : List ℕ) → length x ≡ frameSize → checked sha256 x ≡ true → blockForm s x ≡ true → block s x ≡ true
 unfolding block
 block-of s x l c f =
-    both (eqb (length x) 512) _ (eq-eqb (length x) 512 l) (both (checked sha256 x) (blockForm s x) c f)
+    both (eqb (length x) frameSize) _ (eq-eqb (length x) frameSize l) (both (checked sha256 x) (blockForm s x) c f)
 
 pub block-parts : (s : Setup) (x : List ℕ) → block s x ≡ true → (checked sha256 x ≡ true) × (blockForm s x ≡ true)
 unfolding block
-block-parts s x e = and-true (checked sha256 x) (blockForm s x) (and-true (eqb (length x) 512) (checked sha256 x && blockForm s x) e .1)
+block-parts s x e = and-true (checked sha256 x) (blockForm s x) (and-true (eqb (length x) frameSize) (checked sha256 x && blockForm s x) e .1)
 
-pub block-length : (s : Setup) (x : List ℕ) → block s x ≡ true → length x ≡ 512
+pub block-length : (s : Setup) (x : List ℕ) → block s x ≡ true → length x ≡ frameSize
 unfolding block
-block-length s x e = eqb-true (length x) 512 (and-true (eqb (length x) 512) (checked sha256 x && blockForm s x) e .0)
+block-length s x e = eqb-true (length x) frameSize (and-true (eqb (length x) frameSize) (checked sha256 x && blockForm s x) e .0)
 
 faultless : (s : Setup) (x : List ℕ) → block s x ≡ true → faulty sha256 s x ≡ 0
 unfolding fault
@@ -124,13 +125,13 @@ run-number P p0 p7 p8 p9 s k p (x ∷ xs) =
 
 -- a run read back from its bytes
 pub run-length : (s : Setup) (p : Option (List ℕ)) (xs : List (List ℕ)) → blocks s p xs ≡ true
-    → length (flatten xs) ≡ 512 * length xs
+    → length (flatten xs) ≡ frameSize * length xs
 unfolding flatten
 run-length s p [] e = refl
 run-length s p (x ∷ xs) e =
     let q = blocks-parts s p x xs e in
-    let l : length x ≡ 512 = block-length s x (q .0) in
-    let h : length (flatten xs) ≡ 512 * length xs = run-length s (some x) xs (q .2) in
+    let l : length x ≡ frameSize = block-length s x (q .0) in
+    let h : length (flatten xs) ≡ frameSize * length xs = run-length s (some x) xs (q .2) in
     length-append x (flatten xs) ∙ (omega arith)
 
 pub run-frames : (s : Setup) (p : Option (List ℕ)) (xs : List (List ℕ)) → blocks s p xs ≡ true
@@ -139,8 +140,8 @@ unfolding frames flatten
 run-frames s p [] e = refl
 run-frames s p (x ∷ xs) e =
     let q = blocks-parts s p x xs e in
-    let l : length x ≡ 512 = block-length s x (q .0) in
-    let t : take 512 (x ++ flatten xs) ≡ x = take-at x (flatten xs) 512 l in
-    let d : drop 512 (x ++ flatten xs) ≡ flatten xs = drop-at x (flatten xs) 512 l in
+    let l : length x ≡ frameSize = block-length s x (q .0) in
+    let t : take frameSize (x ++ flatten xs) ≡ x = take-at x (flatten xs) frameSize l in
+    let d : drop frameSize (x ++ flatten xs) ≡ flatten xs = drop-at x (flatten xs) frameSize l in
     let ih : frames (length xs) (flatten xs) ≡ xs = run-frames s (some x) xs (q .2) in
     rw (t, d, ih)

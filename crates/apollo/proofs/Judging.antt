@@ -11,6 +11,7 @@ use lib.Seq.{drop-at, take-at}
 use lib.Dec.{eqb, ltb}
 use borrow.Author.Tests.{lt-ltb, le-ltb, eqb-true, eqb-false, eq-eqb, ne-eqb}
 use Rattle.sha256.specs.Fips.{sha256}
+use Rattle.apollo.specs.Size.{frameSize}
 use Rattle.apollo.specs.declared.Setup.{Setup}
 use Rattle.apollo.specs.Setup.{setupOf}
 use Rattle.apollo.specs.Frame.{round, frames, blockForm, linked, checked}
@@ -56,10 +57,10 @@ module _ {s : State} {out : List ℕ} (c : Callable s out) (entry : List ℕ) (l
       let T : ℕ = s .replica .«last_round» .0 in
       let k : ℕ = length (x ∷ xs) in
       let b : List ℕ = flatten (x ∷ xs) in
-      let size : length b ≡ 512 * k = run-length (setupOf (s .replica)) none (x ∷ xs) good in
+      let size : length b ≡ frameSize * k = run-length (setupOf (s .replica)) none (x ∷ xs) good in
       let one : 1 ≤ k = omega arith in
-      let n : length b / 512 ≡ k = omega arith in
-      let rest : length b % 512 ≡ 0 = omega arith in
+      let n : length b / frameSize ≡ k = omega arith in
+      let rest : length b % frameSize ≡ 0 = omega arith in
       passes c entry l _
       ∙ cond-true _ _ (whole-of T b (record { even = rest; some = omega arith; few = omega arith }))
       ∙ ap (branched sha256 entry out s) (ap (λ i. frames i b) n ∙ run-frames (setupOf (s .replica)) none (x ∷ xs) good)

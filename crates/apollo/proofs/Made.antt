@@ -10,6 +10,7 @@ use lib.Dec.{eqb, leb, ltb}
 use borrow.Author.Tests.{lt-ltb, le-leb, eq-eqb}
 use Rattle.sha256.specs.Fips.{sha256}
 use Rattle.sha256.proofs.Hash.{digest-length}
+use Rattle.apollo.specs.Size.{checkAt, frameSize}
 use Rattle.apollo.specs.Bytes.{part, number2, number4, bytes2, bytes4, zeros, same, within, blank}
 use Rattle.apollo.specs.declared.Setup.{Setup}
 use Rattle.apollo.specs.Setup.{replicas, leader}
@@ -18,23 +19,23 @@ use Rattle.apollo.specs.BlockRun.{block}
 use Rattle.apollo.proofs.Tests.{both, same-of, within-of}
 use Rattle.apollo.proofs.Slots.{length-zeros}
 
-sealed-checked : (x : List ℕ) → length x ≡ 480 → checked sha256 (sealed sha256 x) ≡ true
+sealed-checked : (x : List ℕ) → length x ≡ checkAt → checked sha256 (sealed sha256 x) ≡ true
 unfolding checked sealed
 sealed-checked x l =
-    let d : drop 480 (x ++ sha256 x) ≡ sha256 x = drop-at x (sha256 x) 480 l in
-    let t : take 480 (x ++ sha256 x) ≡ x = take-at x (sha256 x) 480 l in
+    let d : drop checkAt (x ++ sha256 x) ≡ sha256 x = drop-at x (sha256 x) checkAt l in
+    let t : take checkAt (x ++ sha256 x) ≡ x = take-at x (sha256 x) checkAt l in
     let a : take 32 (sha256 x) ≡ sha256 x = take-all 32 (sha256 x) (omega (arith, digest-length x)) in
     same-of (ap (take 32) d ∙ a ∙ ap sha256 (sym t))
 
-sealed-length : (x : List ℕ) → length x ≡ 480 → length (sealed sha256 x) ≡ 512
+sealed-length : (x : List ℕ) → length x ≡ checkAt → length (sealed sha256 x) ≡ frameSize
 unfolding sealed
 sealed-length x l = length-append x (sha256 x) ∙ omega (arith, digest-length x)
 
-blameHead-length : (i r : ℕ) → length (blameHead i r) ≡ 480
+blameHead-length : (i r : ℕ) → length (blameHead i r) ≡ checkAt
 unfolding blameHead
 blameHead-length i r = simp length-zeros refl
 
-pub blame-length : (i r : ℕ) → length (makeBlame sha256 i r) ≡ 512
+pub blame-length : (i r : ℕ) → length (makeBlame sha256 i r) ≡ frameSize
 unfolding makeBlame
 blame-length i r = sealed-length (blameHead i r) (blameHead-length i r)
 
@@ -62,7 +63,7 @@ blame-blank-length : (i r : ℕ) → blank (makeBlame sha256 i r) 2 4 ≡ true
 unfolding makeBlame sealed blameHead same zeros
 blame-blank-length i r = refl
 
-blame-blank : (i r : ℕ) → blank (makeBlame sha256 i r) 8 480 ≡ true
+blame-blank : (i r : ℕ) → blank (makeBlame sha256 i r) 8 checkAt ≡ true
 unfolding makeBlame sealed blameHead
 blame-blank i r = same-of (take-at (zeros 472) _ 472 (length-zeros 472))
 
@@ -72,7 +73,7 @@ unfolding blameForm
 blame-form s i r below one last small =
     let x : List ℕ = makeBlame sha256 i r in
     let e : round x ≡ r = blame-round-alone i r small in
-    both _ (blank x 8 480)
+    both _ (blank x 8 checkAt)
     (both _ (within 1 (round x) (s .«last_round» .0))
     (both _ (blank x 2 4)
     (both (eqb (kind x) 2) (ltb (signer x) (replicas s)) (eq-eqb (kind x) 2 (blame-kind i r))
@@ -82,11 +83,11 @@ blame-form s i r below one last small =
     (blame-blank i r)
 
 module _ (i r h : ℕ) (up entry : List ℕ) (wide : length up ≡ 32) (fits : length entry ≤ 400) where
-  blockHead-length : length (blockHead i r h up entry) ≡ 480
+  blockHead-length : length (blockHead i r h up entry) ≡ checkAt
   unfolding blockHead
   blockHead-length = simp (length-append, length-zeros, wide) (omega arith)
 
-  pub block-length : length (makeBlock sha256 i r h up entry) ≡ 512
+  pub block-length : length (makeBlock sha256 i r h up entry) ≡ frameSize
   unfolding makeBlock
   block-length = sealed-length (blockHead i r h up entry) blockHead-length
 
@@ -108,18 +109,18 @@ module _ (i r h : ℕ) (up entry : List ℕ) (wide : length up ≡ 32) (fits : l
 
   -- the part up to the entry, and the zeros after it
   block-split : (n : ℕ) → n ≡ length entry
-      → part (makeBlock sha256 i r h up entry) (44 + n) (480 - (44 + n)) ≡ zeros (480 - (44 + n))
+      → part (makeBlock sha256 i r h up entry) (44 + n) (checkAt - (44 + n)) ≡ zeros (checkAt - (44 + n))
   unfolding makeBlock sealed blockHead
   block-split n e =
       let front : List ℕ = 1 ∷ i ∷ (bytes2 (length entry) ++ (bytes4 r ++ (bytes4 h ++ (up ++ entry)))) in
       let size : length front ≡ 44 + n = simp (length-append, wide) (omega arith) in
-      let k : 436 - length entry ≡ 480 - (44 + n) = omega arith in
+      let k : 436 - length entry ≡ checkAt - (44 + n) = omega arith in
       let digest : List ℕ = sha256 (blockHead i r h up entry) in
-      let whole : blockHead i r h up entry ++ digest ≡ front ++ (zeros (480 - (44 + n)) ++ digest) =
+      let whole : blockHead i r h up entry ++ digest ≡ front ++ (zeros (checkAt - (44 + n)) ++ digest) =
       simp (append-assoc, k) refl in
-      ap (λ (y : List ℕ). take (480 - (44 + n)) (drop (44 + n) y)) whole
-      ∙ ap (take (480 - (44 + n))) (drop-at front _ (44 + n) size)
-      ∙ take-at (zeros (480 - (44 + n))) digest (480 - (44 + n)) (length-zeros (480 - (44 + n)))
+      ap (λ (y : List ℕ). take (checkAt - (44 + n)) (drop (44 + n) y)) whole
+      ∙ ap (take (checkAt - (44 + n))) (drop-at front _ (44 + n) size)
+      ∙ take-at (zeros (checkAt - (44 + n))) digest (checkAt - (44 + n)) (length-zeros (checkAt - (44 + n)))
 
   pub block-kind : kind (makeBlock sha256 i r h up entry) ≡ 1
   unfolding makeBlock sealed blockHead
@@ -143,9 +144,9 @@ module _ (i r h : ℕ) (up entry : List ℕ) (wide : length up ≡ 32) (fits : l
       let e : round x ≡ r = block-round small in
       let g : height x ≡ h = block-height (omega arith) in
       let n : entryLength x ≡ length entry = block-entry in
-      both (eqb (length x) 512) _ (eq-eqb (length x) 512 block-length)
+      both (eqb (length x) frameSize) _ (eq-eqb (length x) frameSize block-length)
       (both (checked sha256 x) _ block-checked
-      (both _ (blank x (44 + entryLength x) 480)
+      (both _ (blank x (44 + entryLength x) checkAt)
       (both _ (within 1 (height x) (round x))
       (both _ (within 1 (round x) (s .«last_round» .0))
       (both _ (leb (entryLength x) 400)

@@ -8,6 +8,7 @@ use lib.ListN.{length}
 use lib.Dec.{eqb}
 use borrow.Author.Tests.{eqb-true, eqb-false, eq-eqb}
 use Rattle.sha256.specs.Fips.{sha256}
+use Rattle.apollo.specs.Size.{frameSize}
 use Rattle.apollo.specs.declared.Verdict.{Verdict}
 use Rattle.apollo.specs.Setup.{setupOf}
 use Rattle.apollo.specs.Frame.{signer, round, framesOf, wholeFrames, blameForm, checked}
@@ -50,23 +51,23 @@ module _ (s : State) (out : List ℕ) where
   fresh-one false o p = refl
 
 module _ (s : State) (x entry out : List ℕ) where
-  heard-one : length x ≡ 512 → heard sha256 entry out s (x ∷ []) ≡ oneBlame s x entry out
+  heard-one : length x ≡ frameSize → heard sha256 entry out s (x ∷ []) ≡ oneBlame s x entry out
   unfolding heard judgedEach fault anyFresh hearingAll addBlames hearing oneBlame
   heard-one l =
       let a : Bool = checked sha256 x in
       let b : Bool = blameForm (setupOf (s .replica)) x in
       let k : ℕ = cond (not a) 7 (cond (not b) 8 0) in
       judged-one s out a b _ (cond (eqb k 0) noRefusal (verdict k 0)) k refl refl
-      ∙ rw (one-set x, fresh-one s out (bit (signer x) (mask (s .masks) (round x))), eq-eqb (length x) 512 l)
+      ∙ rw (one-set x, fresh-one s out (bit (signer x) (mask (s .masks) (round x))), eq-eqb (length x) frameSize l)
 
   pub blame-one : blameCall s x entry out ≡ guarded s entry out (oneBlame s x entry out)
   unfolding handing
-  blame-one = ap (guarded s entry out) (go (eqb (length x) 512) refl)
+  blame-one = ap (guarded s entry out) (go (eqb (length x) frameSize) refl)
     where
-      go : (z : Bool) → eqb (length x) 512 ≡ z
+      go : (z : Bool) → eqb (length x) frameSize ≡ z
           → cond (wholeFrames 1 x) (heard sha256 entry out s (framesOf x)) (refused s out 6 0) ≡ oneBlame s x entry out
       go true e =
-          let l : length x ≡ 512 = eqb-true (length x) 512 e in
+          let l : length x ≡ frameSize = eqb-true (length x) frameSize e in
           cond-true _ _ (whole-one 1 x (omega arith) l) ∙ ap (heard sha256 entry out s) (frames-one x l) ∙ heard-one l
       go false e = cut (wholeFrames 1 x) refl
         where
@@ -74,11 +75,11 @@ module _ (s : State) (x entry out : List ℕ) where
               → cond w (heard sha256 entry out s (framesOf x)) (refused s out 6 0) ≡ oneBlame s x entry out
           cut true h =
               let w : WholeFrames 1 x = whole-true 1 x h in
-              let l : length x ≡ 512 = omega (arith, w .even, w .some, w .few) in
-              absurd (eqb-false (length x) 512 e l)
+              let l : length x ≡ frameSize = omega (arith, w .even, w .some, w .few) in
+              absurd (eqb-false (length x) frameSize e l)
           cut false h = unfold oneBlame in sym (cond-true _ _ (ap not e))
 
-  pub blames-one : length x ≡ 512 → blamesCall s x entry out ≡ blameCall s x entry out
+  pub blames-one : length x ≡ frameSize → blamesCall s x entry out ≡ blameCall s x entry out
   unfolding handing
   blames-one l =
       ap (guarded s entry out)

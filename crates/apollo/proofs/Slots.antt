@@ -8,6 +8,7 @@ use lib.ListN.{length, take, drop, length-append, length-take, length-drop, leng
 use lib.Seq.{drop-append-le, take-append-le, drop-append-add, drop-at, take-at, drop-drop, take-add}
 use lib.Dec.{leb}
 use borrow.Author.Tests.{leb-true, leb-false}
+use Rattle.apollo.specs.Size.{frameSize}
 use Rattle.apollo.specs.Bytes.{part, zeros}
 use Rattle.apollo.specs.Log.{genesis, slot, store, clearAbove}
 
@@ -41,78 +42,78 @@ part-zeros m k n h =
     ap (λ ys. take n (drop k ys)) (sym s) ∙ ap (take n) (drop-at (zeros k) _ k (length-zeros k))
     ∙ take-at (zeros n) _ n (length-zeros n)
 
-pub slot-length : (log : List ℕ) (q : ℕ) → 512 * q ≤ length log → length (slot log q) ≡ 512
+pub slot-length : (log : List ℕ) (q : ℕ) → frameSize * q ≤ length log → length (slot log q) ≡ frameSize
 unfolding slot genesis
-slot-length log zero fit = length-zeros 512
+slot-length log zero fit = length-zeros frameSize
 slot-length log (suc k) fit = simp (length-take, length-drop) (omega arith)
 
-pub length-store : (log : List ℕ) (r : ℕ) (x : List ℕ) → 1 ≤ r → 512 * r ≤ length log → length x ≡ 512
+pub length-store : (log : List ℕ) (r : ℕ) (x : List ℕ) → 1 ≤ r → frameSize * r ≤ length log → length x ≡ frameSize
     → length (store log r x) ≡ length log
 unfolding store
 length-store log r x one fit e = simp (length-append, length-take, length-drop, e) (omega arith)
 
-pub store-same : (log : List ℕ) (r : ℕ) (x : List ℕ) → 1 ≤ r → 512 * r ≤ length log → length x ≡ 512 → slot (store log r x) r ≡ x
+pub store-same : (log : List ℕ) (r : ℕ) (x : List ℕ) → 1 ≤ r → frameSize * r ≤ length log → length x ≡ frameSize → slot (store log r x) r ≡ x
 unfolding store slot
 store-same log zero x one fit e = absurd (omega arith)
 store-same log (suc k) x one fit e =
-    ap (take 512) (drop-at (take (512 * (suc k - 1)) log) _ (512 * k) (simp length-take (omega arith))) ∙ take-at x _ 512 e
+    ap (take frameSize) (drop-at (take (frameSize * (suc k - 1)) log) _ (frameSize * k) (simp length-take (omega arith))) ∙ take-at x _ frameSize e
 
-store-low : (log : List ℕ) (r : ℕ) (x : List ℕ) (k : ℕ) → k + 512 ≤ 512 * (r - 1) → 512 * r ≤ length log
-    → part (store log r x) k 512 ≡ part log k 512
+store-low : (log : List ℕ) (r : ℕ) (x : List ℕ) (k : ℕ) → k + frameSize ≤ frameSize * (r - 1) → frameSize * r ≤ length log
+    → part (store log r x) k frameSize ≡ part log k frameSize
 unfolding store
 store-low log r x k lt fit =
-    part-left (take (512 * (r - 1)) log) _ k 512 (simp length-take (omega arith))
-    ∙ part-take log (512 * (r - 1)) k 512 lt (omega arith)
+    part-left (take (frameSize * (r - 1)) log) _ k frameSize (simp length-take (omega arith))
+    ∙ part-take log (frameSize * (r - 1)) k frameSize lt (omega arith)
 
-store-high : (log : List ℕ) (r : ℕ) (x : List ℕ) (k : ℕ) → 1 ≤ r → 512 * r ≤ k → 512 * r ≤ length log → length x ≡ 512
-    → part (store log r x) k 512 ≡ part log k 512
+store-high : (log : List ℕ) (r : ℕ) (x : List ℕ) (k : ℕ) → 1 ≤ r → frameSize * r ≤ k → frameSize * r ≤ length log → length x ≡ frameSize
+    → part (store log r x) k frameSize ≡ part log k frameSize
 unfolding store
 store-high log r x k one lt fit e =
-    let end : 512 * r + (k - 512 * r) ≡ k = omega arith in
-    part-right (take (512 * (r - 1)) log) _ k 512 (k - 512 * (r - 1)) (simp length-take (omega arith))
-    ∙ part-right x (drop (512 * r) log) (k - 512 * (r - 1)) 512 (k - 512 * r) (rw e (omega arith))
-    ∙ part-drop log (512 * r) (k - 512 * r) 512 ∙ ap (λ j. part log j 512) end
+    let end : frameSize * r + (k - frameSize * r) ≡ k = omega arith in
+    part-right (take (frameSize * (r - 1)) log) _ k frameSize (k - frameSize * (r - 1)) (simp length-take (omega arith))
+    ∙ part-right x (drop (frameSize * r) log) (k - frameSize * (r - 1)) frameSize (k - frameSize * r) (rw e (omega arith))
+    ∙ part-drop log (frameSize * r) (k - frameSize * r) frameSize ∙ ap (λ j. part log j frameSize) end
 
-pub store-other : (log : List ℕ) (r : ℕ) (x : List ℕ) (q : ℕ) → 1 ≤ r → 512 * r ≤ length log → length x ≡ 512 → ¬ (q ≡ r)
+pub store-other : (log : List ℕ) (r : ℕ) (x : List ℕ) (q : ℕ) → 1 ≤ r → frameSize * r ≤ length log → length x ≡ frameSize → ¬ (q ≡ r)
     → slot (store log r x) q ≡ slot log q
 unfolding slot
 store-other log r x zero one fit e ne = refl
 store-other log r x (suc k) one fit e ne = go (leb (suc k) r) refl
   where
-    go : (b : Bool) → leb (suc k) r ≡ b → part (store log r x) (512 * k) 512 ≡ part log (512 * k) 512
-    go true t = let l : suc k ≤ r = leb-true (suc k) r t in store-low log r x (512 * k) (omega arith) fit
-    go false t = let l : r < suc k = leb-false (suc k) r t in store-high log r x (512 * k) one (omega arith) fit e
+    go : (b : Bool) → leb (suc k) r ≡ b → part (store log r x) (frameSize * k) frameSize ≡ part log (frameSize * k) frameSize
+    go true t = let l : suc k ≤ r = leb-true (suc k) r t in store-low log r x (frameSize * k) (omega arith) fit
+    go false t = let l : r < suc k = leb-false (suc k) r t in store-high log r x (frameSize * k) one (omega arith) fit e
 
-pub length-clear : (log : List ℕ) (r : ℕ) → 512 * r ≤ length log → length (clearAbove log r) ≡ length log
+pub length-clear : (log : List ℕ) (r : ℕ) → frameSize * r ≤ length log → length (clearAbove log r) ≡ length log
 unfolding clearAbove
 length-clear log r fit = simp (length-append, length-take, length-zeros) (omega arith)
 
-pub clear-low : (log : List ℕ) (r q : ℕ) → 512 * r ≤ length log → q ≤ r → slot (clearAbove log r) q ≡ slot log q
+pub clear-low : (log : List ℕ) (r q : ℕ) → frameSize * r ≤ length log → q ≤ r → slot (clearAbove log r) q ≡ slot log q
 unfolding slot clearAbove
 clear-low log r zero fit l = refl
 clear-low log r (suc k) fit l =
-    part-left (take (512 * r) log) _ (512 * k) 512 (simp length-take (omega arith))
-    ∙ part-take log (512 * r) (512 * k) 512 (omega arith) fit
+    part-left (take (frameSize * r) log) _ (frameSize * k) frameSize (simp length-take (omega arith))
+    ∙ part-take log (frameSize * r) (frameSize * k) frameSize (omega arith) fit
 
-pub clear-high : (log : List ℕ) (r q : ℕ) → r < q → 512 * q ≤ length log → slot (clearAbove log r) q ≡ genesis
+pub clear-high : (log : List ℕ) (r q : ℕ) → r < q → frameSize * q ≤ length log → slot (clearAbove log r) q ≡ genesis
 unfolding slot clearAbove genesis
 clear-high log r zero l fit = absurd (omega arith)
 clear-high log r (suc k) l fit =
-    part-right (take (512 * r) log) _ (512 * k) 512 (512 * k - 512 * r) (simp length-take (omega arith))
-    ∙ part-zeros (length log - 512 * r) (512 * k - 512 * r) 512 (omega arith)
+    part-right (take (frameSize * r) log) _ (frameSize * k) frameSize (frameSize * k - frameSize * r) (simp length-take (omega arith))
+    ∙ part-zeros (length log - frameSize * r) (frameSize * k - frameSize * r) frameSize (omega arith)
 
 -- equal slots make equal beginnings, and the other way round
-pub take-slots : (a b : List ℕ) (c : ℕ) → ((q : ℕ) → 1 ≤ q → q ≤ c → slot a q ≡ slot b q) → take (512 * c) a ≡ take (512 * c) b
+pub take-slots : (a b : List ℕ) (c : ℕ) → ((q : ℕ) → 1 ≤ q → q ≤ c → slot a q ≡ slot b q) → take (frameSize * c) a ≡ take (frameSize * c) b
 unfolding slot
 take-slots a b zero h = refl
 take-slots a b (suc c) h =
-    let e : 512 * suc c ≡ 512 * c + 512 = omega arith in
-    let ih : take (512 * c) a ≡ take (512 * c) b = take-slots a b c (λ q l m. h q l (omega arith)) in
-    let s : take 512 (drop (512 * c) a) ≡ take 512 (drop (512 * c) b) = h (suc c) (omega arith) (omega arith) in
-    rw e (take-add (512 * c) 512 a ∙ ap (λ ys. ys ++ take 512 (drop (512 * c) a)) ih ∙ ap (λ ys. take (512 * c) b ++ ys) s
-    ∙ sym (take-add (512 * c) 512 b))
+    let e : frameSize * suc c ≡ frameSize * c + frameSize = omega arith in
+    let ih : take (frameSize * c) a ≡ take (frameSize * c) b = take-slots a b c (λ q l m. h q l (omega arith)) in
+    let s : take frameSize (drop (frameSize * c) a) ≡ take frameSize (drop (frameSize * c) b) = h (suc c) (omega arith) (omega arith) in
+    rw e (take-add (frameSize * c) frameSize a ∙ ap (λ ys. ys ++ take frameSize (drop (frameSize * c) a)) ih ∙ ap (λ ys. take (frameSize * c) b ++ ys) s
+    ∙ sym (take-add (frameSize * c) frameSize b))
 
-pub slot-take : (log : List ℕ) (c q : ℕ) → q ≤ c → 512 * c ≤ length log → slot (take (512 * c) log) q ≡ slot log q
+pub slot-take : (log : List ℕ) (c q : ℕ) → q ≤ c → frameSize * c ≤ length log → slot (take (frameSize * c) log) q ≡ slot log q
 unfolding slot
 slot-take log c zero l fit = refl
-slot-take log c (suc k) l fit = part-take log (512 * c) (512 * k) 512 (omega arith) fit
+slot-take log c (suc k) l fit = part-take log (frameSize * c) (frameSize * k) frameSize (omega arith) fit

@@ -6,6 +6,7 @@ use mathlib.Core.Bool.{true, false, _&&_, not}
 use lib.ListN.{length}
 use lib.Dec.{eqb, leb, ltb}
 use borrow.Author.Tests.{ltb-true, leb-true, eqb-true, lt-ltb, le-leb, eq-eqb, not-true}
+use Rattle.apollo.specs.Size.{frameSize}
 use Rattle.apollo.specs.declared.Replica.{Replica}
 use Rattle.apollo.specs.declared.Setup.{Setup}
 use Rattle.apollo.specs.Bytes.{within}
@@ -29,7 +30,7 @@ pub record ValidOpening (r : Replica) (log : List ℕ) : Type 0 where
   pub timeout-most : r .timeout .0 ≤ 60000
   pub last-least : 1 ≤ r .«last_round» .0
   pub last-most : r .«last_round» .0 ≤ 4096
-  pub size : length log ≡ 512 * r .«last_round» .0
+  pub size : length log ≡ frameSize * r .«last_round» .0
 
 -- the other fields are
 pub record Valid (r : Replica) (log : List ℕ) : Type 0 where
@@ -57,7 +58,7 @@ limits s e =
 pub valid-opening : (r : Replica) (log : List ℕ) → validOpening r log ≡ true → ValidOpening r log
 unfolding validOpening validOwn
 valid-opening r log e =
-    let a = and-true _ (eqb (length log) (512 * r .«last_round» .0)) e in
+    let a = and-true _ (eqb (length log) (frameSize * r .«last_round» .0)) e in
     let b = and-true (validLimits (setupOf r)) _ (a .0) in
     let c = and-true (ltb (r .id) (replicas (setupOf r))) (within 1 (r .timeout .0) 60000) (b .1) in
     let l : Limits (setupOf r) = limits (setupOf r) (b .0) in
@@ -70,7 +71,7 @@ valid-opening r log e =
       timeout-most = t .1;
       last-least = l .last-least;
       last-most = l .last-most;
-      size = eqb-true (length log) (512 * r .«last_round» .0) (a .1);
+      size = eqb-true (length log) (frameSize * r .«last_round» .0) (a .1);
     }
 
 opening-of : (r : Replica) (log : List ℕ) → ValidOpening r log → (validLimits (setupOf r) ≡ true) × (validOwn r ≡ true)
@@ -165,4 +166,4 @@ valid-of r log s =
     (both (validLimits (setupOf r)) (validRotation (setupOf r)) (o .0) (s .rotation)) (o .1)) (rounds-of r log s))
     (lt-ltb (r .equivocators) (2 ^ replicas (setupOf r)) (s .marks)))
     (ap not (s .waits)))
-    (eq-eqb (length log) (512 * r .«last_round» .0) (s .setup .size))
+    (eq-eqb (length log) (frameSize * r .«last_round» .0) (s .setup .size))

@@ -9,6 +9,7 @@ use mathlib.Core.Bool.{Bool, true, false, _&&_, cond}
 use lib.ListN.{length, take}
 use lib.Dec.{eqb}
 use Rattle.sha256.specs.Fips.{sha256}
+use Rattle.apollo.specs.Size.{entryMost, frameSize, outLeast}
 use Rattle.apollo.specs.declared.Replica.{Replica}
 use Rattle.apollo.specs.declared.Setup.{Setup}
 use Rattle.apollo.specs.Rotation.{isRotation, inTurn, padded}
@@ -56,7 +57,7 @@ pub record Callable (s : State) (out : List ℕ) : Type 0 where
   pub valid : validReplica (s .replica) (s .log) ≡ true
   pub lent : validMasks (s .replica) (s .masks) ≡ true
   pub running : s .replica .round .0 ≤ s .replica .«last_round» .0
-  pub room : 1024 ≤ length out
+  pub room : outLeast ≤ length out
 
 -- the parent of x is in round p: that slot is filled and x fits it, and no filled slot between the two fits
 pub record ParentIn (log x : List ℕ) (p : ℕ) : Type 0 where
@@ -68,8 +69,8 @@ pub record ParentIn (log x : List ℕ) (p : ℕ) : Type 0 where
 pub record Blames (s : Setup) (o : Outcome) (i r : ℕ) : Type 0 where
   pub taken : number o ≡ 0
   pub emitted : 1 ≤ o .answer .frames
-  pub form : blameForm s (take 512 (o .out)) ≡ true
-  pub check : checked sha256 (take 512 (o .out)) ≡ true
+  pub form : blameForm s (take frameSize (o .out)) ≡ true
+  pub check : checked sha256 (take frameSize (o .out)) ≡ true
   pub by : signer (o .out) ≡ i
   pub for : round (o .out) ≡ r
 
@@ -122,7 +123,7 @@ pub record BenchSheet : Type 0 where
   pub item-3 : ((r : Replica) (log : List ℕ) → r .f ≡ 1
       → (r .round .0 ≡ 4 → chainRounds log 3 ≡ 1 ∷ 3 ∷ [] → committedRound r log ≡ 1)
       × (r .round .0 ≡ 5 → chainRounds log 4 ≡ 1 ∷ 3 ∷ [] → committedRound r log ≡ 3))
-      × ((s : State) (entry out : List ℕ) → Item3 s out → length entry ≤ 400 → newCommitted (tickCall s entry out) ≡ 3)
+      × ((s : State) (entry out : List ℕ) → Item3 s out → length entry ≤ entryMost → newCommitted (tickCall s entry out) ≡ 3)
   pub item-4 : (r : Replica) (log : List ℕ) → r .f ≡ 2 → r .round .0 ≡ 4 → chainRounds log 3 ≡ 1 ∷ 2 ∷ 3 ∷ []
       → committedRound r log ≡ 1
   pub item-5 : (T : ℕ) (rotation masks : List ℕ) (r : ℕ)
@@ -130,14 +131,14 @@ pub record BenchSheet : Type 0 where
       × (mask masks r ≡ 1 → certified (setup 1 T rotation) masks r ≡ false)
       × (mask masks r ≡ 21 → certified (setup 2 T rotation) masks r ≡ true)
   -- a branch of x and xs, whole frames that pass the tests before 10
-  pub item-6 : (s : State) (x : List ℕ) (xs : List (List ℕ)) (entry out : List ℕ) → Callable s out → length entry ≤ 400
+  pub item-6 : (s : State) (x : List ℕ) (xs : List (List ℕ)) (entry out : List ℕ) → Callable s out → length entry ≤ entryMost
       → s .replica .round .0 ≡ 3 → length (x ∷ xs) ≤ s .replica .«last_round» .0
       → blocks (setupOf (s .replica)) none (x ∷ xs) ≡ true
       → (round (lastOf x xs) ≡ 2 → number (branchCall s (flatten (x ∷ xs)) entry out) ≡ 10)
       × (round (lastOf x xs) ≡ 3 → ¬ (number (branchCall s (flatten (x ∷ xs)) entry out) ≡ 10))
   -- open, then branch, blame, blames and tick
   pub item-7 : ((id f timeout T : ℕ) (rotation log masks entry out : List ℕ) → validOpening (fresh id f timeout T rotation) log ≡ true
-      → validMasks (fresh id f timeout T rotation) masks ≡ true → isRotation (2 * f + 1) rotation ≡ true → 1024 ≤ length out
+      → validMasks (fresh id f timeout T rotation) masks ≡ true → isRotation (2 * f + 1) rotation ≡ true → outLeast ≤ length out
       → (length entry ≡ 400 → number (openCall id f timeout T rotation log masks entry out) ≡ 0)
       × (length entry ≡ 401 → number (openCall id f timeout T rotation log masks entry out) ≡ 5))
       × ((s : State) (bytes entry out : List ℕ) → Callable s out
@@ -147,21 +148,21 @@ pub record BenchSheet : Type 0 where
       × (length entry ≡ 401 → (number (branchCall s bytes entry out) ≡ 5) × (number (blameCall s bytes entry out) ≡ 5)
       × (number (blamesCall s bytes entry out) ≡ 5) × (number (tickCall s entry out) ≡ 5)))
   -- ticks on a state that has the whole timeout left
-  pub item-8 : (s : State) (entry out entry′ out′ : List ℕ) → Callable s out → length entry ≤ 400 → length entry′ ≤ 400
-      → 1024 ≤ length out′ → s .replica .timer ≡ s .replica .timeout
+  pub item-8 : (s : State) (entry out entry′ out′ : List ℕ) → Callable s out → length entry ≤ entryMost → length entry′ ≤ entryMost
+      → outLeast ≤ length out′ → s .replica .timer ≡ s .replica .timeout
       → (s .replica .timeout .0 ≡ 1
       → Blames (setupOf (s .replica)) (tickCall s entry out) (s .replica .id) (s .replica .round .0))
       × (s .replica .timeout .0 ≡ 2 → (number (tickCall s entry out) ≡ 0) × (tickCall s entry out .answer .frames ≡ 0)
       × Blames (setupOf (s .replica)) (tickCall (stateOf (tickCall s entry out)) entry′ out′) (s .replica .id)
       (s .replica .round .0))
   -- It is taken if round 2 is not committed, else 12 may be the answer; with R = 3 and f = 1 no call commits it.
-  pub item-9 : (s : State) (x entry out : List ℕ) → Item9 s x out → length entry ≤ 400
+  pub item-9 : (s : State) (x entry out : List ℕ) → Item9 s x out → length entry ≤ entryMost
       → (mask (s .masks) 2 ≡ 1 → (number (branchCall s x entry out) ≡ 13) × (place (branchCall s x entry out) ≡ 2))
       × (mask (s .masks) 2 ≡ 3 → s .replica .«committed_round» .0 ≤ 1 → (number (branchCall s x entry out) ≡ 0)
       × (s .replica .id ≡ 1 → newRound (branchCall s x entry out) ≡ 4)
       × (s .replica .id ≡ 0 → newRound (branchCall s x entry out) ≡ 5))
   -- the committed round; a block x for round 4 whose parent is in round 1; a child y of the held frame 3 in round 4
-  pub item-10 : (s : State) (entry out : List ℕ) → Item10 s out → length entry ≤ 400
+  pub item-10 : (s : State) (entry out : List ℕ) → Item10 s out → length entry ≤ entryMost
       → (s .replica .«committed_round» .0 ≡ 2)
       × ((x : List ℕ) → block (setupOf (s .replica)) x ≡ true → round x ≡ 4 → ParentIn (s .log) x 1
       → (certified (setupOf (s .replica)) (s .masks) 2 ≡ true → certified (setupOf (s .replica)) (s .masks) 3 ≡ true
@@ -172,11 +173,11 @@ pub record BenchSheet : Type 0 where
       → linked (slot (s .log) 3) y ≡ true → round y ≡ 4
       → number (branchCall s (slot (s .log) 1 ++ slot (s .log) 2 ++ slot (s .log) 3 ++ y) entry out) ≡ 0)
   pub item-11 : (f timeout : ℕ) (log masks entry out entry′ out′ : List ℕ)
-      → validOpening (fresh 0 f timeout 1 (turn f)) log ≡ true → validMasks (fresh 0 f timeout 1 (turn f)) masks ≡ true → 1024 ≤ length out
-      → length entry ≤ 400
+      → validOpening (fresh 0 f timeout 1 (turn f)) log ≡ true → validMasks (fresh 0 f timeout 1 (turn f)) masks ≡ true → outLeast ≤ length out
+      → length entry ≤ entryMost
       → (number (openCall 0 f timeout 1 (turn f) log masks entry out) ≡ 0)
       × (openCall 0 f timeout 1 (turn f) log masks entry out .answer .frames ≡ 1)
-      × (block (setup f 1 (turn f)) (take 512 (openCall 0 f timeout 1 (turn f) log masks entry out .out)) ≡ true)
+      × (block (setup f 1 (turn f)) (take frameSize (openCall 0 f timeout 1 (turn f) log masks entry out .out)) ≡ true)
       × (round (openCall 0 f timeout 1 (turn f) log masks entry out .out) ≡ 1)
       × (newRound (openCall 0 f timeout 1 (turn f) log masks entry out) ≡ 2)
       × (number (tickCall (stateOf (openCall 0 f timeout 1 (turn f) log masks entry out)) entry′ out′) ≡ 3)

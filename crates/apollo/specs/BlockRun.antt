@@ -6,6 +6,7 @@ use mathlib.Core.Bool.{Bool, true, _&&_, cond}
 use lib.ListN.{length}
 use lib.Dec.{eqb, ltb}
 use Rattle.sha256.specs.Fips.{sha256}
+use Rattle.apollo.specs.Size.{frameSize}
 use Rattle.apollo.specs.declared.Setup.{Setup}
 use Rattle.apollo.specs.declared.Verdict.{Verdict}
 use Rattle.apollo.specs.Frame.{round, blockForm, linked, checked}
@@ -28,7 +29,7 @@ follows (some x) y = childOf x y
 
 -- a whole frame that passes 7 and 8
 unfoldable pub block : Setup → List ℕ → Bool
-block s x = eqb (length x) 512 && (checked sha256 x && blockForm s x)
+block s x = eqb (length x) frameSize && (checked sha256 x && blockForm s x)
 
 -- whole frames that pass 7, 8 and 9 behind p
 unfoldable pub blocks : Setup → (p : Option (List ℕ)) → List (List ℕ) → Bool

@@ -5,6 +5,7 @@ use mathlib.Core.Option.{Option, none, some}
 use mathlib.Core.Bool.{cond}
 use lib.ListN.{take}
 use lib.Dec.{eqb, ltb}
+use Rattle.apollo.specs.Size.{frameSize}
 use Rattle.apollo.specs.Bytes.{same}
 use Rattle.apollo.specs.declared.Setup.{Setup}
 use Rattle.apollo.specs.declared.Verdict.{Verdict}
@@ -43,7 +44,7 @@ module _ (hash : List ℕ → List ℕ) where
   unfoldable pub placed : (entry out : List ℕ) → State → (x : List ℕ) (xs : List (List ℕ)) → Option ℕ → Outcome
   placed entry out s x xs none = refused s out unattached 0
   placed entry out s x xs (some a) =
-      let committed : ℕ = 512 * s .replica .«committed_round» .0 in
+      let committed : ℕ = frameSize * s .replica .«committed_round» .0 in
       cond (eqb (firstUncertified (setupOf (s .replica)) (s .masks) a (x ∷ xs)) 0)
       (cond (same (take committed (grown (s .log) a (x ∷ xs))) (take committed (s .log)))
       (taken (adopting entry s a x xs) out) (refused s out revertsCommitted 0))

@@ -4,6 +4,7 @@ use mathlib.Core.List.{List, [], _∷_}
 use mathlib.Core.Bool.{Bool, _&&_, not, cond}
 use lib.ListN.{length}
 use lib.Dec.{eqb}
+use Rattle.apollo.specs.Size.{frameSize, pairSize}
 use Rattle.apollo.specs.declared.Replica.{Replica}
 use Rattle.apollo.specs.declared.Verdict.{Verdict}
 use Rattle.apollo.specs.declared.Marked.{Marked}
@@ -20,11 +21,11 @@ marked number place r = record { number = number; place = place; replica = r }
 
 -- "two frames"
 abbrev pub isPair : (bytes : List ℕ) → Bool
-isPair bytes = eqb (length bytes) 1024
+isPair bytes = eqb (length bytes) pairSize
 
 -- the second of them
 abbrev pub second : (bytes : List ℕ) → List ℕ
-second bytes = part bytes 512 512
+second bytes = part bytes frameSize frameSize
 
 -- "their rounds are equal and their names differ"
 unfoldable pub conflicting : (x y : List ℕ) → Bool

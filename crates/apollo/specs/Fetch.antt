@@ -4,6 +4,7 @@ use mathlib.Core.List.{List, [], _∷_, _++_, flatten}
 use mathlib.Core.Bool.{not, cond}
 use lib.ListN.{length, take, drop}
 use lib.Dec.{eqb, ltb}
+use Rattle.apollo.specs.Size.{frameSize, outLeast}
 use Rattle.apollo.specs.declared.Replica.{Replica}
 use Rattle.apollo.specs.declared.Fetched.{Fetched}
 use Rattle.apollo.specs.Frame.{height}
@@ -35,16 +36,16 @@ fetchable r log h = above h (chain log (r .«last_round» .0))
 
 -- the count: "the smaller of" all such frames and the whole frames that the out buffer (tray) takes
 abbrev pub fetchCount : Replica → (log : List ℕ) (h : ℕ) (out : List ℕ) → ℕ
-fetchCount r log h out = min (length (fetchable r log h)) (length out / 512)
+fetchCount r log h out = min (length (fetchable r log h)) (length out / frameSize)
 
 -- fetch above height h: 2, 4, 15, and taken, with the lowest rounds at the start of the out buffer
 unfoldable pub fetchCall : Replica → (log : List ℕ) (h : ℕ) (out : List ℕ) → FetchOutcome
 fetchCall r log h out =
     let count : ℕ = fetchCount r log h out in
     cond (not (validReplica r log)) (notFetched out badReplica)
-    (cond (ltb (length out) 1024) (notFetched out outTooShort)
+    (cond (ltb (length out) outLeast) (notFetched out outTooShort)
     (cond (eqb (length (fetchable r log h)) 0) (notFetched out absent)
     (record {
       answer = record { number = 0; count = count };
-      out = flatten (take count (fetchable r log h)) ++ drop (512 * count) out;
+      out = flatten (take count (fetchable r log h)) ++ drop (frameSize * count) out;
     })))

@@ -4,6 +4,7 @@ use mathlib.Core.List.{List, [], _∷_, _++_}
 use mathlib.Core.Bool.{Bool, _&&_}
 use lib.ListN.{length, take, drop, getD}
 use lib.Dec.{eqb, leb, ltb}
+use Rattle.apollo.specs.Size.{checkAt, entryMost, frameSize}
 use Rattle.apollo.specs.Bytes.{part, number2, number4, bytes2, bytes4, zeros, same, blank, within}
 use Rattle.apollo.specs.declared.Setup.{Setup}
 use Rattle.apollo.specs.Setup.{replicas, leader}
@@ -30,37 +31,37 @@ parent x = part x 12 32
 
 -- check, which is also the name
 abbrev pub digest : List ℕ → List ℕ
-digest x = part x 480 32
+digest x = part x checkAt 32
 
 -- the first n whole frames of some bytes
 unfoldable pub frames : ℕ → List ℕ → List (List ℕ)
 frames zero xs = []
-frames (suc n) xs = take 512 xs ∷ frames n (drop 512 xs)
+frames (suc n) xs = take frameSize xs ∷ frames n (drop frameSize xs)
 
 -- all whole frames of some bytes
 abbrev pub framesOf : (bytes : List ℕ) → List (List ℕ)
-framesOf bytes = frames (length bytes / 512) bytes
+framesOf bytes = frames (length bytes / frameSize) bytes
 
 -- the first and the last of some frames, in their bytes
 abbrev pub firstFrame : (bytes : List ℕ) → List ℕ
-firstFrame bytes = part bytes 0 512
+firstFrame bytes = part bytes 0 frameSize
 
 abbrev pub lastFrame : (bytes : List ℕ) → List ℕ
-lastFrame bytes = part bytes (length bytes - 512) 512
+lastFrame bytes = part bytes (length bytes - frameSize) frameSize
 
 -- 1 to `most` whole frames
 unfoldable pub wholeFrames : (most : ℕ) (bytes : List ℕ) → Bool
-wholeFrames most bytes = eqb (length bytes % 512) 0 && within 1 (length bytes / 512) most
+wholeFrames most bytes = eqb (length bytes % frameSize) 0 && within 1 (length bytes / frameSize) most
 
 -- form of a block and of a blame
 unfoldable pub blockForm : Setup → List ℕ → Bool
 blockForm s x =
-    eqb (kind x) 1 && eqb (signer x) (leader s (round x)) && leb (entryLength x) 400 && within 1 (round x) (s .«last_round» .0)
-    && within 1 (height x) (round x) && blank x (44 + entryLength x) 480
+    eqb (kind x) 1 && eqb (signer x) (leader s (round x)) && leb (entryLength x) entryMost && within 1 (round x) (s .«last_round» .0)
+    && within 1 (height x) (round x) && blank x (44 + entryLength x) checkAt
 
 unfoldable pub blameForm : Setup → List ℕ → Bool
 blameForm s x =
-    eqb (kind x) 2 && ltb (signer x) (replicas s) && blank x 2 4 && within 1 (round x) (s .«last_round» .0) && blank x 8 480
+    eqb (kind x) 2 && ltb (signer x) (replicas s) && blank x 2 4 && within 1 (round x) (s .«last_round» .0) && blank x 8 checkAt
 
 -- frame x names frame p as its parent, and its height is one more
 unfoldable pub linked : (p x : List ℕ) → Bool
@@ -77,7 +78,7 @@ blameHead id r = 2 ∷ id ∷ 0 ∷ 0 ∷ (bytes4 r ++ zeros 472)
 module _ (hash : List ℕ → List ℕ) where
   -- the check is right
   unfoldable pub checked : List ℕ → Bool
-  checked x = same (digest x) (hash (take 480 x))
+  checked x = same (digest x) (hash (take checkAt x))
 
   -- bytes 0–479 with their check
   unfoldable pub sealed : List ℕ → List ℕ

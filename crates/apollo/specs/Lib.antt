@@ -1,4 +1,5 @@
 pub mod Bytes
+pub mod Size
 pub mod Refusal
 pub mod Rotation
 pub mod Setup

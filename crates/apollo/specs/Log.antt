@@ -6,17 +6,18 @@ use mathlib.Core.Option.{Option, none, some}
 use mathlib.Core.Bool.{Bool, _&&_, cond}
 use lib.ListN.{length, take, drop}
 use lib.Dec.{eqb}
+use Rattle.apollo.specs.Size.{frameSize}
 use Rattle.apollo.specs.Bytes.{part, zeros}
 use Rattle.apollo.specs.Frame.{kind, linked}
 
 -- genesis: as a slot of zeros it has round 0, height 0 and a name of zero bytes
 unfoldable pub genesis : List ℕ
-genesis = zeros 512
+genesis = zeros frameSize
 
 -- slot r; the genesis for round 0
 unfoldable pub slot : (log : List ℕ) (r : ℕ) → List ℕ
 slot log zero = genesis
-slot log (suc k) = part log (512 * k) 512
+slot log (suc k) = part log (frameSize * k) frameSize
 
 -- a slot is filled
 abbrev pub filled : List ℕ → Bool
@@ -24,11 +25,11 @@ filled x = eqb (kind x) 1
 
 -- the log with frame x in slot r
 unfoldable pub store : (log : List ℕ) (r : ℕ) (x : List ℕ) → List ℕ
-store log r x = take (512 * (r - 1)) log ++ (x ++ drop (512 * r) log)
+store log r x = take (frameSize * (r - 1)) log ++ (x ++ drop (frameSize * r) log)
 
 -- the log with the slots above round r zeroed
 unfoldable pub clearAbove : (log : List ℕ) (r : ℕ) → List ℕ
-clearAbove log r = take (512 * r) log ++ zeros (length log - 512 * r)
+clearAbove log r = take (frameSize * r) log ++ zeros (length log - frameSize * r)
 
 -- the round of the highest filled slot up to round r, 0 (the genesis) if none
 unfoldable pub highest : (log : List ℕ) (r : ℕ) → ℕ

@@ -4,6 +4,7 @@ use mathlib.Core.List.{List}
 use mathlib.Core.Bool.{_&&_, not, cond}
 use lib.ListN.{length}
 use lib.Dec.{ltb}
+use Rattle.apollo.specs.Size.{entryMost, frameSize, outLeast}
 use Rattle.apollo.specs.declared.Replica.{Replica}
 use Rattle.apollo.specs.Bytes.{zeros}
 use Rattle.apollo.specs.Rotation.{isRotation}
@@ -19,8 +20,8 @@ module _ (hash : List ℕ → List ℕ) where
   openWith id f timeout lastRound rotation log masks entry out =
       let r : Replica = fresh id f timeout lastRound rotation in
       let old : State = record { replica = zeroReplica; log = log; masks = masks } in
-      let new : State = record { replica = r; log = zeros (512 * lastRound); masks = zeros lastRound } in
+      let new : State = record { replica = r; log = zeros (frameSize * lastRound); masks = zeros lastRound } in
       cond (not (validOpening r log && validMasks r masks)) (refused old out badSetup 0)
       (cond (not (isRotation (replicas (setupOf r)) rotation)) (refused old out badRotation 0)
-      (cond (ltb (length out) 1024) (refused old out outTooShort 0)
-      (cond (ltb 400 (length entry)) (refused old out entryTooLong 0) (taken (enterRound hash entry new) out))))
+      (cond (ltb (length out) outLeast) (refused old out outTooShort 0)
+      (cond (ltb entryMost (length entry)) (refused old out entryTooLong 0) (taken (enterRound hash entry new) out))))

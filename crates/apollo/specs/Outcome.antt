@@ -4,6 +4,7 @@ use mathlib.Core.List.{List, _++_, flatten}
 use mathlib.Core.Bool.{_&&_, not, cond}
 use lib.ListN.{length, drop}
 use lib.Dec.{eqb, leb, ltb}
+use Rattle.apollo.specs.Size.{entryMost, frameSize, outLeast}
 use Rattle.apollo.specs.declared.Replica.{Replica}
 use Rattle.apollo.specs.declared.Answer.{Answer}
 use Rattle.apollo.specs.Setup.{setupOf, leader}
@@ -54,7 +55,7 @@ taken e out =
           };
       log = e .state .log;
       masks = e .state .masks;
-      out = flatten (e .emitted) ++ drop (512 * length (e .emitted)) out;
+      out = flatten (e .emitted) ++ drop (frameSize * length (e .emitted)) out;
     }
 
 -- refusals 2 to 5 of branch, blame, blames and tick, before what the call answers otherwise
@@ -62,5 +63,5 @@ unfoldable pub guarded : State → (entry out : List ℕ) → Outcome → Outcom
 guarded s entry out o =
     cond (not (validReplica (s .replica) (s .log) && validMasks (s .replica) (s .masks))) (refused s out badReplica 0)
     (cond (eqb (s .replica .round .0) (s .replica .«last_round» .0 + 1)) (refused s out roundsOver 0)
-    (cond (ltb (length out) 1024) (refused s out outTooShort 0)
-    (cond (ltb 400 (length entry)) (refused s out entryTooLong 0) o)))
+    (cond (ltb (length out) outLeast) (refused s out outTooShort 0)
+    (cond (ltb entryMost (length entry)) (refused s out entryTooLong 0) o)))

@@ -3,6 +3,7 @@ use Prim.Native.Nat.{ℕ, zero, suc, _+_, _-_, _*_}
 use mathlib.Core.List.{List}
 use mathlib.Core.Bool.{Bool, _&&_, not, cond}
 use lib.Dec.{eqb, leb}
+use Rattle.apollo.specs.Size.{entryMost, frameSize}
 use Rattle.apollo.specs.declared.Replica.{Replica}
 use Rattle.apollo.specs.declared.Part.{Part}
 use Rattle.apollo.specs.Bytes.{part}
@@ -23,7 +24,7 @@ partOf log number start length =
 
 -- slot x is filled, with height h and an entry length of at most 400
 unfoldable pub readable : (x : List ℕ) (h : ℕ) → Bool
-readable x h = filled x && eqb (height x) h && leb (entryLength x) 400
+readable x h = filled x && eqb (height x) h && leb (entryLength x) entryMost
 
 -- the lowest of the k rounds above lo with such a slot, 0 if none
 unfoldable pub lowest : (log : List ℕ) (h lo k : ℕ) → ℕ
@@ -35,4 +36,4 @@ unfoldable pub readCall : Replica → (log : List ℕ) (h : ℕ) → ReadOutcome
 readCall r log h =
     let q : ℕ = lowest log h 0 (r .«committed_round» .0) in
     cond (not (validReplica r log)) (partOf log badReplica 0 0)
-    (cond (eqb q 0) (partOf log absent 0 0) (partOf log 0 (512 * (q - 1) + 44) (entryLength (slot log q))))
+    (cond (eqb q 0) (partOf log absent 0 0) (partOf log 0 (frameSize * (q - 1) + 44) (entryLength (slot log q))))

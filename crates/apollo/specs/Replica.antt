@@ -4,6 +4,7 @@ use mathlib.Core.List.{List}
 use mathlib.Core.Bool.{Bool, _&&_, not}
 use lib.ListN.{length}
 use lib.Dec.{eqb, leb, ltb}
+use Rattle.apollo.specs.Size.{frameSize}
 use Rattle.apollo.specs.declared.Replica.{Replica}
 use Rattle.apollo.specs.Bytes.{zeros, within}
 use Rattle.apollo.specs.Rotation.{padded}
@@ -122,7 +123,7 @@ validRecord r = validSetup (setupOf r) && validOwn r && validRounds r && validMa
 
 -- one slot a round
 abbrev pub validLog : Replica → (log : List ℕ) → Bool
-validLog r log = eqb (length log) (512 * r .«last_round» .0)
+validLog r log = eqb (length log) (frameSize * r .«last_round» .0)
 
 -- one mask a round
 abbrev pub validMasks : Replica → (masks : List ℕ) → Bool

@@ -6,6 +6,7 @@ use mathlib.Core.Bool.{not, cond}
 use lib.ListN.{length}
 use lib.Dec.{eqb, ltb}
 use Rattle.sha256.specs.Fips.{sha256}
+use Rattle.apollo.specs.Size.{frameSize}
 use Rattle.apollo.specs.Setup.{setupOf}
 use Rattle.apollo.specs.Frame.{signer, round, blameForm, checked}
 use Rattle.apollo.specs.Masks.{bit, mask}
@@ -17,7 +18,7 @@ use Rattle.apollo.specs.Refusal.{badLength, badDigest, badForm, stale, e
 -- document 01's blame: 6, 7, 8, 14, 10, and one bit set
 unfoldable pub oneBlame : State → (x entry out : List ℕ) → Outcome
 oneBlame s x entry out =
-    cond (not (eqb (length x) 512)) (refused s out badLength 0)
+    cond (not (eqb (length x) frameSize)) (refused s out badLength 0)
     (cond (not (checked sha256 x)) (refused s out badDigest 0)
     (cond (not (blameForm (setupOf (s .replica)) x)) (refused s out badForm 0)
     (cond (ltb (s .replica .round .0) (round x)) (refused s out early 0)
@@ -28,4 +29,4 @@ pub record SetOfOne : Type 0 where
   -- the call blame is document 01's, and names no 16
   pub blame-is : (s : State) (x entry out : List ℕ) → blameCall s x entry out ≡ guarded s entry out (oneBlame s x entry out)
   -- blames of one frame answers and leaves what blame of it does
-  pub blames-is : (s : State) (x entry out : List ℕ) → length x ≡ 512 → blamesCall s x entry out ≡ blameCall s x entry out
+  pub blames-is : (s : State) (x entry out : List ℕ) → length x ≡ frameSize → blamesCall s x entry out ≡ blameCall s x entry out

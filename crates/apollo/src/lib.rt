@@ -4,6 +4,7 @@ ghost use mathlib.Core.Path.{_≡_};
 ghost use Prim.Native.Nat.{_-_};
 
 pub mod refusal;
+pub mod size;
 
 // A round, 1 to T; the genesis has round 0.
 #[repr(C)]

@@ -7,6 +7,7 @@ use lib.Dec.{eqb, ltb}
 use lib.ListN.{length, take, drop}
 use native.Mathlib.Omega.{arith}
 use Rattle.sha256.specs.Fips.{sha256}
+use Rattle.apollo.specs.Size.{frameSize}
 use Rattle.apollo.specs.declared.Replica.{Replica}
 use Rattle.apollo.specs.declared.Verdict.{Verdict}
 use Rattle.apollo.specs.Setup.{setupOf}
@@ -43,8 +44,8 @@ module _ (s : State) (bytes entry out : List ℕ) where
       → heard sha256 entry out s (frames n bytes) ≡ answered entry out s bytes (judgedFrames (s .replica) (s .masks) bytes)
   unfolding heard judgedFrames judgedTogether answered
   heard-answer n g f =
-      let x : List ℕ = take 512 bytes in
-      let xs : List (List ℕ) = frames (n - 1) (drop 512 bytes) in
+      let x : List ℕ = take frameSize bytes in
+      let xs : List (List ℕ) = frames (n - 1) (drop frameSize bytes) in
       let split : frames n bytes ≡ x ∷ xs = frames-split n bytes (omega arith) in
       rw (← f, split)
       (chain s out (taken (settle sha256 entry (hearingAll s (x ∷ xs)) (round x)) out)
@@ -56,7 +57,7 @@ module _ (s : State) (bytes entry out : List ℕ) where
   unfolding judgedSet answered
   set-answer most =
       one-of-two s out _ (wholeFrames most bytes) (heard sha256 entry out s (framesOf bytes)) (judgedFrames (s .replica) (s .masks) bytes)
-      (λ w. heard-answer (length bytes / 512) (whole-true most bytes w .some) refl)
+      (λ w. heard-answer (length bytes / frameSize) (whole-true most bytes w .some) refl)
 
 -- the signers of a set that nothing refuses have bits
 pub set-bits : (most : ℕ) (r : Replica) (masks bytes : List ℕ) → r .f ≤ 7 → judgedSet most r masks bytes .number ≡ 0

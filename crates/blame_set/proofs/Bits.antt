@@ -8,6 +8,7 @@ use lib.Dec.{eqb}
 use lib.ListN.{take, drop}
 use borrow.Author.Tests.{eqb-true, eqb-false}
 use Rattle.sha256.specs.Fips.{sha256}
+use Rattle.apollo.specs.Size.{frameSize}
 use Rattle.apollo.specs.declared.Setup.{Setup}
 use Rattle.apollo.specs.declared.Verdict.{Verdict}
 use Rattle.apollo.specs.Bytes.{part}
@@ -39,9 +40,9 @@ each-has-bit s l i (x ∷ xs) e =
 
 -- frame i, and those after it
 pub bits-rest : (b : List ℕ) (n i : ℕ) → i < n → HaveBits (rest b n i)
-    → (signer (part b (512 * i) 512) < 16) × HaveBits (rest b n (i + 1))
+    → (signer (part b (frameSize * i) frameSize) < 16) × HaveBits (rest b n (i + 1))
 bits-rest b n i h m = rw (rest-next b n i h) at m
 
 pub bits-lent : (b : List ℕ) (n i : ℕ) → i < n → HaveBits (rest b n i)
-    → signer (take (512 * i + 512 - 512 * i) (drop (512 * i) b)) < 16
-bits-lent b n i h m = rw (frame-part b (512 * i)) (bits-rest b n i h m .0)
+    → signer (take (frameSize * i + frameSize - frameSize * i) (drop (frameSize * i) b)) < 16
+bits-lent b n i h m = rw (frame-part b (frameSize * i)) (bits-rest b n i h m .0)

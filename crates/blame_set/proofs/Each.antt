@@ -6,6 +6,7 @@ use Prim.Native.Nat.{ℕ, _+_, _-_, _*_, _≤_, _<_}
 use lib.Dec.{eqb}
 use lib.ListN.{take, drop}
 use borrow.Author.Tests.{eq-eqb, ne-eqb}
+use Rattle.apollo.specs.Size.{frameSize}
 use Rattle.apollo.specs.Bytes.{part}
 use Rattle.apollo.specs.Frame.{signer, round}
 use Rattle.apollo.specs.Masks.{bit, setBit, mask, addBlame}
@@ -15,13 +16,13 @@ use Rattle.frame.proofs.Frames.{rest, rest-next, rest-end, frame-part}
 -- frame i of the n frames of b, as the code lends it
 module _ (b : List ℕ) (n i : ℕ) where
   abbrev lent : List ℕ
-  lent = take (512 * i + 512 - 512 * i) (drop (512 * i) b)
+  lent = take (frameSize * i + frameSize - frameSize * i) (drop (frameSize * i) b)
 
   abbrev x : List ℕ
-  x = part b (512 * i) 512
+  x = part b (frameSize * i) frameSize
 
   lent-is : lent ≡ x
-  lent-is = frame-part b (512 * i)
+  lent-is = frame-part b (frameSize * i)
 
   -- 16
   module _ (r before : ℕ) (goal : Bool) (e : oneSet r before (rest b n i) ≡ goal) where

@@ -2,12 +2,14 @@
 // a set of one.
 use apollo::Replica;
 use apollo::Verdict;
+use apollo::size::FRAME;
 use frame_forms::Form;
 ghost use mathlib.Core.Path.{_≡_};
 ghost use mathlib.Core.Bool.{_&&_, not};
 ghost use Prim.Native.Nat.{_*_, _≤_, _<_};
 ghost use lib.Dec.{eqb};
 ghost use lib.ListN.{length};
+ghost use Rattle.apollo.specs.Size.{frameSize};
 ghost use Rattle.apollo.specs.Frame as Frame;
 ghost use Rattle.apollo.specs.Frame.{framesOf};
 ghost use Rattle.apollo.specs.Masks as Masks;
@@ -45,12 +47,12 @@ fn is_one_set(frames: &[u8], r: u32) -> bool
     requires { ⌜ HaveBits (framesOf (now frames)) ⌝ }
     ensures { λ b. ⌜ b ≡ Blame.oneSet r 0 (framesOf (now (frames .entry))) ⌝ }
 {
-    let n = frames.len() / 512;
+    let n = frames.len() / FRAME;
     let mut before = 0u16;
     let mut i = 0;
     while i < n {
-        let a = 512 * i;
-        let e = a + 512;
+        let a = FRAME * i;
+        let e = a + FRAME;
         if !joins(&frames[a..e], r, before) {
             return false;
         }
@@ -72,11 +74,11 @@ fn is_heard(masks: &[u16], x: &[u8]) -> bool
 fn is_any_fresh(masks: &[u16], frames: &[u8]) -> bool
     ensures { λ b. ⌜ b ≡ Blame.anyFresh (now (masks .entry)) (framesOf (now (frames .entry))) ⌝ }
 {
-    let n = frames.len() / 512;
+    let n = frames.len() / FRAME;
     let mut i = 0;
     while i < n {
-        let a = 512 * i;
-        let e = a + 512;
+        let a = FRAME * i;
+        let e = a + FRAME;
         if !is_heard(masks, &frames[a..e]) {
             return true;
         }
@@ -90,7 +92,7 @@ fn judge_together(r: Replica, masks: &[u16], frames: &[u8]) -> Verdict
     requires { ⌜ HaveBits (framesOf (now frames)) ⌝ }
     ensures { λ v. ⌜ v ≡ Set.judgedTogether r (now (masks .entry)) (now (frames .entry)) ⌝ }
 {
-    let round = frame::round(slices::part(frames, 0, 512));
+    let round = frame::round(slices::part(frames, 0, FRAME));
     if !is_one_set(frames, round) {
         return refusal(apollo::refusal::NOT_A_SET);
     }
@@ -105,7 +107,7 @@ fn judge_together(r: Replica, masks: &[u16], frames: &[u8]) -> Verdict
 
 // 7 and 8 frame by frame, and what follows them.
 fn judge_frames(r: Replica, masks: &[u16], frames: &[u8]) -> Verdict
-    requires { ⌜ (r .f ≤ 7) × (length (now frames) ≤ 512 * 15) ⌝ }
+    requires { ⌜ (r .f ≤ 7) × (length (now frames) ≤ frameSize * 15) ⌝ }
     ensures { λ v. ⌜ v ≡ Set.judgedFrames r (now (masks .entry)) (now (frames .entry)) ⌝ }
 {
     let each = judging::judge_each(Form::Blame, record::setup(r), frames);
@@ -141,11 +143,11 @@ pub fn add_blames(masks: &mut [u16], frames: &[u8])
     requires { ⌜ HaveBits (framesOf (now frames)) ⌝ }
     ensures { λ _. ⌜ now (masks .exit) ≡ Blame.addBlames (now (masks .entry)) (framesOf (now (frames .entry))) ⌝ }
 {
-    let n = frames.len() / 512;
+    let n = frames.len() / FRAME;
     let mut i = 0;
     while i < n {
-        let a = 512 * i;
-        let e = a + 512;
+        let a = FRAME * i;
+        let e = a + FRAME;
         add_frame(masks, &frames[a..e]);
         i += 1;
     }

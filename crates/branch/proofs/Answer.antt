@@ -9,6 +9,7 @@ use lib.Dec.{eqb, ltb}
 use lib.ListN.{length, take, drop}
 use borrow.Author.Tests.{eqb-true}
 use Rattle.sha256.specs.Fips.{sha256}
+use Rattle.apollo.specs.Size.{frameSize}
 use Rattle.apollo.specs.Setup.{setupOf}
 use Rattle.apollo.specs.Frame.{round, frames, framesOf, firstFrame, lastFrame, wholeFrames}
 use Rattle.apollo.specs.Log.{attach}
@@ -98,16 +99,16 @@ module _ (s : State) (bytes entry out x : List ℕ) (xs : List (List ℕ)) (spli
 frames-answer : (s : State) (bytes entry out : List ℕ) → Valid (s .replica) (s .log) → WholeFrames (s .replica .«last_round» .0) bytes
     → branched sha256 entry out s (framesOf bytes) ≡ answered entry out s bytes (judgedWhole (s .replica) (s .log) (s .masks) bytes)
 frames-answer s bytes entry out v w =
-    let n : ℕ = length bytes / 512 in
-    let e : length bytes % 512 ≡ 0 = w .even in
-    let g : 1 ≤ length bytes / 512 = w .some in
-    let split : framesOf bytes ≡ take 512 bytes ∷ frames (n - 1) (drop 512 bytes) = frames-split n bytes g in
-    let order : (a : ℕ) → judgedRun sha256 (setupOf (s .replica)) 0 none (take 512 bytes ∷ frames (n - 1) (drop 512 bytes)) .number ≡ 0
-    → attach (s .log) (take 512 bytes) (round (take 512 bytes) - 1) ≡ some a
-    → Ordered (s .replica .«last_round» .0) a (take 512 bytes ∷ frames (n - 1) (drop 512 bytes)) =
+    let n : ℕ = length bytes / frameSize in
+    let e : length bytes % frameSize ≡ 0 = w .even in
+    let g : 1 ≤ length bytes / frameSize = w .some in
+    let split : framesOf bytes ≡ take frameSize bytes ∷ frames (n - 1) (drop frameSize bytes) = frames-split n bytes g in
+    let order : (a : ℕ) → judgedRun sha256 (setupOf (s .replica)) 0 none (take frameSize bytes ∷ frames (n - 1) (drop frameSize bytes)) .number ≡ 0
+    → attach (s .log) (take frameSize bytes) (round (take frameSize bytes) - 1) ≡ some a
+    → Ordered (s .replica .«last_round» .0) a (take frameSize bytes ∷ frames (n - 1) (drop frameSize bytes)) =
     λ a z h. rw (← split) (ordered (setupOf (s .replica)) (s .log) bytes n a g (omega arith) (rw split z) h) in
     ap (branched sha256 entry out s) split
-    ∙ whole-answer s bytes entry out (take 512 bytes) (frames (n - 1) (drop 512 bytes)) split refl (last-is _ bytes w) v order
+    ∙ whole-answer s bytes entry out (take frameSize bytes) (frames (n - 1) (drop frameSize bytes)) split refl (last-is _ bytes w) v order
 
 -- the call answers what the judgement says
 pub branch-answer : (s : State) (bytes entry out : List ℕ)

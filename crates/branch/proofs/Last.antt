@@ -9,6 +9,7 @@ use lib.Dec.{eqb, ltb}
 use lib.ListN.{length, take, drop}
 use borrow.Author.Tests.{eqb-true, eqb-false}
 use Rattle.sha256.specs.Fips.{sha256}
+use Rattle.apollo.specs.Size.{frameSize}
 use Rattle.apollo.specs.declared.Replica.{Replica}
 use Rattle.apollo.specs.declared.Setup.{Setup}
 use Rattle.apollo.specs.Setup.{setupOf}
@@ -26,11 +27,11 @@ use Rattle.branch.proofs.Frames.{last-is}
 
 -- each frame has the slot of its round, and the last is a block
 record Sound (s : Setup) (x : List ℕ) (ys : List (List ℕ)) : Type 0 where
-  slots : Slotted (512 * s .«last_round» .0) (x ∷ ys)
+  slots : Slotted (frameSize * s .«last_round» .0) (x ∷ ys)
   last : block s (lastOf x ys) ≡ true
 
-slot-first : (s : Setup) (x : List ℕ) (ys : List (List ℕ)) → block s x ≡ true → Slotted (512 * s .«last_round» .0) ys
-    → Slotted (512 * s .«last_round» .0) (x ∷ ys)
+slot-first : (s : Setup) (x : List ℕ) (ys : List (List ℕ)) → block s x ≡ true → Slotted (frameSize * s .«last_round» .0) ys
+    → Slotted (frameSize * s .«last_round» .0) (x ∷ ys)
 unfolding Slotted
 slot-first s x ys e h =
     let b : BlockFields s x = block-fields s x (block-parts s x e .1) in
@@ -52,7 +53,7 @@ opens true false j n p e h = absurd (eqb-false n 0 e h)
 opens false y j n p e h = absurd (omega arith)
 
 pub branch-sound : (r : Replica) (log masks bytes : List ℕ) → judgedBranch r log masks bytes .number ≡ 0
-    → Slotted (512 * r .«last_round» .0) (framesOf bytes) × BlockFields (setupOf r) (lastFrame bytes)
+    → Slotted (frameSize * r .«last_round» .0) (framesOf bytes) × BlockFields (setupOf r) (lastFrame bytes)
 unfolding judgedBranch judgedWhole
 branch-sound r log masks bytes e =
     let v : Verdict = judgedRun sha256 (setupOf r) 0 none (framesOf bytes) in
@@ -63,11 +64,11 @@ branch-sound r log masks bytes e =
     (v .number) (v .place) refl e
     in
     let w : WholeFrames (r .«last_round» .0) bytes = whole-true (r .«last_round» .0) bytes (p .0) in
-    let f = frames-split (length bytes / 512) bytes (w .some) in
-    let n : ℕ = length bytes / 512 in
+    let f = frames-split (length bytes / frameSize) bytes (w .some) in
+    let n : ℕ = length bytes / frameSize in
     let whole = frames-whole n bytes (omega arith) in
     let good = blocks-judged (setupOf r) 0 none (framesOf bytes) (p .1) whole in
-    let g = sound (setupOf r) none (take 512 bytes) (frames (n - 1) (drop 512 bytes)) (rw f at good) in (
+    let g = sound (setupOf r) none (take frameSize bytes) (frames (n - 1) (drop frameSize bytes)) (rw f at good) in (
       rw f (g .slots),
       block-fields (setupOf r) (lastFrame bytes)
           (block-parts (setupOf r) (lastFrame bytes) (ap (block (setupOf r)) (last-is (r .«last_round» .0) bytes w) ∙ g .last) .1),

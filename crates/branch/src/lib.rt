@@ -1,6 +1,7 @@
 // The judgement of a branch that is handed in: refusals 6 to 13, each with its place. Every public function takes any
 // record and slices of any length and content.
 use apollo::Replica;
+use apollo::size::FRAME;
 use branch_links::Attachment;
 use branch_rounds::Gap;
 use judging::Start;
@@ -8,6 +9,7 @@ ghost use mathlib.Core.Path.{_≡_};
 ghost use Prim.Native.Nat.{_*_, _≤_};
 ghost use lib.ListN.{length};
 ghost use lib.Dec.{ltb};
+ghost use Rattle.apollo.specs.Size.{frameSize};
 ghost use Rattle.apollo.specs.Frame as Frame;
 ghost use Rattle.branch.specs.Judge as Judge;
 
@@ -67,7 +69,7 @@ fn judge_on(r: Replica, log: &[u8], masks: &[u16], frames: &[u8], a: u32) -> Jud
 fn judge_attached(r: Replica, log: &[u8], masks: &[u16], frames: &[u8]) -> Judged
     ensures { λ j. ⌜ j ≡ Judge.judgedFirst r (now (log .entry)) (now (masks .entry)) (now (frames .entry)) ⌝ }
 {
-    let at = branch_links::attach(log, slices::part(frames, 0, 512));
+    let at = branch_links::attach(log, slices::part(frames, 0, FRAME));
     match at {
         Attachment::At(a) => judge_on(r, log, masks, frames, a),
         Attachment::Nowhere => refusal(apollo::refusal::UNATTACHED, 0),
@@ -76,7 +78,7 @@ fn judge_attached(r: Replica, log: &[u8], masks: &[u16], frames: &[u8]) -> Judge
 
 // 7, 8, 9 and 10 of whole frames, and what follows them.
 fn judge_whole(r: Replica, log: &[u8], masks: &[u16], frames: &[u8]) -> Judged
-    requires { ⌜ length (now frames) ≤ 512 * r .«last_round» .0 ⌝ }
+    requires { ⌜ length (now frames) ≤ frameSize * r .«last_round» .0 ⌝ }
     ensures { λ j. ⌜ j ≡ Judge.judgedWhole r (now (log .entry)) (now (masks .entry)) (now (frames .entry)) ⌝ }
 {
     let verdict = judging::judge_run(record::setup(r), Start::AnyParent, frames);

@@ -8,6 +8,7 @@ use Prim.Native.Nat.{ℕ, zero, suc, _-_, _*_, _≤_, _<_}
 use native.Mathlib.Omega.{arith}
 use lib.ListN.{length, take, drop}
 use Rattle.sha256.specs.Fips.{sha256}
+use Rattle.apollo.specs.Size.{frameSize}
 use Rattle.apollo.specs.declared.Setup.{Setup}
 use Rattle.apollo.specs.Frame.{round, frames}
 use Rattle.apollo.specs.Log.{attach}
@@ -32,14 +33,14 @@ rising s x (y ∷ ys) r e =
     (block-length s y (q .0), child-parts x y (q .1) .1, rising s y ys (f .1) (q .2))
 
 -- a judged branch of n frames whose first frame attaches to round a
-pub ordered : (s : Setup) (log b : List ℕ) (n a : ℕ) → 0 < n → 512 * n ≤ length b
-    → judgedRun sha256 s 0 none (frames n b) .number ≡ 0 → attach log (take 512 b) (round (take 512 b) - 1) ≡ some a
+pub ordered : (s : Setup) (log b : List ℕ) (n a : ℕ) → 0 < n → frameSize * n ≤ length b
+    → judgedRun sha256 s 0 none (frames n b) .number ≡ 0 → attach log (take frameSize b) (round (take frameSize b) - 1) ≡ some a
     → Ordered (s .«last_round» .0) a (frames n b)
 unfolding frames Ordered
 ordered s log b zero a g h e d = absurd (omega arith)
 ordered s log b (suc n) a g h e d =
-    let x : List ℕ = take 512 b in
-    let q = blocks-parts s none x (frames n (drop 512 b)) (blocks-judged s 0 none (frames (suc n) b) e (frames-whole (suc n) b h)) in
+    let x : List ℕ = take frameSize b in
+    let q = blocks-parts s none x (frames n (drop frameSize b)) (blocks-judged s 0 none (frames (suc n) b) e (frames-whole (suc n) b h)) in
     let f = block-round s x (q .0) in
     let l : a ≤ round x - 1 = attach-le log x (round x - 1) a d in
-    (block-length s x (q .0), omega (arith, f .0), rising s x (frames n (drop 512 b)) (f .1) (q .2))
+    (block-length s x (q .0), omega (arith, f .0), rising s x (frames n (drop frameSize b)) (f .1) (q .2))

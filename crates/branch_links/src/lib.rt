@@ -1,4 +1,5 @@
 // Where a branch attaches: the round of the slot that its first frame has as its parent.
+use apollo::size::FRAME;
 ghost use mathlib.Core.Path.{_≡_};
 ghost use Prim.Native.Nat.{_-_, _<_};
 ghost use mathlib.Core.Bool.{_&&_};
@@ -28,7 +29,7 @@ fn attaches(log: &[u8], x: &[u8], r: u32) -> bool
 fn attaches_genesis(x: &[u8]) -> bool
     ensures { λ b. ⌜ b ≡ Frame.linked Log.genesis (now (x .entry)) ⌝ }
 {
-    let genesis = [0u8; 512];
+    let genesis = [0u8; FRAME];
     frame::linked(&genesis, x)
 }
 

@@ -7,6 +7,7 @@ use native.Mathlib.Omega.{arith}
 use lib.Dec.{eqb}
 use lib.ListN.{take, drop}
 use borrow.Author.Tests.{ne-eqb}
+use Rattle.apollo.specs.Size.{frameSize}
 use Rattle.apollo.specs.declared.Setup.{Setup}
 use Rattle.apollo.specs.Frame.{round}
 use Rattle.apollo.specs.Masks.{certified, gap}
@@ -42,10 +43,10 @@ module _ (s : Setup) (masks : List ℕ) where
       let z : to - p - 1 ≡ 0 = omega arith in
       rw z
 
-  pub enter : (b : List ℕ) (lo n i to : ℕ) → i < n → to ≡ round (take (512 * i + 512 - 512 * i) (drop (512 * i) b))
+  pub enter : (b : List ℕ) (lo n i to : ℕ) → i < n → to ≡ round (take (frameSize * i + frameSize - frameSize * i) (drop (frameSize * i) b))
       → onward lo to (rest b n (i + 1)) ≡ firstUncertified s masks lo (rest b n i)
   unfolding onward firstUncertified
-  enter b lo n i to h e = rw (rest-next b n i h, e, frame-part b (512 * i))
+  enter b lo n i to h e = rw (rest-next b n i h, e, frame-part b (frameSize * i))
 
   pub end : (b : List ℕ) (lo n i : ℕ) → n ≤ i → 0 ≡ firstUncertified s masks lo (rest b n i)
   unfolding firstUncertified

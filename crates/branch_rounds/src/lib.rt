@@ -1,6 +1,7 @@
 // The rounds that a branch spans: the skipped ones, certified or not, and the committed slots that taking it would keep. Every
 // function takes slices of any length and any numbers.
 use apollo::Setup;
+use apollo::size::FRAME;
 ghost use mathlib.Core.Path.{_≡_};
 ghost use Rattle.apollo.specs.Frame.{framesOf};
 ghost use Rattle.apollo.specs.Branch as Branch;
@@ -17,15 +18,15 @@ pub enum Gap {
 pub fn first_uncertified(s: Setup, masks: &[u16], a: u32, frames: &[u8]) -> Gap
     ensures { λ g. ⌜ g ≡ gapAt (Branch.firstUncertified s (now (masks .entry)) a (framesOf (now (frames .entry)))) ⌝ }
 {
-    let n = frames.len() / 512;
+    let n = frames.len() / FRAME;
     let mut lo = a;
     let mut i = 0;
     let found = 'walk: loop {
         if n <= i {
             break 'walk Gap::Closed;
         }
-        let start = 512 * i;
-        let e = start + 512;
+        let start = FRAME * i;
+        let e = start + FRAME;
         let to = frame::round(&frames[start..e]);
         let end = to as u64;
         let mut p = lo as u64;
@@ -47,14 +48,14 @@ fn keeps_frame(log: &[u8], lo: u32, x: &[u8], committed: u32) -> bool
     ensures { λ b. ⌜ b ≡ keepsFrame (now (log .entry)) lo (now (x .entry)) committed ⌝ }
 {
     let r = frame::round(x);
-    let a = 512 * (lo as usize);
+    let a = FRAME * (lo as usize);
     if committed < r {
-        return slices::is_blank(log, a, 512 * (committed as usize));
+        return slices::is_blank(log, a, FRAME * (committed as usize));
     }
     if r == 0 {
         return false;
     }
-    if !slices::is_blank(log, a, 512 * ((r - 1) as usize)) {
+    if !slices::is_blank(log, a, FRAME * ((r - 1) as usize)) {
         return false;
     }
     slices::same_bytes(log::slot(log, r), x)
@@ -64,12 +65,12 @@ fn keeps_frame(log: &[u8], lo: u32, x: &[u8], committed: u32) -> bool
 pub fn keeps(log: &[u8], a: u32, frames: &[u8], committed: u32) -> bool
     ensures { λ b. ⌜ b ≡ keepsAll (now (log .entry)) a (framesOf (now (frames .entry))) committed ⌝ }
 {
-    let n = frames.len() / 512;
+    let n = frames.len() / FRAME;
     let mut lo = a;
     let mut i = 0;
     while i < n {
-        let s = 512 * i;
-        let e = s + 512;
+        let s = FRAME * i;
+        let e = s + FRAME;
         let x = &frames[s..e];
         if !keeps_frame(log, lo, x, committed) {
             return false;
@@ -77,5 +78,5 @@ pub fn keeps(log: &[u8], a: u32, frames: &[u8], committed: u32) -> bool
         lo = frame::round(x);
         i += 1;
     }
-    slices::is_blank(log, 512 * (lo as usize), 512 * (committed as usize))
+    slices::is_blank(log, FRAME * (lo as usize), FRAME * (committed as usize))
 }

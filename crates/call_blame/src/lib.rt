@@ -2,6 +2,7 @@
 // or not.
 use apollo::Answer;
 use apollo::Replica;
+use apollo::size::FRAME;
 ghost use mathlib.Core.Path.{_≡_};
 ghost use Prim.Native.Nat.{_≤_};
 ghost use Rattle.sha256.specs.Fips.{sha256};
@@ -28,7 +29,7 @@ fn hand_in(
         return calls::refused(replica, judged.number, judged.place);
     }
     blame_set::add_blames(masks, frames);
-    let round = frame::round(slices::part(frames, 0, 512));
+    let round = frame::round(slices::part(frames, 0, FRAME));
     rounds::settle(replica, log, masks, round, entry, out)
 }
 

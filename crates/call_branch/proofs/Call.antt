@@ -6,6 +6,7 @@ use native.Mathlib.Omega.{arith}
 use lib.ListN.{length}
 use borrow.Author.Tests.{eq-eqb, ne-eqb}
 use Rattle.sha256.specs.Fips.{sha256}
+use Rattle.apollo.specs.Size.{frameSize}
 use Rattle.apollo.specs.declared.Replica.{Replica}
 use Rattle.apollo.specs.declared.Answer.{Answer}
 use Rattle.apollo.specs.Setup.{setupOf}
@@ -32,7 +33,7 @@ module _ (r : Replica) (log masks entry out : List ℕ) where
     branch-refused a h ea = rw (branch-by (state r log masks) entry out x, ← ej, ne-eqb (j .number) 0 h, ea)
 
     module _ (z : j .number ≡ 0) where
-      branch-facts : Passed r log (length entry) (length out) × Slotted (512 * r .«last_round» .0) (framesOf x) × BlockFields (setupOf r) (lastFrame x)
+      branch-facts : Passed r log (length entry) (length out) × Slotted (frameSize * r .«last_round» .0) (framesOf x) × BlockFields (setupOf r) (lastFrame x)
       branch-facts =
           let w = branch-passed r log masks (length entry) (length out) x (ap (λ (i : Judged). i .number) (sym ej) ∙ z) in
           let b = branch-sound r log masks x (w .1) in

@@ -3,9 +3,13 @@ use apollo::Marked;
 use apollo::Replica;
 use apollo::Setup;
 use apollo::Verdict;
+use apollo::size::CHECK;
+use apollo::size::FRAME;
+use apollo::size::PAIR;
 use frame_forms::Form;
 ghost use mathlib.Core.Path.{_≡_};
 ghost use lib.ListN.{length};
+ghost use Rattle.apollo.specs.Size.{pairSize};
 ghost use Rattle.apollo.specs.Frame.{firstFrame};
 ghost use Rattle.apollo.specs.Equivocation.{marked, second, conflicting};
 ghost use Rattle.apollo.specs.Calls.{equivocationCall};
@@ -28,19 +32,22 @@ fn is_conflicting(x: &[u8], y: &[u8]) -> bool
     if frame::round(x) != frame::round(y) {
         return false;
     }
-    !slices::same_bytes(slices::part(x, 480, 32), slices::part(y, 480, 32))
+    !slices::same_bytes(slices::part(x, CHECK, 32), slices::part(y, CHECK, 32))
 }
 
 // 7 and 8 of both, then 18.
 fn judge_two(s: Setup, frames: &[u8]) -> Verdict
-    requires { ⌜ length (now frames) ≡ 1024 ⌝ }
+    requires { ⌜ length (now frames) ≡ pairSize ⌝ }
     ensures { λ v. ⌜ v ≡ judgedTwo s (firstFrame (now (frames .entry))) (second (now (frames .entry))) ⌝ }
 {
     let each = judging::judge_each(Form::Block, s, frames);
     if each.number != 0 {
         return each;
     }
-    if !is_conflicting(slices::part(frames, 0, 512), slices::part(frames, 512, 512)) {
+    if !is_conflicting(
+        slices::part(frames, 0, FRAME),
+        slices::part(frames, FRAME, FRAME),
+    ) {
         return Verdict {
             number: apollo::refusal::NOT_EQUIVOCATION,
             place: 0,
@@ -56,7 +63,7 @@ fn judge_two(s: Setup, frames: &[u8]) -> Verdict
 fn judge_pair(s: Setup, frames: &[u8]) -> Verdict
     ensures { λ v. ⌜ v ≡ judgedPair s (now (frames .entry)) ⌝ }
 {
-    if frames.len() != 1024 {
+    if frames.len() != PAIR {
         return Verdict {
             number: apollo::refusal::BAD_LENGTH,
             place: 0,
@@ -77,6 +84,6 @@ pub fn equivocation(replica: Replica, frames: &[u8]) -> Marked
     if judged.number != 0 {
         return answer(judged.number, judged.place, replica);
     }
-    let card = rotation::leader(s, frame::round(slices::part(frames, 0, 512)));
+    let card = rotation::leader(s, frame::round(slices::part(frames, 0, FRAME)));
     answer(0, 0, record::with_mark(replica, card))
 }

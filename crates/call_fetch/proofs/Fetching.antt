@@ -6,6 +6,7 @@ use Prim.Native.Nat.{ℕ, _*_, _≤_, _<_}
 use native.Mathlib.Omega.{arith}
 use lib.ListN.{length, take, drop}
 use borrow.Author.Tests.{eq-eqb, ne-eqb, lt-ltb, le-ltb}
+use Rattle.apollo.specs.Size.{frameSize}
 use Rattle.apollo.specs.declared.Replica.{Replica}
 use Rattle.apollo.specs.declared.Fetched.{Fetched}
 use Rattle.apollo.specs.Replica.{validReplica}
@@ -29,11 +30,11 @@ module _ (r : Replica) (log : List ℕ) (h : ℕ) (out : List ℕ) where
       fetch-short a i s = rw (i, ← e, t, lt-ltb (length out) 1024 s)
 
       -- a log of T slots has all rounds up to T
-      pub last-fits : 512 * r .«last_round» .0 ≤ length log
+      pub last-fits : frameSize * r .«last_round» .0 ≤ length log
       last-fits = omega (arith, valid r log (sym e ∙ t) .setup .size)
 
       module _ (wide : 1024 ≤ length out) (k : ℕ) (after : List ℕ) (d : k ≡ fetchCount r log h out)
-          (c : after ≡ flatten (take k (fetchable r log h)) ++ drop (512 * k) out) where
+          (c : after ≡ flatten (take k (fetchable r log h)) ++ drop (frameSize * k) out) where
         pub fetch-absent : (a : Fetched) → a ≡ noFrames 15 → k ≡ 0 → Answers a after
         unfolding fetchCall flatten
         fetch-absent a i z =

@@ -2,6 +2,7 @@
 use apollo::Fetched;
 use apollo::Height;
 use apollo::Replica;
+use apollo::size::OUT;
 ghost use mathlib.Core.Path.{_≡_};
 ghost use Rattle.apollo.specs.Calls.{fetchCall, fetched};
 ghost use Rattle.call_fetch.specs.Answers.{noFrames};
@@ -19,7 +20,7 @@ pub fn fetch(replica: Replica, log: &[u8], height: Height, out: &mut [u8]) -> Fe
     if !(record_ranges::valid_record(replica) & record_ranges::valid_log(replica, log)) {
         return no_frames(apollo::refusal::BAD_REPLICA);
     }
-    if out.len() < 1024 {
+    if out.len() < OUT {
         return no_frames(apollo::refusal::OUT_TOO_SHORT);
     }
     let count = log_heights::fetch_frames(log, height.0, replica.last_round.0, out);

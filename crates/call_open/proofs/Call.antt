@@ -5,6 +5,7 @@ use Prim.Native.Nat.{ℕ, _*_}
 use native.Mathlib.Omega.{arith}
 use lib.ListN.{length}
 use Rattle.sha256.specs.Fips.{sha256}
+use Rattle.apollo.specs.Size.{frameSize}
 use Rattle.apollo.specs.declared.Replica.{Replica}
 use Rattle.apollo.specs.declared.Answer.{Answer}
 use Rattle.apollo.specs.Bytes.{zeros}
@@ -41,8 +42,8 @@ module _ (id f timeout last : ℕ) (rotation log masks entry out : List ℕ) (r 
     unfolding fresh
     last-is = ap (λ (x : Replica). x .«last_round» .0) er
 
-    log-is : log′ ≡ zeros (512 * last)
-    log-is = el ∙ ap zeros (passed-open .valid .size ∙ ap (λ (k : ℕ). 512 * k) last-is)
+    log-is : log′ ≡ zeros (frameSize * last)
+    log-is = el ∙ ap zeros (passed-open .valid .size ∙ ap (λ (k : ℕ). frameSize * k) last-is)
 
     pub open-ready : Ready r log′ entry out
     unfolding fresh

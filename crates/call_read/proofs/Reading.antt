@@ -7,6 +7,7 @@ use native.Mathlib.Omega.{arith}
 use lib.Dec.{eqb, leb}
 use lib.ListN.{length}
 use borrow.Author.Tests.{eq-eqb, ne-eqb, eqb-false, leb-true, not-false}
+use Rattle.apollo.specs.Size.{frameSize}
 use Rattle.apollo.specs.declared.Replica.{Replica}
 use Rattle.apollo.specs.declared.Part.{Part}
 use Rattle.apollo.specs.Bytes.{part}
@@ -19,7 +20,7 @@ use Rattle.apollo.proofs.Validity.{Valid, valid}
 use Rattle.call_read.specs.Answers.{noPart, entryPart}
 
 pub entry-found : (log x : List ℕ) (r l : ℕ) → x ≡ slot log r → l ≡ entryLength x
-    → _≡_ {A = Part} (record { number = 0; start = 512 * (r - 1) + 44; length = l }) (entryPart log r)
+    → _≡_ {A = Part} (record { number = 0; start = frameSize * (r - 1) + 44; length = l }) (entryPart log r)
 entry-found log x r l e d = rw (d, e)
 
 module _ (r : Replica) (log : List ℕ) (h : ℕ) (v : Bool) (e : v ≡ validReplica r log) where
@@ -28,7 +29,7 @@ module _ (r : Replica) (log : List ℕ) (h : ℕ) (v : Bool) (e : v ≡ validRep
   read-invalid f = rw (← e, f)
 
   -- a log of T slots has all rounds up to the committed one
-  pub committed-fits : v ≡ true → 512 * r .«committed_round» .0 ≤ length log
+  pub committed-fits : v ≡ true → frameSize * r .«committed_round» .0 ≤ length log
   committed-fits t =
       let w : Valid r log = valid r log (sym e ∙ t) in
       omega (arith, w .setup .size, w .round-most, w .tip-below, w .committed-most)
@@ -54,7 +55,7 @@ pub read-bytes : (r : Replica) (log : List ℕ) (h : ℕ) → part log (readCall
 unfolding readCall
 read-bytes r log h =
     let q : ℕ = lowest log h 0 (r .«committed_round» .0) in
-    shown log (not (validReplica r log)) (eqb q 0) 2 15 0 (512 * (q - 1) + 44) (entryLength (slot log q)) (readCall r log h) refl
+    shown log (not (validReplica r log)) (eqb q 0) 2 15 0 (frameSize * (q - 1) + 44) (entryLength (slot log q)) (readCall r log h) refl
 
 -- the lowest slot, if there is one, is one of those looked at, and readable
 lowest-found : (log : List ℕ) (h lo k : ℕ) → (lowest log h lo k ≡ 0 → ⊥)
@@ -81,7 +82,7 @@ part-fits r log h =
     (λ n.
     let some : (q ≡ 0 → ⊥) = eqb-false q 0 n in
     let found : (q ≤ 0 + r .«committed_round» .0) × (readable (slot log q) h ≡ true) = lowest-found log h 0 (r .«committed_round» .0) some in
-    let within : 512 * r .«committed_round» .0 ≤ length log = committed-fits r log h true (sym (not-false _ v)) refl in
-    let g : 512 * (q - 1) + 44 + entryLength (slot log q) ≤ length log =
+    let within : frameSize * r .«committed_round» .0 ≤ length log = committed-fits r log h true (sym (not-false _ v)) refl in
+    let g : frameSize * (q - 1) + 44 + entryLength (slot log q) ≤ length log =
     omega (arith, found .0, within, entry-low (slot log q) h (found .1)) in
     g))

@@ -2,6 +2,7 @@
 use Prim.Native.Nat.{ℕ, _+_, _-_, _*_}
 use mathlib.Core.List.{List}
 use denote.Ref.{RefT}
+use Rattle.apollo.specs.Size.{frameSize}
 use Rattle.apollo.specs.declared.Part.{Part}
 use Rattle.apollo.specs.Frame.{entryLength}
 use Rattle.apollo.specs.Log.{slot}
@@ -12,7 +13,7 @@ noPart number = record { number = number; start = 0; length = 0 }
 
 -- the entry in slot r
 abbrev pub entryPart : (log : List ℕ) (r : ℕ) → Part
-entryPart log r = record { number = 0; start = 512 * (r - 1) + 44; length = entryLength (slot log r) }
+entryPart log r = record { number = 0; start = frameSize * (r - 1) + 44; length = entryLength (slot log r) }
 
 -- the place of the bytes of x from `start` on: the block of memory that x lies in, and the offset there
 abbrev pub placeIn : RefT (List ℕ) → (start : ℕ) → ℕ × ℕ

@@ -2,6 +2,7 @@
 use apollo::Height;
 use apollo::Part;
 use apollo::Replica;
+use apollo::size::FRAME;
 ghost use mathlib.Core.Path.{_≡_};
 ghost use Prim.Native.Nat.{_+_, _≤_, _<_};
 ghost use lib.ListN.{length};
@@ -27,7 +28,7 @@ fn entry_part(log: &[u8], r: u32) -> Part
     let i = (r - 1) as usize;
     Part {
         number: 0,
-        start: 512 * i + 44,
+        start: FRAME * i + 44,
         length: frame::entry_length(log::slot(log, r)),
     }
 }

@@ -11,6 +11,7 @@ use lib.Seq.{take-at, drop-at, take-all, drop-drop}
 use borrow.Rule.Slice.PartMut.{putMid}
 use borrow.Author.Tests.{eq-eqb, ne-eqb, eqb-true}
 use Rattle.sha256.specs.Fips.{sha256}
+use Rattle.apollo.specs.Size.{frameSize}
 use Rattle.apollo.specs.declared.Replica.{Replica}
 use Rattle.apollo.specs.declared.Answer.{Answer}
 use Rattle.apollo.specs.Frame.{round, makeBlame}
@@ -34,15 +35,15 @@ more a =
     record { number = a .number; frames = a .frames + 1; leader = a .leader; place = a .place; replica = a .replica }
 
 -- a frame before those of an effect
-before : (B out : List ℕ) (F : List (List ℕ)) → B ++ (flatten F ++ drop (512 * length F) (drop 512 out))
-    ≡ flatten (B ∷ F) ++ drop (512 * length (B ∷ F)) out
+before : (B out : List ℕ) (F : List (List ℕ)) → B ++ (flatten F ++ drop (frameSize * length F) (drop frameSize out))
+    ≡ flatten (B ∷ F) ++ drop (frameSize * length (B ∷ F)) out
 unfolding flatten
 before B out F =
-    let e : 512 + 512 * length F ≡ 512 * suc (length F) = omega arith in
-    sym (append-assoc B (flatten F) (drop (512 * length F) (drop 512 out)))
-    ∙ ap (λ (y : List ℕ). (B ++ flatten F) ++ y) (drop-drop (512 * length F) 512 out ∙ ap (λ (k : ℕ). drop k out) e)
+    let e : frameSize + frameSize * length F ≡ frameSize * suc (length F) = omega arith in
+    sym (append-assoc B (flatten F) (drop (frameSize * length F) (drop frameSize out)))
+    ∙ ap (λ (y : List ℕ). (B ++ flatten F) ++ y) (drop-drop (frameSize * length F) frameSize out ∙ ap (λ (k : ℕ). drop k out) e)
 
-taken-more : (B out log masks y : List ℕ) (e : Effect) (a : Answer) → outcome a log masks y ≡ taken e (drop 512 out)
+taken-more : (B out log masks y : List ℕ) (e : Effect) (a : Answer) → outcome a log masks y ≡ taken e (drop frameSize out)
     → outcome (more a) log masks (B ++ y) ≡ taken (record { state = e .state; emitted = B ∷ e .emitted }) out
 unfolding taken
 taken-more B out log masks y e a h =
@@ -92,34 +93,34 @@ module _ (r : Replica) (log masks entry out : List ℕ) where
           (ap (λ (x : Answer). outcome x log masks out) ea ∙ counted k (eqb (r .timer .0) 0) refl)
 
       -- ticks left reach 0: what is heard on the out buffer after the blame
-      module _ (out′ : List ℕ) (eo : out′ ≡ makeBlame sha256 (r .id) (r .round .0) ++ drop 512 out) where
-        after-blame : take (length out′ - 512) (drop 512 out′) ≡ drop 512 out
+      module _ (out′ : List ℕ) (eo : out′ ≡ makeBlame sha256 (r .id) (r .round .0) ++ drop frameSize out) where
+        after-blame : take (length out′ - frameSize) (drop frameSize out′) ≡ drop frameSize out
         after-blame =
-            let l : length (drop 512 out′) ≤ length out′ - 512 = rw length-drop (omega arith) in
-            take-all (length out′ - 512) (drop 512 out′) l ∙ ap (drop 512) eo ∙ drop-at (makeBlame sha256 (r .id) (r .round .0)) (drop 512 out) 512 (length-blame (r .id) (r .round .0))
+            let l : length (drop frameSize out′) ≤ length out′ - frameSize = rw length-drop (omega arith) in
+            take-all (length out′ - frameSize) (drop frameSize out′) l ∙ ap (drop frameSize) eo ∙ drop-at (makeBlame sha256 (r .id) (r .round .0)) (drop frameSize out) frameSize (length-blame (r .id) (r .round .0))
 
         pub tick-asks : (q : Replica) → q ≡ withTimer r 0
-            → Ready q log entry (take (length out′ - 512) (drop 512 out′)) × (q .round .0 ≤ q .«last_round» .0) × (r .id < 16)
+            → Ready q log entry (take (length out′ - frameSize) (drop frameSize out′)) × (q .round .0 ≤ q .«last_round» .0) × (r .id < 16)
         tick-asks q eq =
             let p = tick-passed in
             rw (after-blame, eq)
-            (passed-ready r log entry out p 0 (drop 512 out) (rw length-drop (omega (arith, p .out-least))), p .round-last, omega (arith, p .valid .setup .id-below, p .valid .setup .f-most))
+            (passed-ready r log entry out p 0 (drop frameSize out) (rw length-drop (omega (arith, p .out-least))), p .round-last, omega (arith, p .valid .setup .id-below, p .valid .setup .f-most))
 
         pub tick-out : (y log′ masks′ : List ℕ) (q : Replica) (a : Answer) → r .timer .0 ≡ 1 → q ≡ withTimer r 0
             → outcome a log′ masks′ y
-            ≡ taken (settle sha256 entry (hearing (state q log masks) (r .round .0) (r .id)) (r .round .0)) (take (length out′ - 512) (drop 512 out′))
-            → outcome (more a) log′ masks′ (putMid 512 (length out′ - 512) out′ y)
+            ≡ taken (settle sha256 entry (hearing (state q log masks) (r .round .0) (r .id)) (r .round .0)) (take (length out′ - frameSize) (drop frameSize out′))
+            → outcome (more a) log′ masks′ (putMid frameSize (length out′ - frameSize) out′ y)
             ≡ tickWith sha256 (state r log masks) entry out
         unfolding ticked blaming waiting
         tick-out y log′ masks′ q a t eq h =
             let R : ℕ = r .round .0 in
             let B : List ℕ = makeBlame sha256 (r .id) R in
             let s : State = waiting (state r log masks) R 0 in
-            let f : take 512 out′ ≡ B = ap (take 512) eo ∙ take-at B (drop 512 out) 512 (length-blame (r .id) R) in
-            let l : length (drop 512 out′) ≤ length out′ - 512 = rw length-drop (omega arith) in
-            let p : putMid 512 (length out′ - 512) out′ y ≡ B ++ y = rw (f, drop-of-length-le (drop 512 out′) l, append-nil) in
-            let e : outcome a log′ masks′ y ≡ taken (settle sha256 entry (hearing s R (r .id)) R) (drop 512 out) = rw (eq, after-blame) at h in
-            tick-effect (outcome (more a) log′ masks′ (putMid 512 (length out′ - 512) out′ y))
+            let f : take frameSize out′ ≡ B = ap (take frameSize) eo ∙ take-at B (drop frameSize out) frameSize (length-blame (r .id) R) in
+            let l : length (drop frameSize out′) ≤ length out′ - frameSize = rw length-drop (omega arith) in
+            let p : putMid frameSize (length out′ - frameSize) out′ y ≡ B ++ y = rw (f, drop-of-length-le (drop frameSize out′) l, append-nil) in
+            let e : outcome a log′ masks′ y ≡ taken (settle sha256 entry (hearing s R (r .id)) R) (drop frameSize out) = rw (eq, after-blame) at h in
+            tick-effect (outcome (more a) log′ masks′ (putMid frameSize (length out′ - frameSize) out′ y))
             (rw (ne-eqb (r .timer .0) 0 (omega arith), eq-eqb (r .timer .0) 1 t)
             (ap (outcome (more a) log′ masks′) p ∙ taken-more B out log′ masks′ y (settle sha256 entry (hearing s R (r .id)) R) a e))
 

@@ -1,6 +1,7 @@
 // The call tick. The answer and the lent buffers are those of the definition, refused or not.
 use apollo::Answer;
 use apollo::Replica;
+use apollo::size::FRAME;
 ghost use mathlib.Core.Path.{_≡_};
 ghost use Rattle.apollo.specs.Calls.{state, outcome, tickCall};
 
@@ -26,7 +27,7 @@ pub fn tick(
     let round = replica.round.0;
     frame_writing::put_blame(out, replica.id, round);
     let q = record::with_timer(replica, 0);
-    let mut a = rounds::hear(q, log, masks, round, replica.id, entry, &mut out[512..]);
+    let mut a = rounds::hear(q, log, masks, round, replica.id, entry, &mut out[FRAME..]);
     a.frames = a.frames + 1;
     a
 }

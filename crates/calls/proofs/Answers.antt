@@ -4,6 +4,7 @@ use mathlib.Core.List.{List}
 use Prim.Native.Nat.{ℕ, _≤_}
 use lib.ListN.{length}
 use borrow.Author.Tests.{eq-eqb, ne-eqb}
+use Rattle.apollo.specs.Size.{frameSize}
 use Rattle.apollo.specs.declared.Replica.{Replica}
 use Rattle.apollo.specs.declared.Answer.{Answer}
 use Rattle.apollo.specs.Replica.{withTimer}
@@ -25,7 +26,7 @@ module _ (s : State) (out : List ℕ) (m : ℕ) (o : Outcome) (n : ℕ) (e : n �
   taken-by z = rw (← e, eq-eqb n 0 z)
 
 module _ (r : Replica) (log entry out : List ℕ) where
-  pub passed-ready : Passed r log (length entry) (length out) → (t : ℕ) (y : List ℕ) → 512 ≤ length y → Ready (withTimer r t) log entry y
+  pub passed-ready : Passed r log (length entry) (length out) → (t : ℕ) (y : List ℕ) → frameSize ≤ length y → Ready (withTimer r t) log entry y
   passed-ready p t y h =
       let v = p .valid in
       record {

@@ -8,6 +8,7 @@ use native.Mathlib.Omega.{arith}
 use lib.Dec.{eqb, eqb·suc-suc}
 use lib.ListN.{length}
 use borrow.Author.Tests.{ne-eqb, not-true, not-false}
+use Rattle.apollo.specs.Size.{frameSize}
 use Rattle.apollo.specs.Bytes.{part, same}
 use Rattle.apollo.proofs.Tests.{and-no}
 use Rattle.apollo.specs.Frame.{height, parent, digest, linked, lastFrame}
@@ -35,7 +36,7 @@ module _ (p x d y : List ℕ) (b : Bool) (ed : d ≡ digest p) (ey : y ≡ paren
       rw (f, eg, eh) (height-next (height p) (height x) (rw eh at n))
 
 -- the last frame of fewer bytes than one
-pub short-last : (b : List ℕ) → length b < 512 → part b 0 512 ≡ lastFrame b
+pub short-last : (b : List ℕ) → length b < frameSize → part b 0 frameSize ≡ lastFrame b
 short-last b h =
-    let z : length b - 512 ≡ 0 = omega arith in
+    let z : length b - frameSize ≡ 0 = omega arith in
     rw z

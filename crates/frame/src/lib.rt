@@ -1,7 +1,10 @@
 // One frame: its fields read in place, and its parent; whole frames, and the last of them. Every function
 // takes slices of any length, as the definitions do.
+use apollo::size::CHECK;
+use apollo::size::FRAME;
 ghost use mathlib.Core.Path.{_≡_};
 ghost use Prim.Native.Nat.{_≤_, _<_};
+ghost use Rattle.apollo.specs.Size.{frameSize};
 ghost use Rattle.apollo.specs.Bytes as Bytes;
 ghost use Rattle.apollo.specs.Frame as Frame;
 
@@ -12,7 +15,7 @@ fn wide(b: u8) -> u32
 }
 
 fn number4(x: &[u8], start: usize) -> u32
-    requires { ⌜ start ≤ 512 ⌝ }
+    requires { ⌜ start ≤ frameSize ⌝ }
     ensures { λ r. ⌜ r ≡ Bytes.number4 (now (x .entry)) start ⌝ }
 {
     let a = wide(slices::byte(x, start));
@@ -58,7 +61,7 @@ pub fn height(x: &[u8]) -> u32
 pub fn linked(p: &[u8], x: &[u8]) -> bool
     ensures { λ r. ⌜ r ≡ Frame.linked (now (p .entry)) (now (x .entry)) ⌝ }
 {
-    if !slices::same_bytes(slices::part(p, 480, 32), slices::part(x, 12, 32)) {
+    if !slices::same_bytes(slices::part(p, CHECK, 32), slices::part(x, 12, 32)) {
         return false;
     }
     let h = height(x);
@@ -72,8 +75,8 @@ pub fn linked(p: &[u8], x: &[u8]) -> bool
 pub fn is_whole(most: u32, frames: &[u8]) -> bool
     ensures { λ b. ⌜ b ≡ Frame.wholeFrames most (now (frames .entry)) ⌝ }
 {
-    let n = frames.len() / 512;
-    if frames.len() % 512 != 0 {
+    let n = frames.len() / FRAME;
+    if frames.len() % FRAME != 0 {
         return false;
     }
     if n < 1 {
@@ -87,8 +90,8 @@ pub fn last_frame<'a>(frames: &'a [u8]) -> &'a [u8]
     ensures { λ x. ⌜ now x ≡ Frame.lastFrame (now (frames .entry)) ⌝ }
 {
     let n = frames.len();
-    if n < 512 {
-        return slices::part(frames, 0, 512);
+    if n < FRAME {
+        return slices::part(frames, 0, FRAME);
     }
-    slices::part(frames, n - 512, 512)
+    slices::part(frames, n - FRAME, FRAME)
 }

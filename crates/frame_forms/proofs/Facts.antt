@@ -5,6 +5,7 @@ use mathlib.Core.List.{List}
 use Prim.Native.Nat.{ℕ, _+_, _≤_, _<_}
 use lib.Dec.{eqb, leb, ltb}
 use borrow.Author.Tests.{eqb-true, leb-true, ltb-true}
+use Rattle.apollo.specs.Size.{checkAt}
 use Rattle.apollo.specs.Bytes.{within, blank}
 use Rattle.apollo.specs.declared.Setup.{Setup}
 use Rattle.apollo.specs.Setup.{replicas, leader}
@@ -19,7 +20,7 @@ pub record BlockFields (s : Setup) (x : List ℕ) : Type 0 where
   pub round-high : round x ≤ s .«last_round» .0
   pub height-low : 1 ≤ height x
   pub height-high : height x ≤ round x
-  pub rest : blank x (44 + entryLength x) 480 ≡ true
+  pub rest : blank x (44 + entryLength x) checkAt ≡ true
 
 pub block-fields : (s : Setup) (x : List ℕ) → blockForm s x ≡ true → BlockFields s x
 unfolding blockForm
@@ -29,7 +30,7 @@ block-fields s x e =
     let n : Bool = leb (entryLength x) 400 in
     let r : Bool = within 1 (round x) (s .«last_round» .0) in
     let h : Bool = within 1 (height x) (round x) in
-    let z : Bool = blank x (44 + entryLength x) 480 in
+    let z : Bool = blank x (44 + entryLength x) checkAt in
     let e₅ : k && g && n && r && h ≡ true = (and-true (k && g && n && r && h) z e) .0 in
     let e₄ : k && g && n && r ≡ true = (and-true (k && g && n && r) h e₅) .0 in
     let e₃ : k && g && n ≡ true = (and-true (k && g && n) r e₄) .0 in
@@ -60,7 +61,7 @@ blame-fields s x e =
     let g : Bool = ltb (signer x) (replicas s) in
     let n : Bool = blank x 2 4 in
     let r : Bool = within 1 (round x) (s .«last_round» .0) in
-    let z : Bool = blank x 8 480 in
+    let z : Bool = blank x 8 checkAt in
     let e₄ : k && g && n && r ≡ true = (and-true (k && g && n && r) z e) .0 in
     let e₂ : k && g ≡ true = (and-true (k && g) n ((and-true (k && g && n) r e₄) .0)) .0 in
     let er : r ≡ true = (and-true (k && g && n) r e₄) .1 in

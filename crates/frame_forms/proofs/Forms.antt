@@ -5,6 +5,7 @@ use mathlib.Core.Bool.{Bool, true, false, not}
 use mathlib.Core.List.{List}
 use Prim.Native.Nat.{ℕ, _+_, _≤_, _<_}
 use borrow.Author.Tests.{eq-eqb, ne-eqb, le-leb, lt-leb, lt-ltb, le-ltb, not-true, not-false}
+use Rattle.apollo.specs.Size.{checkAt}
 use Rattle.apollo.specs.Bytes.{within, blank}
 use Rattle.apollo.specs.declared.Setup.{Setup}
 use Rattle.apollo.specs.Setup.{replicas, leader}
@@ -40,7 +41,7 @@ module _ (s : Setup) (x : List ℕ) where
 
   pub block-rest : (k w l n r h : ℕ) (b p z : Bool) → k ≡ kind x → w ≡ signer x → n ≡ entryLength x → r ≡ round x
       → h ≡ height x → k ≡ 1 → l ≡ leader s r → w ≡ l → n ≤ 400 → b ≡ within 1 r (s .«last_round» .0) → not b ≡ false
-      → p ≡ within 1 h r → not p ≡ false → z ≡ blank x (44 + n) 480 → z ≡ blockForm s x
+      → p ≡ within 1 h r → not p ≡ false → z ≡ blank x (44 + n) checkAt → z ≡ blockForm s x
   unfolding blockForm
   block-rest k w l n r h b p z ek ew en er eh k1 el wl le eb tb ep tp ez =
       let f : within 1 (round x) (s .«last_round» .0) ≡ true = sym (rw er at eb) ∙ not-false b tb in
@@ -68,7 +69,7 @@ module _ (s : Setup) (x : List ℕ) where
       simp (f, and-no)
 
   pub blame-rest : (k w r : ℕ) (a b z : Bool) → k ≡ kind x → w ≡ signer x → r ≡ round x → k ≡ 2 → w < replicas s
-      → a ≡ blank x 2 4 → not a ≡ false → b ≡ within 1 r (s .«last_round» .0) → not b ≡ false → z ≡ blank x 8 480
+      → a ≡ blank x 2 4 → not a ≡ false → b ≡ within 1 r (s .«last_round» .0) → not b ≡ false → z ≡ blank x 8 checkAt
       → z ≡ blameForm s x
   unfolding blameForm
   blame-rest k w r a b z ek ew er k2 wn ea ta eb tb ez =

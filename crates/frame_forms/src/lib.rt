@@ -1,5 +1,7 @@
 // One frame judged in place: its check, its form, a block's or a blame's, and 7 and 8 by these. Every function takes slices of any length.
 use apollo::Setup;
+use apollo::size::CHECK;
+use apollo::size::ENTRY;
 ghost use mathlib.Core.Path.{_≡_};
 ghost use Rattle.apollo.specs.Bytes as Bytes;
 ghost use Rattle.apollo.specs.Frame as Frame;
@@ -26,8 +28,8 @@ fn within(lo: u32, n: u32, hi: u32) -> bool
 pub fn checked(x: &[u8]) -> bool
     ensures { λ r. ⌜ r ≡ Frame.checked sha256 (now (x .entry)) ⌝ }
 {
-    let d = sha256::digest(slices::part(x, 0, 480));
-    slices::same_bytes(slices::part(x, 480, 32), &d)
+    let d = sha256::digest(slices::part(x, 0, CHECK));
+    slices::same_bytes(slices::part(x, CHECK, 32), &d)
 }
 
 // x has the form of a block.
@@ -42,7 +44,7 @@ pub fn block_form(s: Setup, x: &[u8]) -> bool
     if frame::signer(x) != rotation::leader(s, r) {
         return false;
     }
-    if 400 < n {
+    if ENTRY < n {
         return false;
     }
     if !within(1, r, s.last_round.0) {
@@ -51,7 +53,7 @@ pub fn block_form(s: Setup, x: &[u8]) -> bool
     if !within(1, frame::height(x), r) {
         return false;
     }
-    slices::is_blank(x, 44 + n, 480)
+    slices::is_blank(x, 44 + n, CHECK)
 }
 
 // x has the form of a blame.
@@ -70,7 +72,7 @@ pub fn blame_form(s: Setup, x: &[u8]) -> bool
     if !within(1, frame::round(x), s.last_round.0) {
         return false;
     }
-    slices::is_blank(x, 8, 480)
+    slices::is_blank(x, 8, CHECK)
 }
 
 // x has that form.

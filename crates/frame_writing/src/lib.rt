@@ -1,8 +1,10 @@
 // Frames written in place: the block and the blame that a replica makes.
+use apollo::size::CHECK;
 ghost use mathlib.Core.Path.{_≡_};
 ghost use Prim.Native.Nat.{_+_, _-_, _≤_};
 ghost use mathlib.Core.List.{_∷_, _++_};
 ghost use lib.ListN.{length, take, drop};
+ghost use Rattle.apollo.specs.Size.{checkAt, entryMost, frameSize};
 ghost use Rattle.apollo.specs.Bytes as Bytes;
 ghost use Rattle.apollo.specs.Frame as Frame;
 ghost use Rattle.sha256.specs.Fips.{sha256};
@@ -27,11 +29,11 @@ fn put_zeros(out: &mut [u8], start: usize, end: usize)
 
 // Writes the check behind the first 480 bytes.
 fn seal(out: &mut [u8])
-    requires { ⌜ 512 ≤ length (now out) ⌝ }
-    ensures { λ _. ⌜ Written (now (out .entry)) 480 (sha256 (take 480 (now (out .entry)))) (now (out .exit)) ⌝ }
+    requires { ⌜ frameSize ≤ length (now out) ⌝ }
+    ensures { λ _. ⌜ Written (now (out .entry)) checkAt (sha256 (take checkAt (now (out .entry)))) (now (out .exit)) ⌝ }
 {
     let d = sha256::digest(&out[..480]);
-    put(out, 480, &d);
+    put(out, CHECK, &d);
 }
 
 // Bytes 0 to 11 of a block.
@@ -72,26 +74,26 @@ fn blame_start(id: u8, round: u32) -> [u8; 8]
 
 // Writes the block that replica `id` makes to the front of out.
 pub fn put_block(out: &mut [u8], id: u8, round: u32, height: u32, parent: &[u8], entry: &[u8])
-    requires { ⌜ (512 ≤ length (now out)) × (length (now parent) ≡ 32) × (length (now entry) ≤ 400) ⌝ }
+    requires { ⌜ (frameSize ≤ length (now out)) × (length (now parent) ≡ 32) × (length (now entry) ≤ entryMost) ⌝ }
     ensures { λ _. ⌜ now (out .exit)
-        ≡ Frame.makeBlock sha256 id round height (now (parent .entry)) (now (entry .entry)) ++ drop 512 (now (out .entry)) ⌝ }
+        ≡ Frame.makeBlock sha256 id round height (now (parent .entry)) (now (entry .entry)) ++ drop frameSize (now (out .entry)) ⌝ }
 {
     let n = entry.len();
     let start = block_start(id, n, round, height);
     put(out, 0, &start);
     put(out, 12, parent);
     put(out, 44, entry);
-    put_zeros(out, 44 + n, 480);
+    put_zeros(out, 44 + n, CHECK);
     seal(out);
 }
 
 // Writes the blame that replica `id` makes to the front of out.
 pub fn put_blame(out: &mut [u8], id: u8, round: u32)
-    requires { ⌜ 512 ≤ length (now out) ⌝ }
-    ensures { λ _. ⌜ now (out .exit) ≡ Frame.makeBlame sha256 id round ++ drop 512 (now (out .entry)) ⌝ }
+    requires { ⌜ frameSize ≤ length (now out) ⌝ }
+    ensures { λ _. ⌜ now (out .exit) ≡ Frame.makeBlame sha256 id round ++ drop frameSize (now (out .entry)) ⌝ }
 {
     let start = blame_start(id, round);
     put(out, 0, &start);
-    put_zeros(out, 8, 480);
+    put_zeros(out, 8, CHECK);
     seal(out);
 }

@@ -9,6 +9,7 @@ use lib.Dec.{eqb, ltb}
 use lib.ListN.{take, drop}
 use borrow.Author.Tests.{eq-eqb, ne-eqb, eqb-true, eqb-false}
 use Rattle.sha256.specs.Fips.{sha256}
+use Rattle.apollo.specs.Size.{frameSize}
 use Rattle.apollo.specs.Bytes.{part}
 use Rattle.apollo.specs.declared.Setup.{Setup}
 use Rattle.apollo.specs.declared.Verdict.{Verdict}
@@ -76,26 +77,26 @@ module _ (s : Setup) (b : List ℕ) (n : ℕ) where
     unfolding judgedRun frames
     run-none e = rw e
 
-    module _ (h : 0 < n) (k : ℕ) (d : k ≡ judgedNext s p (take 512 b)) where
+    module _ (h : 0 < n) (k : ℕ) (d : k ≡ judgedNext s p (take frameSize b)) where
       pub run-first : (k ≡ 0 → ⊥) → verdict k 0 ≡ judgedRun sha256 s 0 p (frames n b)
-      run-first z = sym (ap (judgedRun sha256 s 0 p) (frames-split n b h) ∙ step-stop s p (take 512 b) _ 0 k d z)
+      run-first z = sym (ap (judgedRun sha256 s 0 p) (frames-split n b h) ∙ step-stop s p (take frameSize b) _ 0 k d z)
 
-      pub run-start : k ≡ 0 → judgedRun sha256 s 1 (some (take 512 b)) (rest b n 1) ≡ judgedRun sha256 s 0 p (frames n b)
-      run-start z = sym (ap (judgedRun sha256 s 0 p) (frames-split n b h) ∙ step-on s p (take 512 b) _ 0 k d z)
+      pub run-start : k ≡ 0 → judgedRun sha256 s 1 (some (take frameSize b)) (rest b n 1) ≡ judgedRun sha256 s 0 p (frames n b)
+      run-start z = sym (ap (judgedRun sha256 s 0 p) (frames-split n b h) ∙ step-on s p (take frameSize b) _ 0 k d z)
 
   module _ (i k : ℕ) (goal : Verdict) (h : 1 ≤ i) (g : i < n)
-      (d : k ≡ judgedNext s (some (take (512 * i - (512 * i - 512)) (drop (512 * i - 512) b))) (take (512 * i + 512 - 512 * i) (drop (512 * i) b)))
-      (e : judgedRun sha256 s i (some (part b (512 * (i - 1)) 512)) (rest b n i) ≡ goal) where
-    next-is : k ≡ judgedNext s (some (part b (512 * (i - 1)) 512)) (part b (512 * i) 512)
+      (d : k ≡ judgedNext s (some (take (frameSize * i - (frameSize * i - frameSize)) (drop (frameSize * i - frameSize) b))) (take (frameSize * i + frameSize - frameSize * i) (drop (frameSize * i) b)))
+      (e : judgedRun sha256 s i (some (part b (frameSize * (i - 1)) frameSize)) (rest b n i) ≡ goal) where
+    next-is : k ≡ judgedNext s (some (part b (frameSize * (i - 1)) frameSize)) (part b (frameSize * i) frameSize)
     next-is =
-        let y : 512 * i - (512 * i - 512) ≡ 512 = omega arith in
-        let z : 512 * i - 512 ≡ 512 * (i - 1) = omega arith in
-        rw (y, z, frame-part b (512 * i)) at d
+        let y : frameSize * i - (frameSize * i - frameSize) ≡ frameSize = omega arith in
+        let z : frameSize * i - frameSize ≡ frameSize * (i - 1) = omega arith in
+        rw (y, z, frame-part b (frameSize * i)) at d
 
     pub run-stop : (k ≡ 0 → ⊥) → verdict k i ≡ goal
     run-stop z = sym (step-stop s _ _ (rest b n (i + 1)) i k next-is z) ∙ (rw (rest-next b n i g) at e)
 
-    pub run-more : k ≡ 0 → judgedRun sha256 s (i + 1) (some (part b (512 * (i + 1 - 1)) 512)) (rest b n (i + 1)) ≡ goal
+    pub run-more : k ≡ 0 → judgedRun sha256 s (i + 1) (some (part b (frameSize * (i + 1 - 1)) frameSize)) (rest b n (i + 1)) ≡ goal
     run-more z =
         let y : i + 1 - 1 ≡ i = omega arith in
         rw y (sym (step-on s _ _ (rest b n (i + 1)) i k next-is z) ∙ (rw (rest-next b n i g) at e))

@@ -2,12 +2,14 @@
 // any content.
 use apollo::Setup;
 use apollo::Verdict;
+use apollo::size::FRAME;
 use frame_forms::Form;
 ghost use mathlib.Core.Path.{_≡_};
 ghost use mathlib.Core.Option.{some};
 ghost use Prim.Native.Nat.{_*_, _≤_};
 ghost use lib.ListN.{length};
 ghost use Rattle.sha256.specs.Fips.{sha256};
+ghost use Rattle.apollo.specs.Size.{frameSize};
 ghost use Rattle.apollo.specs.Frame.{framesOf};
 ghost use Rattle.apollo.specs.Judging.{judgedEach};
 ghost use Rattle.apollo.specs.BlockRun as BlockRun;
@@ -23,14 +25,14 @@ pub enum Start {
 
 // 7 and 8 of the frames, each of which is to have that form.
 pub fn judge_each(form: Form, s: Setup, frames: &[u8]) -> Verdict
-    requires { ⌜ length (now frames) ≤ 512 * 4294967295 ⌝ }
+    requires { ⌜ length (now frames) ≤ frameSize * 4294967295 ⌝ }
     ensures { λ v. ⌜ v ≡ judgedEach sha256 (formOf form s) 0 (framesOf (now (frames .entry))) ⌝ }
 {
-    let n = frames.len() / 512;
+    let n = frames.len() / FRAME;
     let mut i = 0;
     while i < n {
-        let a = 512 * i;
-        let e = a + 512;
+        let a = FRAME * i;
+        let e = a + FRAME;
         let number = frame_forms::fault(form, s, &frames[a..e]);
         if number != 0 {
             return Verdict {
@@ -78,7 +80,7 @@ fn judge_first(s: Setup, start: Start, x: &[u8]) -> u8
     match start {
         Start::AnyParent => frame_forms::fault(Form::Block, s, x),
         Start::Genesis => {
-            let genesis = [0u8; 512];
+            let genesis = [0u8; FRAME];
             judge_next(s, &genesis, x)
         }
     }
@@ -86,10 +88,10 @@ fn judge_first(s: Setup, start: Start, x: &[u8]) -> u8
 
 // 7, 8 and 9 of the frames, each behind the one before it.
 pub fn judge_run(s: Setup, start: Start, frames: &[u8]) -> Verdict
-    requires { ⌜ length (now frames) ≤ 512 * 4294967295 ⌝ }
+    requires { ⌜ length (now frames) ≤ frameSize * 4294967295 ⌝ }
     ensures { λ v. ⌜ v ≡ judgedRun sha256 s 0 (startOf start) (framesOf (now (frames .entry))) ⌝ }
 {
-    let n = frames.len() / 512;
+    let n = frames.len() / FRAME;
     if n == 0 {
         return Verdict {
             number: 0,
@@ -105,9 +107,9 @@ pub fn judge_run(s: Setup, start: Start, frames: &[u8]) -> Verdict
     }
     let mut next = 1;
     while next < n {
-        let a = 512 * next;
-        let p = a - 512;
-        let e = a + 512;
+        let a = FRAME * next;
+        let p = a - FRAME;
+        let e = a + FRAME;
         let refusal = judge_next(s, &frames[p..a], &frames[a..e]);
         if refusal != 0 {
             return Verdict {

@@ -5,6 +5,7 @@ use mathlib.Core.List.{List}
 use Prim.Native.Nat.{ℕ, zero, suc, _+_, _-_, _*_, _≤_, _<_}
 use native.Mathlib.Omega.{arith}
 use lib.Dec.{eqb, eqb·suc-zero}
+use Rattle.apollo.specs.Size.{frameSize}
 use Rattle.apollo.specs.Bytes.{part, zeros, number4}
 use Rattle.apollo.specs.Frame.{kind, height}
 use Rattle.apollo.specs.Log.{genesis, slot, filled, highest, slotsRead}
@@ -19,7 +20,7 @@ unfolding slot genesis zeros number4
 genesis-height log r e = rw e
 
 -- from round 1 on a slot is a part of the log
-pub slot-part : (log : List ℕ) (r : ℕ) → 0 < r → part log (512 * (r - 1)) 512 ≡ slot log r
+pub slot-part : (log : List ℕ) (r : ℕ) → 0 < r → part log (frameSize * (r - 1)) frameSize ≡ slot log r
 unfolding slot
 slot-part log zero h = absurd (omega arith)
 slot-part log (suc k) h =

@@ -1,7 +1,9 @@
 // The log (book) of a replica: slots stored, zeroed and read, and the highest filled.
+use apollo::size::FRAME;
 ghost use mathlib.Core.Path.{_≡_};
 ghost use Prim.Native.Nat.{_*_, _≤_, _<_};
 ghost use lib.ListN.{length};
+ghost use Rattle.apollo.specs.Size.{frameSize};
 ghost use Rattle.apollo.specs.Frame as Frame;
 ghost use Rattle.apollo.specs.Frame.{framesOf};
 ghost use Rattle.apollo.specs.Log as Log;
@@ -19,7 +21,7 @@ pub struct Found {
 fn clear_above(log: &mut [u8], r: u32)
     ensures { λ _. ⌜ now (log .exit) ≡ Log.clearAbove (now (log .entry)) r ⌝ }
 {
-    let a = 512 * (r as usize);
+    let a = FRAME * (r as usize);
     if a < log.len() {
         slices::clear(&mut log[a..]);
     }
@@ -27,17 +29,17 @@ fn clear_above(log: &mut [u8], r: u32)
 
 // Frame x is stored in slot r.
 pub fn store(log: &mut [u8], r: u32, x: &[u8])
-    requires { ⌜ (1 ≤ r) × (512 * r ≤ length (now log)) × (length (now x) ≡ 512) ⌝ }
+    requires { ⌜ (1 ≤ r) × (frameSize * r ≤ length (now log)) × (length (now x) ≡ frameSize) ⌝ }
     ensures { λ _. ⌜ now (log .exit) ≡ Log.store (now (log .entry)) r (now (x .entry)) ⌝ }
 {
-    let e = 512 * (r as usize);
-    let a = e - 512;
+    let e = FRAME * (r as usize);
+    let a = e - FRAME;
     slices::copy(&mut log[a..e], x);
 }
 
 // Frame x is stored in the slot of its round.
 fn store_frame(log: &mut [u8], x: &[u8])
-    requires { ⌜ (1 ≤ Frame.round (now x)) × (512 * Frame.round (now x) ≤ length (now log)) × (length (now x) ≡ 512) ⌝ }
+    requires { ⌜ (1 ≤ Frame.round (now x)) × (frameSize * Frame.round (now x) ≤ length (now log)) × (length (now x) ≡ frameSize) ⌝ }
     ensures { λ _. ⌜ now (log .exit) ≡ Log.store (now (log .entry)) (Frame.round (now (x .entry))) (now (x .entry)) ⌝ }
 {
     let r = frame::round(x);
@@ -49,11 +51,11 @@ fn store_each(log: &mut [u8], frames: &[u8])
     requires { ⌜ Slotted (length (now log)) (framesOf (now frames)) ⌝ }
     ensures { λ _. ⌜ now (log .exit) ≡ Branch.storeAll (now (log .entry)) (framesOf (now (frames .entry))) ⌝ }
 {
-    let n = frames.len() / 512;
+    let n = frames.len() / FRAME;
     let mut i = 0;
     while i < n {
-        let start = 512 * i;
-        let end = start + 512;
+        let start = FRAME * i;
+        let end = start + FRAME;
         store_frame(log, &frames[start..end]);
         i += 1;
     }
@@ -74,7 +76,7 @@ pub fn slot<'a>(log: &'a [u8], r: u32) -> &'a [u8]
     ensures { λ x. ⌜ now x ≡ Log.slot (now (log .entry)) r ⌝ }
 {
     let i = (r - 1) as usize;
-    slices::part(log, 512 * i, 512)
+    slices::part(log, FRAME * i, FRAME)
 }
 
 // Slot r is filled.

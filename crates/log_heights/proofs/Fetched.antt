@@ -9,6 +9,7 @@ use native.Mathlib.Omega.{arith}
 use lib.Dec.{ltb}
 use lib.ListN.{length, take, drop, length-take, length-drop, length-append}
 use lib.Seq.{take-all, take-length, take-append-le, take-at, drop-append-add, drop-drop}
+use Rattle.apollo.specs.Size.{frameSize}
 use Rattle.apollo.specs.Frame.{height}
 use Rattle.apollo.specs.Log.{slot, filled, store, chain}
 use Rattle.apollo.specs.Fetch.{above}
@@ -28,13 +29,13 @@ flatten-append (x ∷ xs) ys = rw (flatten-append xs ys) (sym (append-assoc x (f
 
 -- the slot above round r as the code lends it
 abbrev lent : (log : List ℕ) (r : ℕ) → List ℕ
-lent log r = take (512 * r + 512 - 512 * r) (drop (512 * r) log)
+lent log r = take (frameSize * r + frameSize - frameSize * r) (drop (frameSize * r) log)
 
 lent-slot : (log : List ℕ) (r : ℕ) → lent log r ≡ slot log (suc r)
 unfolding slot
-lent-slot log r = frame-part log (512 * r)
+lent-slot log r = frame-part log (frameSize * r)
 
-pub lent-size : (log : List ℕ) (r : ℕ) → 512 * (r + 1) ≤ length log → length (lent log r) ≡ 512
+pub lent-size : (log : List ℕ) (r : ℕ) → frameSize * (r + 1) ≤ length log → length (lent log r) ≡ frameSize
 lent-size log r g = simp (length-take, length-drop) (omega arith)
 
 module _ (log : List ℕ) (h : ℕ) where
@@ -106,10 +107,10 @@ module _ (log : List ℕ) (h : ℕ) where
 
   -- after round r: k frames copied, all those up to it
   pub record Copied (o : List ℕ) (r k : ℕ) (out : List ℕ) : Type 0 where
-    pub fits : 512 * k ≤ length o
+    pub fits : frameSize * k ≤ length o
     pub count : k ≡ length (upTo r)
-    pub size : length (flatten (upTo r)) ≡ 512 * k
-    pub bytes : out ≡ flatten (upTo r) ++ drop (512 * k) o
+    pub size : length (flatten (upTo r)) ≡ frameSize * k
+    pub bytes : out ≡ flatten (upTo r) ++ drop (frameSize * k) o
 
   pub copied-none : (o : List ℕ) (r : ℕ) → upTo r ≡ [] → Copied o r 0 o
   unfolding flatten
@@ -127,7 +128,7 @@ module _ (log : List ℕ) (h : ℕ) where
           bytes = rw e (c .bytes);
         }
 
-    copied-one : isTall (slot log (suc r)) h ≡ true → 512 * (k + 1) ≤ length o → length (slot log (suc r)) ≡ 512
+    copied-one : isTall (slot log (suc r)) h ≡ true → frameSize * (k + 1) ≤ length o → length (slot log (suc r)) ≡ frameSize
         → Copied o (suc r) (k + 1) (store out (k + 1) (slot log (suc r)))
     unfolding store flatten
     copied-one t g l =
@@ -135,39 +136,39 @@ module _ (log : List ℕ) (h : ℕ) where
         let f : List ℕ = flatten (upTo r) in
         let e : upTo (suc r) ≡ upTo r ++ (x ∷ []) = up-more r ∙ rw t in
         let w : flatten (upTo (suc r)) ≡ f ++ x = rw e (flatten-append (upTo r) (x ∷ []) ∙ ap (λ (m : List ℕ). f ++ m) (append-nil x)) in
-        let y : 512 * (k + 1 - 1) ≡ length f = omega (arith, c .size) in
-        let z : 512 * (k + 1) ≡ length f + 512 = omega (arith, c .size) in
-        let u : take (512 * (k + 1 - 1)) out ≡ f = rw (y, c .bytes) (take-at f (drop (512 * k) o) (length f) refl) in
-        let p : 512 * k + 512 ≡ length f + 512 = omega (arith, c .size) in
-        let v : drop (512 * (k + 1)) out ≡ drop (512 * (k + 1)) o =
-        rw (z, c .bytes) (drop-append-add f (drop (512 * k) o) 512 ∙ (drop-drop 512 (512 * k) o ∙ ap (λ (n : ℕ). drop n o) p)) in
+        let y : frameSize * (k + 1 - 1) ≡ length f = omega (arith, c .size) in
+        let z : frameSize * (k + 1) ≡ length f + frameSize = omega (arith, c .size) in
+        let u : take (frameSize * (k + 1 - 1)) out ≡ f = rw (y, c .bytes) (take-at f (drop (frameSize * k) o) (length f) refl) in
+        let p : frameSize * k + frameSize ≡ length f + frameSize = omega (arith, c .size) in
+        let v : drop (frameSize * (k + 1)) out ≡ drop (frameSize * (k + 1)) o =
+        rw (z, c .bytes) (drop-append-add f (drop (frameSize * k) o) frameSize ∙ (drop-drop frameSize (frameSize * k) o ∙ ap (λ (n : ℕ). drop n o) p)) in
         record {
           fits = g;
           count = rw (e, length-append) (ap (λ (n : ℕ). n + 1) (c .count));
           size = rw (w, length-append, l) (omega (arith, c .size));
-          bytes = rw (u, v, w) (sym (append-assoc f x (drop (512 * (k + 1)) o)));
+          bytes = rw (u, v, w) (sym (append-assoc f x (drop (frameSize * (k + 1)) o)));
         }
 
-    pub copied-more : (k′ : ℕ) (out′ : List ℕ) → 512 * (k + 1) ≤ length o → 512 * (r + 1) ≤ length log
+    pub copied-more : (k′ : ℕ) (out′ : List ℕ) → frameSize * (k + 1) ≤ length o → frameSize * (r + 1) ≤ length log
         → k′ ≡ cond (isTall (lent log r) h) (k + 1) k → out′ ≡ cond (isTall (lent log r) h) (store out (k + 1) (lent log r)) out
         → Copied o (r + 1) k′ out′
     copied-more k′ out′ g l d e =
-        let s : length (slot log (suc r)) ≡ 512 = rw (lent-slot log r) at (lent-size log r l) in
+        let s : length (slot log (suc r)) ≡ frameSize = rw (lent-slot log r) at (lent-size log r l) in
         rw add-one (by s (isTall (slot log (suc r)) h) refl (rw (lent-slot log r) at d) (rw (lent-slot log r) at e))
       where
-        by : length (slot log (suc r)) ≡ 512 → (b : Bool) → isTall (slot log (suc r)) h ≡ b → k′ ≡ cond b (k + 1) k
+        by : length (slot log (suc r)) ≡ frameSize → (b : Bool) → isTall (slot log (suc r)) h ≡ b → k′ ≡ cond b (k + 1) k
             → out′ ≡ cond b (store out (k + 1) (slot log (suc r))) out → Copied o (suc r) k′ out′
         by s true t p q = rw (p, q) (copied-one t g s)
         by s false t p q = rw (p, q) (copied-over t)
 
     -- all are copied, or all that fit
-    pub copied-all : (t : ℕ) → t ≡ r → (k ≡ min (length (upTo t)) (length o / 512)) × (out ≡ flatten (take k (upTo t)) ++ drop (512 * k) o)
+    pub copied-all : (t : ℕ) → t ≡ r → (k ≡ min (length (upTo t)) (length o / frameSize)) × (out ≡ flatten (take k (upTo t)) ++ drop (frameSize * k) o)
     copied-all t e =
         let z : length (upTo r) ≡ k = sym (c .count) in
         rw e (omega (arith, c .fits), rw (take-all k (upTo r) (omega arith)) (c .bytes))
 
-    pub copied-full : (t : ℕ) → r ≤ t → length o / 512 ≤ k
-        → (k ≡ min (length (upTo t)) (length o / 512)) × (out ≡ flatten (take k (upTo t)) ++ drop (512 * k) o)
+    pub copied-full : (t : ℕ) → r ≤ t → length o / frameSize ≤ k
+        → (k ≡ min (length (upTo t)) (length o / frameSize)) × (out ≡ flatten (take k (upTo t)) ++ drop (frameSize * k) o)
     copied-full t g f =
         let e : r + (t - r) ≡ t = omega arith in
         let p : (length (upTo r) ≤ length (upTo t)) × (take (length (upTo r)) (upTo t) ≡ upTo r) = rw e at (up-first r (t - r)) in

@@ -8,6 +8,7 @@ use native.Mathlib.Omega.{arith}
 use lib.Dec.{leb, ltb}
 use lib.ListN.{take, drop}
 use borrow.Author.Tests.{eq-eqb, ne-eqb}
+use Rattle.apollo.specs.Size.{frameSize}
 use Rattle.apollo.specs.Frame.{kind, height, entryLength}
 use Rattle.apollo.specs.Log.{slot}
 use Rattle.apollo.specs.Read.{readable, lowest}
@@ -40,10 +41,10 @@ module _ (x : List ℕ) (h k : ℕ) (d : k ≡ kind x) where
     judged l p q = rw (← d, eq-eqb k 1 o, ← f, eq-eqb y h p, q)
 
 -- the slot above lo as the code lends it
-pub readable-slot : (log : List ℕ) (h lo : ℕ) (b : Bool) → b ≡ readable (take (512 * lo + 512 - 512 * lo) (drop (512 * lo) log)) h
+pub readable-slot : (log : List ℕ) (h lo : ℕ) (b : Bool) → b ≡ readable (take (frameSize * lo + frameSize - frameSize * lo) (drop (frameSize * lo) log)) h
     → b ≡ readable (slot log (lo + 1)) h
 unfolding slot
-readable-slot log h lo b e = rw add-one (rw (frame-part log (512 * lo)) at e)
+readable-slot log h lo b e = rw add-one (rw (frame-part log (frameSize * lo)) at e)
 
 -- lowest, from slot lo + 1 upwards to c
 lowest-more : (log : List ℕ) (h lo c : ℕ) → lo < c

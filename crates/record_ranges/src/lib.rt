@@ -1,5 +1,6 @@
 // The tests of a record, for any numbers in it: the ranges of the fields and of what is lent beside them.
 use apollo::Replica;
+use apollo::size::FRAME;
 ghost use mathlib.Core.Path.{_≡_};
 ghost use Rattle.apollo.specs.Replica.{validOwn, validRounds, validMarks, validRecord, validLog, validMasks};
 
@@ -16,7 +17,7 @@ pub fn valid_own(r: Replica) -> bool
 pub fn valid_log(r: Replica, log: &[u8]) -> bool
     ensures { λ b. ⌜ b ≡ validLog r (now (log .entry)) ⌝ }
 {
-    let size = 512 * (r.last_round.0 as usize);
+    let size = FRAME * (r.last_round.0 as usize);
     log.len() == size
 }
 

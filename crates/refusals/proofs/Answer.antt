@@ -8,6 +8,7 @@ use lib.ListN.{length}
 use native.Mathlib.Omega.{arith}
 use borrow.Author.Tests.{not-false}
 use Rattle.sha256.specs.Fips.{sha256}
+use Rattle.apollo.specs.Size.{frameSize}
 use Rattle.apollo.specs.declared.Replica.{Replica}
 use Rattle.apollo.specs.Rotation.{isRotation}
 use Rattle.apollo.specs.Setup.{setupOf, replicas, validRotation}
@@ -78,7 +79,7 @@ module _ (id f timeout last : ℕ) (rotation log masks entry out : List ℕ) whe
   closed = record { replica = zeroReplica; log = log; masks = masks }
 
   abbrev pub new : State
-  new = record { replica = fresh id f timeout last rotation; log = zeros (512 * last); masks = zeros last }
+  new = record { replica = fresh id f timeout last rotation; log = zeros (frameSize * last); masks = zeros last }
 
   abbrev r : Replica
   r = fresh id f timeout last rotation

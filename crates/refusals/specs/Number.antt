@@ -3,6 +3,7 @@ use mathlib.Core.List.{List}
 use mathlib.Core.Bool.{Bool, _&&_, not, cond}
 use Prim.Native.Nat.{ℕ, _+_}
 use lib.Dec.{eqb, ltb}
+use Rattle.apollo.specs.Size.{entryMost, outLeast}
 use Rattle.apollo.specs.declared.Replica.{Replica}
 use Rattle.apollo.specs.Setup.{setupOf, replicas, validRotation}
 use Rattle.apollo.specs.Replica.{validRecord, validLog, validMasks, validOpening}
@@ -10,7 +11,7 @@ use Rattle.apollo.specs.Refusal.{badSetup, badRotation, badReplica, roundsOver,
 
 -- 4 and 5
 unfoldable pub roomNumber : (entry out : ℕ) → ℕ
-roomNumber entry out = cond (ltb out 1024) outTooShort (cond (ltb 400 entry) entryTooLong 0)
+roomNumber entry out = cond (ltb out outLeast) outTooShort (cond (ltb entryMost entry) entryTooLong 0)
 
 -- 1, 17, 4 and 5 of open; the record has the rotation, padded, and `size` is its length
 unfoldable pub openNumber : Replica → (size : ℕ) (log masks : List ℕ) (entry out : ℕ) → ℕ

@@ -3,6 +3,8 @@
 // whether the record, by itself, is valid.
 use apollo::Replica;
 use apollo::Verdict;
+use apollo::size::ENTRY;
+use apollo::size::OUT;
 use branch::Judged;
 ghost use mathlib.Core.Path.{_≡_};
 ghost use Prim.Native.Nat.{_≤_};
@@ -14,10 +16,10 @@ ghost use Rattle.refusals.specs.Branch.{guardedBranch};
 fn judge_room(entry: usize, out: usize) -> u8
     ensures { λ n. ⌜ n ≡ roomNumber entry out ⌝ }
 {
-    if out < 1024 {
+    if out < OUT {
         return apollo::refusal::OUT_TOO_SHORT;
     }
-    if 400 < entry {
+    if ENTRY < entry {
         return apollo::refusal::ENTRY_TOO_LONG;
     }
     0

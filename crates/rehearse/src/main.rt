@@ -1,6 +1,9 @@
 // Three replicas in one program, driven by standard input: f = 1, T = 6, timeout 2, the old turn, entries empty. `t i` is a tick at
 // replica i, `d i` hands replica i the oldest frame of its queue. Each prints the replica, the answer's number, R, the tip's
 // round and the committed round. A line that is neither is told on standard error and passed over.
+use apollo::size::FRAME;
+use apollo::size::OUT;
+
 mod input;
 mod print;
 
@@ -38,8 +41,8 @@ struct Table {
 // Frame x goes into slot r, where there is such a slot and x is a whole frame.
 fn put(log: &mut [u8], r: u32, x: &[u8]) {
     if 0 < r {
-        if 512 * (r as usize) <= log.len() {
-            if x.len() == 512 {
+        if FRAME * (r as usize) <= log.len() {
+            if x.len() == FRAME {
                 log::store(log, r, x);
             }
         }
@@ -48,19 +51,19 @@ fn put(log: &mut [u8], r: u32, x: &[u8]) {
 
 // The frames emitted in a call are put behind those sent. There is room for all: a replica emits at most a
 // blame and a block for each of the 6 rounds, which makes 36 frames. What is put past the count is never read.
-fn send(t: Table, out: &[u8; 1024], sent: &mut [u8; 18432]) {
+fn send(t: Table, out: &[u8; OUT], sent: &mut [u8; 18432]) {
     let k = std::num::wrapping_add_u32(t.sent, 1);
-    put(sent, k, slices::part(out, 0, 512));
+    put(sent, k, slices::part(out, 0, FRAME));
     put(
         sent,
         std::num::wrapping_add_u32(k, 1),
-        slices::part(out, 512, 512),
+        slices::part(out, FRAME, FRAME),
     );
 }
 
 // Frame k of those sent, the first for 0.
 fn sent_frame<'a>(sent: &'a [u8], k: u32) -> &'a [u8] {
-    slices::part(sent, 512 * (apollo::previous(k) as usize), 512)
+    slices::part(sent, FRAME * (apollo::previous(k) as usize), FRAME)
 }
 
 // The first frame after frame k that another replica than i sent, 0 if there is none.
@@ -161,7 +164,7 @@ fn answer(
     log: &mut [u8; 3072],
     masks: &mut [u16; 6],
     entry: &[u8],
-    out: &mut [u8; 1024],
+    out: &mut [u8; OUT],
 ) -> Answer {
     let timeout = Ticks(2);
     let last = Round(6);
@@ -181,7 +184,7 @@ fn act(t: Table, c: Step, logs: &mut Logs, masks: &mut Masks, sent: &mut [u8; 18
         return t;
     }
     let r = replica_at(t, i);
-    let mut out = [0u8; 1024];
+    let mut out = [0u8; OUT];
     let x = answer(
         c.letter,
         i as u8,

@@ -8,6 +8,7 @@ use lib.Dec.{eqb}
 use lib.ListN.{drop}
 use borrow.Author.Tests.{eq-eqb, ne-eqb, le-leb, lt-leb, leb-true, eqb-true}
 use Rattle.sha256.specs.Fips.{sha256}
+use Rattle.apollo.specs.Size.{frameSize}
 use Rattle.apollo.specs.declared.Replica.{Replica}
 use Rattle.apollo.specs.declared.Answer.{Answer}
 use Rattle.apollo.specs.declared.Setup.{Setup}
@@ -58,7 +59,7 @@ entered-steps r q p log frames a eq ep ea = rw (ep, eq) at ea
 module _ (r : Replica) (log entry out masks : List ℕ) where
   -- the own round, and another's
   module _ (out′ log′ : List ℕ) (q : Replica)
-      (p : (out′ ≡ ownBlock sha256 entry (state r log masks) ++ drop 512 out) × (state q log′ masks ≡ proposing sha256 entry (state r log masks))) where
+      (p : (out′ ≡ ownBlock sha256 entry (state r log masks) ++ drop frameSize out) × (state q log′ masks ≡ proposing sha256 entry (state r log masks))) where
     pub entered-own : (a : Answer) (b : Bool) → b ≡ leads r → b ≡ true → a ≡ told (commit (withTimer q (q .timeout .0)) log′) 1
         → outcome a log′ masks out′ ≡ taken (enterRound sha256 entry (state r log masks)) out
     unfolding enterRound entered taken flatten

@@ -10,6 +10,7 @@ use lib.ListN.{length}
 use lib.Dec.{eqb}
 use borrow.Author.Tests.{eqb-true, eqb-false, eq-eqb, leb-true, ltb-true}
 use Rattle.sha256.specs.Fips.{sha256}
+use Rattle.apollo.specs.Size.{frameSize}
 use Rattle.apollo.specs.declared.Setup.{Setup}
 use Rattle.apollo.specs.declared.Verdict.{Verdict}
 use Rattle.apollo.specs.Setup.{leader}
@@ -138,7 +139,7 @@ module _ (s : Setup) where
         by-cond (λ v. v ≡ 0 → (gap s masks lo (round x - lo - 1) ≡ 0) × (firstUncertified s masks (round x) xs ≡ 0))
         (eqb (gap s masks lo (round x - lo - 1)) 0) (λ g v. (eqb-true _ _ g, v)) (λ g v. absurd (eqb-false _ _ g v)) e
 
-    store-first : (log : List ℕ) (a h : ℕ) (x : List ℕ) → Stored s past masks log a h → Block x → Seen x past → length x ≡ 512
+    store-first : (log : List ℕ) (a h : ℕ) (x : List ℕ) → Stored s past masks log a h → Block x → Seen x past → length x ≡ frameSize
         → Joins (slot log a) x → a < round x → gap s masks a (round x - a - 1) ≡ 0
         → Stored s past masks (store log (round x) x) (round x) (height x)
     store-first log a h x st b k l j up g =

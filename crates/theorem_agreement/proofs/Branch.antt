@@ -9,6 +9,7 @@ use lib.ListN.{length, take}
 use lib.Dec.{eqb, ltb}
 use borrow.Author.Tests.{eqb-true, ltb-false}
 use Rattle.sha256.specs.Fips.{sha256}
+use Rattle.apollo.specs.Size.{frameSize}
 use Rattle.apollo.specs.declared.Setup.{Setup}
 use Rattle.apollo.specs.Setup.{setupOf}
 use Rattle.apollo.specs.Bytes.{same}
@@ -41,14 +42,14 @@ module _ (s : Setup) (past : List Event) (i : ℕ) (entry : List ℕ)
     abbrev New : ℕ → Type 0
     New a = Stored s past (c .masks) (grown (c .log) a (x ∷ xs)) (round (lastOf x xs)) (height (lastOf x xs))
 
-    adopted : (out : List ℕ) (a : ℕ) → New a → take (512 * done) (grown (c .log) a (x ∷ xs)) ≡ take (512 * done) (c .log)
+    adopted : (out : List ℕ) (a : ℕ) → New a → take (frameSize * done) (grown (c .log) a (x ∷ xs)) ≡ take (frameSize * done) (c .log)
         → Fine s past i c (taken (adopting sha256 entry c a x xs) out)
     unfolding adopting
     adopted out a new keep =
         let log : List ℕ = grown (c .log) a (x ∷ xs) in
         let t : ℕ = round (lastOf x xs) in
         let h : ℕ = height (lastOf x xs) in
-        let fit : 512 * done ≤ 512 * s .«last_round» .0 =
+        let fit : frameSize * done ≤ frameSize * s .«last_round» .0 =
         omega (arith, committed-tip s past i c (st .good) (rests .renewed), st .good .stored .chain .low) in
         let slots = slots-take log (c .log) done (omega (arith, new .size)) (omega (arith, st .good .stored .size)) keep in
         taken-fine s past i c _ out
@@ -61,7 +62,7 @@ module _ (s : Setup) (past : List Event) (i : ℕ) (entry : List ℕ)
     placed-fine out none e = refused-plain s past i c st rests out 11 0 refl refl
     placed-fine out (some a) e =
         by-cond (Fine s past i c) (eqb (firstUncertified (setupOf (c .replica)) (c .masks) a (x ∷ xs)) 0)
-        (λ u. by-cond (Fine s past i c) (same (take (512 * done) (grown (c .log) a (x ∷ xs))) (take (512 * done) (c .log)))
+        (λ u. by-cond (Fine s past i c) (same (take (frameSize * done) (grown (c .log) a (x ∷ xs))) (take (frameSize * done) (c .log)))
         (λ k. adopted out a (new (eqb-true _ _ u)) (same-true _ _ k))
         (λ k. refused-fine s past i c st rests out 12 0 (λ z. omega (arith, z))
         (λ _. record {
@@ -104,5 +105,5 @@ module _ (s : Setup) (past : List Event) (i : ℕ) (entry : List ℕ)
   branch-fine bytes out known =
       guarded-fine s past i c st rests entry out _
       (λ low fits. by-cond (Fine s past i c) (wholeFrames (c .replica .«last_round» .0) bytes)
-      (λ e. branched-fine out (framesOf bytes) fits (known e) (frames-whole (length bytes / 512) bytes (omega arith)))
+      (λ e. branched-fine out (framesOf bytes) fits (known e) (frames-whole (length bytes / frameSize) bytes (omega arith)))
       (λ _. refused-plain s past i c st rests out 6 0 refl refl))

@@ -9,6 +9,7 @@ use lib.ListN.{length, take, drop}
 use lib.Dec.{eqb, ltb}
 use borrow.Author.Tests.{eqb-false}
 use Rattle.sha256.specs.Fips.{sha256}
+use Rattle.apollo.specs.Size.{frameSize}
 use Rattle.apollo.specs.declared.Marked.{Marked}
 use Rattle.apollo.specs.Setup.{setupOf}
 use Rattle.apollo.specs.Bytes.{same}
@@ -50,7 +51,7 @@ module _ (P : Type 0) (c : State) (entry out : List ℕ) where
   unfolding placed taken
   placed-6 x xs none = other 11 0 refl
   placed-6 x xs (some a) =
-      let n : ℕ = 512 * c .replica .«committed_round» .0 in
+      let n : ℕ = frameSize * c .replica .«committed_round» .0 in
       by-cond (If6 P) (eqb (firstUncertified (setupOf (c .replica)) (c .masks) a (x ∷ xs)) 0)
       (λ _. by-cond (If6 P) (same (take n (grown (c .log) a (x ∷ xs))) (take n (c .log))) (λ _ z. absurd (omega (arith, z)))
       (λ _. other 12 0 refl))
@@ -80,7 +81,7 @@ some-frame : (P : List (List ℕ) → Type 0) → ((x : List ℕ) (xs : List (Li
     → P (frames n bytes)
 unfolding frames
 some-frame P h zero bytes l = absurd (omega arith)
-some-frame P h (suc n) bytes l = h (take 512 bytes) (frames n (drop 512 bytes))
+some-frame P h (suc n) bytes l = h (take frameSize bytes) (frames n (drop frameSize bytes))
 
 -- a call that judges the frames of a buffer of 1 to `most` whole frames, and does not answer 6 to them
 module _ (c : State) (bytes entry out : List ℕ) (most : ℕ) where

@@ -9,6 +9,7 @@ use lib.ListN.{length}
 use lib.Dec.{eqb, leb}
 use borrow.Author.Tests.{eqb-true, eq-eqb, leb-true}
 use Rattle.sha256.specs.Fips.{sha256}
+use Rattle.apollo.specs.Size.{frameSize}
 use Rattle.apollo.specs.declared.Setup.{Setup}
 use Rattle.apollo.specs.Setup.{setupOf, leader}
 use Rattle.apollo.specs.Frame.{kind, signer, round, height, parent, digest}
@@ -163,7 +164,7 @@ module _ (s : Setup) (entry : List ℕ) (fits : length entry ≤ 400) where
     unfolding ownBlock
     z-parent = block-parent _ _ _ _ _ up-length fits
 
-    z-length : length z ≡ 512
+    z-length : length z ≡ frameSize
     unfolding ownBlock
     z-length = block-length _ _ _ _ _ up-length fits
 

@@ -9,6 +9,7 @@ use lib.ListN.{length}
 use lib.Dec.{eqb}
 use borrow.Author.Tests.{eqb-true, not-true}
 use Rattle.sha256.specs.Fips.{sha256}
+use Rattle.apollo.specs.Size.{frameSize}
 use Rattle.apollo.specs.declared.Setup.{Setup}
 use Rattle.apollo.specs.declared.Marked.{Marked}
 use Rattle.apollo.specs.Bytes.{same}
@@ -92,7 +93,7 @@ module _ (s : Setup) (past : List Event) (i : ℕ) (c : State) (st : Standing s 
       whole-two : isPair bytes ≡ true → Whole (firstFrame bytes ∷ second bytes ∷ [])
       whole-two e =
           let n : length bytes ≡ 1024 = eqb-true _ _ e in
-          subst Whole (pair-frames bytes n) (frames-whole (length bytes / 512) bytes (omega arith))
+          subst Whole (pair-frames bytes n) (frames-whole (length bytes / frameSize) bytes (omega arith))
 
       go : (m : Marked) → Case sha256 (c .replica) bytes m → FineBy m
       go m (invalid-record v) = absurd (clash (valid-own s past i c (st .good) rests) v)

@@ -4,13 +4,14 @@ use mathlib.Core.Path.{_≡_, refl}
 use mathlib.Core.List.{List, [], _∷_, _++_, append-assoc, flatten}
 use lib.ListN.{length, take, drop, length-take, length-drop}
 use lib.Seq.{drop-at, take-at}
+use Rattle.apollo.specs.Size.{frameSize}
 use Rattle.apollo.specs.Bytes.{number4, zeros}
 use Rattle.apollo.specs.Frame.{round, height, digest, frames}
 use Rattle.apollo.specs.Log.{genesis}
 pub use Rattle.apollo.proofs.Slots.{slot-length}
 pub use Rattle.apollo.proofs.Frames.{Whole, frames-whole}
 
-pub digest-width : (x : List ℕ) → length x ≡ 512 → length (digest x) ≡ 32
+pub digest-width : (x : List ℕ) → length x ≡ frameSize → length (digest x) ≡ 32
 digest-width x e = simp (length-take, length-drop, e) refl
 
 pub height-genesis : height genesis ≡ 0
@@ -26,7 +27,7 @@ unfolding frames flatten
 frames-flatten [] rest w = refl
 frames-flatten (x ∷ xs) rest w =
     let a : x ++ flatten xs ++ rest ≡ x ++ (flatten xs ++ rest) = append-assoc x (flatten xs) rest in
-    let t : take 512 (x ++ flatten xs ++ rest) ≡ x = rw a (take-at x _ 512 (w .0)) in
-    let d : drop 512 (x ++ flatten xs ++ rest) ≡ flatten xs ++ rest = rw a (drop-at x _ 512 (w .0)) in
+    let t : take frameSize (x ++ flatten xs ++ rest) ≡ x = rw a (take-at x _ frameSize (w .0)) in
+    let d : drop frameSize (x ++ flatten xs ++ rest) ≡ flatten xs ++ rest = rw a (drop-at x _ frameSize (w .0)) in
     let i : frames (length xs) (flatten xs ++ rest) ≡ xs = frames-flatten xs rest (w .1) in
     rw (t, d, i)

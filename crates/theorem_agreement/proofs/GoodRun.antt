@@ -10,6 +10,7 @@ use native.Mathlib.Omega.{arith}
 use lib.ListN.{length, length-append}
 use lib.Dec.{leb, ltb}
 use borrow.Author.Tests.{leb-true, leb-false, lt-ltb}
+use Rattle.apollo.specs.Size.{frameSize}
 use Rattle.apollo.specs.declared.Setup.{Setup}
 use Rattle.apollo.specs.Frame.{round, linked}
 use Rattle.apollo.specs.Log.{genesis, slot, filled, store, chain}
@@ -45,7 +46,7 @@ in-front z (x ∷ xs) zs (inr p) = inr (in-front z xs zs p)
 module _ (s : Setup) where
   -- the slots up to p's round are kept where a run on p is stored
   pub stored-low : (xs : List (List ℕ)) (log p : List ℕ) → blocks s (some p) xs ≡ true → (q : ℕ) → q ≤ round p
-      → length log ≡ 512 * s .«last_round» .0 → slot (storeAll log xs) q ≡ slot log q
+      → length log ≡ frameSize * s .«last_round» .0 → slot (storeAll log xs) q ≡ slot log q
   unfolding storeAll
   stored-low [] log p f q l size = refl
   stored-low (x ∷ xs) log p f q l size =
@@ -53,8 +54,8 @@ module _ (s : Setup) where
       let t = block-parts s x (u .0) in
       let b : Block s x = formed s x (t .0) (t .1) in
       let up : round p < round x = child-parts p x (u .1) .1 in
-      let wide : length x ≡ 512 = block-length s x (u .0) in
-      let fit : 512 * round x ≤ length log = omega (arith, b .highest) in
+      let wide : length x ≡ frameSize = block-length s x (u .0) in
+      let fit : frameSize * round x ≤ length log = omega (arith, b .highest) in
       stored-low xs (store log (round x) x) x (u .2) q (omega arith) (length-store log (round x) x (b .lowest) fit wide ∙ size)
       ∙ store-other log (round x) x q (b .lowest) fit wide (λ e. omega arith)
 

@@ -10,6 +10,7 @@ use lib.Dec.{leb, ltb, eqb}
 use lib.Pow.{pow-pos}
 use borrow.Author.Tests.{lt-leb, leb-true, leb-false, ltb-false, eqb-false, not-false}
 use Rattle.sha256.specs.Fips.{sha256}
+use Rattle.apollo.specs.Size.{frameSize}
 use Rattle.apollo.specs.declared.Setup.{Setup}
 use Rattle.apollo.specs.Bytes.{zeros}
 use Rattle.apollo.specs.Rotation.{isRotation, padded}
@@ -41,15 +42,15 @@ mask-zero n q = go (leb n (q - 1)) refl
     go true e = List·getD-eq-default (replicate n 0) 0 (omega (arith, length-replicate {A = ℕ} n 0, leb-true n (q - 1) e))
     go false e = getD-replicate n (q - 1) 0 0 (leb-false _ _ e)
 
-slot-zero : (T q : ℕ) → q ≤ T → slot (zeros (512 * T)) q ≡ genesis
+slot-zero : (T q : ℕ) → q ≤ T → slot (zeros (frameSize * T)) q ≡ genesis
 unfolding slot genesis
 slot-zero T zero l = refl
-slot-zero T (suc k) l = part-zeros (512 * T) (512 * k) 512 (omega arith)
+slot-zero T (suc k) l = part-zeros (frameSize * T) (frameSize * k) frameSize (omega arith)
 
 module _ (s : Setup) (past : List Event) (i : ℕ) where
   module _ (id f timeout last : ℕ) (rotation : List ℕ) (fixed : Fixed s i id f timeout last (padded rotation)) where
     abbrev log : List ℕ
-    log = zeros (512 * last)
+    log = zeros (frameSize * last)
 
     unfilled : (q : ℕ) → filled (slot log q) ≡ false
     unfilled q = go (leb q last) refl
@@ -88,7 +89,7 @@ module _ (s : Setup) (past : List Event) (i : ℕ) where
               record {
                 chain = first-chain;
                 level-is = height-zero;
-                size = length-zeros (512 * last) ∙ ap (λ k. 512 * k) (fixed .last-is);
+                size = length-zeros (frameSize * last) ∙ ap (λ k. frameSize * k) (fixed .last-is);
               };
           tip-below = omega arith;
           reach = omega arith;
@@ -152,7 +153,7 @@ module _ (s : Setup) (past : List Event) (i : ℕ) where
 
   module _ (id f timeout last : ℕ) (rotation log masks entry out : List ℕ) where
     abbrev new : State
-    new = record { replica = fresh id f timeout last rotation; log = zeros (512 * last); masks = zeros last }
+    new = record { replica = fresh id f timeout last rotation; log = zeros (frameSize * last); masks = zeros last }
 
     made : (validOpening (new .replica) log && validMasks (new .replica) masks) ≡ true → isRotation (2 * f + 1) rotation ≡ true
         → length entry ≤ 400 → OpenFine id f last rotation (taken (enterRound sha256 entry new) out)

@@ -8,6 +8,7 @@ use native.Mathlib.Omega.{arith}
 use lib.ListN.{length, take, drop}
 use lib.Dec.{eqb, ltb}
 use borrow.Author.Tests.{eqb-false, ltb-false, not-true}
+use Rattle.apollo.specs.Size.{frameSize}
 use Rattle.apollo.specs.declared.Setup.{Setup}
 use Rattle.apollo.specs.Frame.{frames}
 use Rattle.apollo.specs.Replica.{validReplica, validMasks}
@@ -30,7 +31,7 @@ module _ (s : Setup) where
     pub stored : Stored s past (c .masks) log tip level
     pub beyond : c .replica .round .0 ≤ tip
     pub renewed : Renewed (c .replica) (c .log)
-    pub differs : take (512 * c .replica .«committed_round» .0) log ≢ take (512 * c .replica .«committed_round» .0) (c .log)
+    pub differs : take (frameSize * c .replica .«committed_round» .0) log ≢ take (frameSize * c .replica .«committed_round» .0) (c .log)
 
   -- replica i's call leaves state c as the outcome says
   pub record Fine (past : List Event) (i : ℕ) (c : State) (o : Outcome) : Type 0 where
@@ -44,7 +45,7 @@ module _ (s : Setup) where
     pub taken-fine : (e : Effect) (out : List ℕ) → Kept s past i c e → Fine past i c (taken e out)
     unfolding taken emittedBy
     taken-fine e out k =
-        let q : frames (length (e .emitted)) (flatten (e .emitted) ++ drop (512 * length (e .emitted)) out) ≡ e .emitted =
+        let q : frames (length (e .emitted)) (flatten (e .emitted) ++ drop (frameSize * length (e .emitted)) out) ≡ e .emitted =
         frames-flatten (e .emitted) _ (k .whole) in
         record {
           standing = subst (λ xs. Standing s (emit i xs past) i (e .state)) (sym q) (k .standing);

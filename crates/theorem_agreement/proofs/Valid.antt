@@ -5,6 +5,7 @@ use mathlib.Core.List.{List}
 use mathlib.Core.Bool.{true, _&&_}
 use native.Mathlib.Omega.{arith}
 use borrow.Author.Tests.{eq-eqb}
+use Rattle.apollo.specs.Size.{frameSize}
 use Rattle.apollo.specs.declared.Setup.{Setup}
 use Rattle.apollo.specs.Setup.{validRotation}
 use Rattle.apollo.specs.Log.{slot}
@@ -48,7 +49,7 @@ module _ (s : Setup) (past : List Event) (i : ℕ) (c : State) (g : Good s past 
         timeout-most = g .fixed .timeout-top;
         last-least = g .fixed .last-one;
         last-most = g .fixed .last-top;
-        size = g .stored .size ∙ ap (λ k. 512 * k) (sym (g .fixed .last-is));
+        size = g .stored .size ∙ ap (λ k. frameSize * k) (sym (g .fixed .last-is));
       }
 
   valid-record : Valid (c .replica) (c .log)

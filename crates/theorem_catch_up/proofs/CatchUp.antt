@@ -10,6 +10,7 @@ use lib.ListN.{length, take}
 use lib.Dec.{eqb, leb, ltb}
 use borrow.Author.Tests.{eqb-true, eqb-false, eq-eqb, ltb-true, ltb-false, leb-true, leb-false}
 use Rattle.sha256.specs.Fips.{sha256}
+use Rattle.apollo.specs.Size.{frameSize}
 use Rattle.apollo.specs.declared.Setup.{Setup}
 use Rattle.apollo.specs.Setup.{setupOf}
 use Rattle.apollo.specs.Bytes.{same}
@@ -52,7 +53,7 @@ pub record Extending (c : State) (k : ℕ) (x : List ℕ) (ys : List (List ℕ))
   pub attached : attach (c .log) x (round x - 1) ≡ some k
   pub keeps :
       lacking c k x ys ≡ 0
-      → take (512 * c .replica .«committed_round» .0) (grown (c .log) k (x ∷ ys)) ≡ take (512 * c .replica .«committed_round» .0) (c .log)
+      → take (frameSize * c .replica .«committed_round» .0) (grown (c .log) k (x ∷ ys)) ≡ take (frameSize * c .replica .«committed_round» .0) (c .log)
 
 -- the answer to a branch of good frames, where it attaches so unless it is stale
 module _ (c : State) (entry out : List ℕ) (fits : length entry ≤ 400) (room : 1024 ≤ length out)
@@ -192,7 +193,7 @@ module _ (s : Setup) (past : List Event) (i j : ℕ) (c d : State) (gc : Good s 
         → slot (grown (c .log) k (x ∷ ys)) q ≡ slot (c .log) q
     unfolding grown
     kept above q o u =
-        let fit : 512 * k ≤ length (c .log) = omega (arith, low, gc .stored .size) in
+        let fit : frameSize * k ≤ length (c .log) = omega (arith, low, gc .stored .size) in
         stored-low s (x ∷ ys) (clearAbove (c .log) k) (slot (d .log) k) run-on q (omega (arith, round-d))
         (length-clear (c .log) k fit ∙ gc .stored .size)
         ∙ clear-low (c .log) k q fit (omega arith)
@@ -215,7 +216,7 @@ module _ (s : Setup) (past : List Event) (i j : ℕ) (c d : State) (gc : Good s 
           grown-stored s past (c .masks) (c .log) _ _ k x ys (gc .stored) attached (r .0) (r .1) (λ z p _. run-seen s past j d gd h x ys zs m z p)
           (blocks-whole s (some (slot (d .log) k)) (x ∷ ys) run-on) (sym (own k (x ∷ ys)) ∙ u)
 
-      keeps-all : lacking c k x ys ≡ 0 → take (512 * c .replica .«committed_round» .0) new ≡ take (512 * c .replica .«committed_round» .0) (c .log)
+      keeps-all : lacking c k x ys ≡ 0 → take (frameSize * c .replica .«committed_round» .0) new ≡ take (frameSize * c .replica .«committed_round» .0) (c .log)
       keeps-all u =
           ⊎-elim (same-true _ _)
           (λ e. absurd (no-revert s correct past sound i c gc
@@ -228,7 +229,7 @@ module _ (s : Setup) (past : List Event) (i j : ℕ) (c d : State) (gc : Good s 
             renewed = rc .renewed;
             differs = λ z. clash (same-of z) e;
           })))
-          (either (same (take (512 * c .replica .«committed_round» .0) new) (take (512 * c .replica .«committed_round» .0) (c .log))))
+          (either (same (take (frameSize * c .replica .«committed_round» .0) new) (take (frameSize * c .replica .«committed_round» .0) (c .log))))
 
       pub extending-late : Extending c k x ys
       extending-late = record { attached = attached; keeps = keeps-all }

@@ -9,6 +9,7 @@ use native.Mathlib.Omega.{arith}
 use lib.ListN.{length, take, drop, length-append, length-take, take-append-drop}
 use lib.Seq.{take-at}
 use lib.Dec.{eqb, ltb}
+use Rattle.apollo.specs.Size.{frameSize}
 use Rattle.apollo.specs.Frame.{height, frames}
 use Rattle.apollo.specs.Log.{slot, chain}
 use Rattle.apollo.specs.Replica.{validReplica}
@@ -44,7 +45,7 @@ pub grows-on : GrowsOn
 grows-on d e b h = (above h (b .0), ap (above h) (b .1) ∙ above-append h (chain (d .log) (d .replica .«last_round» .0)) (b .0))
 
 -- frames of 512 bytes each, end to end
-flatten-length : (xs : List (List ℕ)) → Whole xs → length (flatten xs) ≡ 512 * length xs
+flatten-length : (xs : List (List ℕ)) → Whole xs → length (flatten xs) ≡ frameSize * length xs
 unfolding flatten
 flatten-length [] w = refl
 flatten-length (x ∷ xs) w = length-append x (flatten xs) ∙ omega (arith, w .0, flatten-length xs (w .1))
@@ -62,8 +63,8 @@ module _ (n : ℕ) (xs : List (List ℕ)) (rest : List ℕ) (w : Whole xs) (l : 
   wrote : frames n (flatten (take n xs) ++ rest) ≡ take n xs
   wrote = ap (λ k. frames k (flatten (take n xs) ++ rest)) (sym size) ∙ frames-flatten (take n xs) rest (whole-take n xs w)
 
-  bytes : take (512 * n) (flatten (take n xs) ++ rest) ≡ flatten (take n xs)
-  bytes = take-at (flatten (take n xs)) rest (512 * n) (flatten-length (take n xs) (whole-take n xs w) ∙ ap (λ k. 512 * k) size)
+  bytes : take (frameSize * n) (flatten (take n xs) ++ rest) ≡ flatten (take n xs)
+  bytes = take-at (flatten (take n xs)) rest (frameSize * n) (flatten-length (take n xs) (whole-take n xs w) ∙ ap (λ k. frameSize * k) size)
 
 pub one-fetch : OneFetch
 unfolding fetchCall frames
@@ -83,15 +84,15 @@ one-fetch s correct calls p i j c d ec ed tray o e x ys m entry out fits room = 
         (above-run s (run start calls .past) j d g (c .replica .«committed_height» .0))
 
     Answered : FetchOutcome → Type 0
-    Answered u = frames (u .answer .count) (u .out) ≡ x ∷ ys → verdictOf (branchCall c (take (512 * u .answer .count) (u .out)) entry out) ≡ received c (c .replica .«committed_round» .0) x ys
+    Answered u = frames (u .answer .count) (u .out) ≡ x ∷ ys → verdictOf (branchCall c (take (frameSize * u .answer .count) (u .out)) entry out) ≡ received c (c .replica .«committed_round» .0) x ys
 
     none : (k : ℕ) → Answered (record { answer = record { number = k; count = 0 }; out = tray })
     none k v = let z : _≡_ {A = ℕ} 0 1 = cc in absurd (omega arith)
 
-    copied : Answered (record { answer = record { number = 0; count = n }; out = flatten (take n xs) ++ drop (512 * n) tray })
+    copied : Answered (record { answer = record { number = 0; count = n }; out = flatten (take n xs) ++ drop (frameSize * n) tray })
     copied v =
-        let t : take n xs ≡ x ∷ ys = sym (wrote n xs (drop (512 * n) tray) whole (omega arith)) ∙ v in
-        let b : take (512 * n) (flatten (take n xs) ++ drop (512 * n) tray) ≡ flatten (x ∷ ys) = bytes n xs (drop (512 * n) tray) whole (omega arith) ∙ ap flatten t in
+        let t : take n xs ≡ x ∷ ys = sym (wrote n xs (drop (frameSize * n) tray) whole (omega arith)) ∙ v in
+        let b : take (frameSize * n) (flatten (take n xs) ++ drop (frameSize * n) tray) ≡ flatten (x ∷ ys) = bytes n xs (drop (frameSize * n) tray) whole (omega arith) ∙ ap flatten t in
         ap (λ u. verdictOf (branchCall c u entry out)) b
         ∙ catch-up s correct calls p i j c d ec ed x ys (drop n xs) (sym (take-append-drop n xs) ∙ ap (λ us. us ++ drop n xs) t) entry out fits room
 

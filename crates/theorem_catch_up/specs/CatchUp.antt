@@ -8,6 +8,7 @@ use mathlib.Core.List.{List, [], _∷_, _++_, flatten}
 use mathlib.Core.Bool.{true, cond}
 use lib.ListN.{length, take}
 use lib.Dec.{eqb, ltb}
+use Rattle.apollo.specs.Size.{entryMost, frameSize, outLeast, pairSize}
 use Rattle.apollo.specs.declared.Verdict.{Verdict}
 use Rattle.apollo.specs.Setup.{setupOf}
 use Rattle.apollo.specs.Frame.{round, height, frames}
@@ -62,7 +63,7 @@ beneath q (x ∷ xs) = cond (ltb (round x) q) (x ∷ beneath q xs) []
 -- c answers a branch with v, for any entry and out buffer that pass 4 and 5
 abbrev pub Answers : (c : State) (bytes : List ℕ) → Verdict → Type 0
 Answers c bytes v =
-    (entry out : List ℕ) → length entry ≤ 400 → 1024 ≤ length out → verdictOf (branchCall c bytes entry out) ≡ v
+    (entry out : List ℕ) → length entry ≤ entryMost → outLeast ≤ length out → verdictOf (branchCall c bytes entry out) ≡ v
 
 -- A fetch that goes on from the height of a frame of d's chain copies from those after it: fetches one after another give all, while d
 -- stays. They pass 7, 8 and 9 (`GoodRun`)
@@ -88,7 +89,7 @@ Continues =
 -- that round, handed in by themselves, are taken, and then it is
 abbrev pub NoDeadEnd : (c : State) (k : ℕ) (x : List ℕ) (ys : List (List ℕ)) → Type 0
 NoDeadEnd c k x ys =
-    (q : ℕ) → received c k x ys ≡ verdict notCertified q → (entry out : List ℕ) → length entry ≤ 400 → 1024 ≤ length out
+    (q : ℕ) → received c k x ys ≡ verdict notCertified q → (entry out : List ℕ) → length entry ≤ entryMost → outLeast ≤ length out
     → (q ≤ c .replica .round .0)
     ⊎ ((number (branchCall c (flatten (beneath q (x ∷ ys))) entry out) ≡ 0)
     × (q ≤ newRound (branchCall c (flatten (beneath q (x ∷ ys))) entry out)))
@@ -116,7 +117,7 @@ OneFetch =
     OfPremises (λ s calls. TwoStates calls (λ c d. (tray : List ℕ) (o : FetchOutcome)
     → o ≡ fetchCall (d .replica) (d .log) (c .replica .«committed_height» .0) tray
     → (x : List ℕ) (ys : List (List ℕ)) → frames (o .answer .count) (o .out) ≡ x ∷ ys
-    → Answers c (take (512 * o .answer .count) (o .out)) (received c (c .replica .«committed_round» .0) x ys)))
+    → Answers c (take (frameSize * o .answer .count) (o .out)) (received c (c .replica .«committed_round» .0) x ys)))
 
 -- Of what was fetched earlier: c is a replica's state now, c₀ one that it had, and d one that any replica had. x and ys are what d had
 -- above the height that c₀ had committed, all of it or a beginning; P speaks of c, of the round that c₀ had committed, and of these frames
@@ -161,7 +162,7 @@ pub record VerdictsCome : Type 0 where
   pub f-one : far .list .s .f ≡ 1
   pub blames : List ℕ
   pub of-round : round blames ≡ 2
-  pub two : length blames ≡ 1024
+  pub two : length blames ≡ pairSize
   pub out : List ℕ
   pub too-early : number (blamesCall (far .back .c) blames [] out) ≡ early
   pub below-taken : number (branchCall (far .back .c) (flatten (beneath 2 (far .x ∷ far .ys))) [] out) ≡ 0

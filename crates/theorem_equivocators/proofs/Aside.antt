@@ -8,6 +8,7 @@ use mathlib.Core.Bool.{Bool, true, false, _&&_, not, cond}
 use lib.ListN.{length, take}
 use lib.Dec.{eqb, ltb}
 use Rattle.sha256.specs.Fips.{sha256}
+use Rattle.apollo.specs.Size.{frameSize}
 use Rattle.apollo.specs.declared.Replica.{Replica}
 use Rattle.apollo.specs.declared.Marked.{Marked}
 use Rattle.apollo.specs.Bytes.{same}
@@ -84,7 +85,7 @@ module _ (m : ℕ) where
       unfolding placed adopting holding tipped
       placed-aside c x xs none = refused-aside c 11 0
       placed-aside c x xs (some a) =
-          let n : ℕ = 512 * c .replica .«committed_round» .0 in
+          let n : ℕ = frameSize * c .replica .«committed_round» .0 in
           across otherOutcome (eqb (firstUncertified (setupOf (c .replica)) (c .masks) a (x ∷ xs)) 0)
           (across otherOutcome (same (take n (grown (c .log) a (x ∷ xs))) (take n (c .log)))
           (taken-aside _ _ (enter-aside (holding c (grown (c .log) a (x ∷ xs)) (round (lastOf x xs)) (height (lastOf x xs)))))

@@ -6,6 +6,7 @@ use native.Mathlib.Omega.{arith}
 use lib.ListN.{length, take, drop, replicate, length-take, length-drop}
 use lib.Seq.{take-at}
 use Rattle.sha256.specs.Fips.{sha256}
+use Rattle.apollo.specs.Size.{checkAt, frameSize}
 use Rattle.apollo.specs.declared.Replica.{Replica}
 use Rattle.apollo.specs.Bytes.{part, zeros}
 use Rattle.apollo.specs.Frame.{round, height, digest, makeBlock}
@@ -25,27 +26,27 @@ pub genesis-digest : (log : List ℕ) (t : ℕ) → t ≡ 0 → replicate 32 0 �
 unfolding slot genesis zeros
 genesis-digest log t e = rw e
 
-pub slot-digest : (log x y : List ℕ) (t : ℕ) → x ≡ slot log t → y ≡ part x 480 32 → y ≡ digest (slot log t)
+pub slot-digest : (log x y : List ℕ) (t : ℕ) → x ≡ slot log t → y ≡ part x checkAt 32 → y ≡ digest (slot log t)
 slot-digest log x y t ex ey = ey ∙ ap digest ex
 
-pub digest-size : (log : List ℕ) (t : ℕ) → 512 * t ≤ length log → length (digest (slot log t)) ≡ 32
+pub digest-size : (log : List ℕ) (t : ℕ) → frameSize * t ≤ length log → length (digest (slot log t)) ≡ 32
 unfolding slot genesis zeros
 digest-size log zero h = refl
 digest-size log (suc k) h = simp (length-take, length-drop) (omega arith)
 
 -- a proposal by its steps
 pub proposal : (r : Replica) (log entry out : List ℕ) → Ready r log entry out → (out′ x log′ : List ℕ) (q : Replica)
-    → out′ ≡ makeBlock sha256 (r .id) (r .round .0) (r .«tip_height» .0 + 1) (digest (slot log (r .«tip_round» .0))) entry ++ drop 512 out
-    → x ≡ take 512 out′ → log′ ≡ store log (r .round .0) x → q ≡ tipped r (r .round .0) (r .«tip_height» .0 + 1) → (masks : List ℕ)
-    → (out′ ≡ ownBlock sha256 entry (state r log masks) ++ drop 512 out)
+    → out′ ≡ makeBlock sha256 (r .id) (r .round .0) (r .«tip_height» .0 + 1) (digest (slot log (r .«tip_round» .0))) entry ++ drop frameSize out
+    → x ≡ take frameSize out′ → log′ ≡ store log (r .round .0) x → q ≡ tipped r (r .round .0) (r .«tip_height» .0 + 1) → (masks : List ℕ)
+    → (out′ ≡ ownBlock sha256 entry (state r log masks) ++ drop frameSize out)
     × (state q log′ masks ≡ proposing sha256 entry (state r log masks))
 unfolding ownBlock proposing holding
 proposal r log entry out g out′ x log′ q eo ex el eq masks =
     let p : List ℕ = digest (slot log (r .«tip_round» .0)) in
     let B : List ℕ = makeBlock sha256 (r .id) (r .round .0) (r .«tip_height» .0 + 1) p entry in
-    let n : length B ≡ 512 =
+    let n : length B ≡ frameSize =
     length-block (r .id) (r .round .0) (r .«tip_height» .0 + 1) p entry (digest-size log (r .«tip_round» .0) (omega arith)) (g .entry-most) in
-    let b : x ≡ B = ex ∙ ap (take 512) eo ∙ take-at B (drop 512 out) 512 n in
+    let b : x ≡ B = ex ∙ ap (take frameSize) eo ∙ take-at B (drop frameSize out) frameSize n in
     (eo, rw (eq, el, b))
 
 -- a branch by its steps

@@ -1,10 +1,13 @@
 // A new tip: the own block or a branch goes into the log, and the record follows.
 use apollo::Replica;
+use apollo::size::CHECK;
+use apollo::size::FRAME;
 ghost use mathlib.Core.Path.{_≡_};
 ghost use mathlib.Core.List.{List, _++_};
 ghost use Prim.Native.Nat.{ℕ, _+_, _*_, _≤_};
 ghost use lib.ListN.{length, drop};
 ghost use Rattle.sha256.specs.Fips.{sha256};
+ghost use Rattle.apollo.specs.Size.{entryMost, frameSize};
 ghost use Rattle.apollo.specs.Frame as Frame;
 ghost use Rattle.apollo.specs.Frame.{framesOf, lastFrame};
 ghost use Rattle.apollo.specs.Log as Log;
@@ -23,11 +26,11 @@ fn tipped(r: Replica, t: u32, h: u32) -> Replica
 
 // The block for R on the tip is written to the front of out.
 fn put_own_block(r: Replica, log: &[u8], height: u32, entry: &[u8], out: &mut [u8])
-    requires { ⌜ (512 * r .«tip_round» .0 ≤ length (now log)) × (512 ≤ length (now out)) × (length (now entry) ≤ 400) ⌝ }
+    requires { ⌜ (frameSize * r .«tip_round» .0 ≤ length (now log)) × (frameSize ≤ length (now out)) × (length (now entry) ≤ entryMost) ⌝ }
     ensures { λ _. ⌜ now (out .exit)
         ≡ Frame.makeBlock sha256 (r .id) (r .round .0) height
         (Frame.digest (Log.slot (now (log .entry)) (r .«tip_round» .0))) (now (entry .entry))
-        ++ drop 512 (now (out .entry)) ⌝ }
+        ++ drop frameSize (now (out .entry)) ⌝ }
 {
     let round = r.round.0;
     let tip = r.tip_round.0;
@@ -36,7 +39,7 @@ fn put_own_block(r: Replica, log: &[u8], height: u32, entry: &[u8], out: &mut [u
         frame_writing::put_block(out, r.id, round, height, &genesis, entry);
         return;
     }
-    let parent = slices::part(log::slot(log, tip), 480, 32);
+    let parent = slices::part(log::slot(log, tip), CHECK, 32);
     frame_writing::put_block(out, r.id, round, height, parent, entry);
 }
 
@@ -45,13 +48,13 @@ pub fn propose(r: Replica, log: &mut [u8], entry: &[u8], out: &mut [u8]) -> Repl
     requires { ⌜ Ready r (now log) (now entry) (now out) × (r .round .0 ≤ r .«last_round» .0) ⌝ }
     ensures { λ q. ⌜ ((masks : List ℕ)
         → (now (out .exit)
-        ≡ ownBlock sha256 (now (entry .entry)) (state r (now (log .entry)) masks) ++ drop 512 (now (out .entry)))
+        ≡ ownBlock sha256 (now (entry .entry)) (state r (now (log .entry)) masks) ++ drop frameSize (now (out .entry)))
         × (state q (now (log .exit)) masks ≡ proposing sha256 (now (entry .entry)) (state r (now (log .entry)) masks))) ⌝ }
 {
     let round = r.round.0;
     let height = r.tip_height.0 + 1;
     put_own_block(r, log, height, entry, out);
-    log::store(log, round, slices::part(out, 0, 512));
+    log::store(log, round, slices::part(out, 0, FRAME));
     tipped(r, round, height)
 }
 

@@ -9,6 +9,7 @@ use Rattle.refusals.proofs.Number.{guard-of}
 use Rattle.call_tick.proofs.Call.{tick-refused, tick-down, tick-passed, tick-asks, tick-out, frames-few}
 use Rattle.call_tick.proofs.tick.Statement.{statement}
 use Rattle.call_tick.proofs.tick.Tie as tie
+use Rattle.apollo.specs.Size.{frameSize}
 
 returns : tie.Need-returns
 returns c =
@@ -82,7 +83,7 @@ same-length-7 : tie.Need-same-length-7
 same-length-7 c =
     let e = c .before .before .before .before .before .before .before in
     let u = e .before .before .before .before .before .before .before in
-    same-len-mid 512 (length (u .put-blame .last .0) - 512) (u .put-blame .last .0) (e .hear .last .1 .1 .1 .1 .1 .1 .0) (e .hear .kept .1 .1 .1 .1 .1 .1 .0) ∙ u .put-blame .kept .0
+    same-len-mid frameSize (length (u .put-blame .last .0) - frameSize) (u .put-blame .last .0) (e .hear .last .1 .1 .1 .1 .1 .1 .0) (e .hear .kept .1 .1 .1 .1 .1 .1 .0) ∙ u .put-blame .kept .0
 
 returns-3 : tie.Need-returns-3
 returns-3 c =

@@ -7,6 +7,7 @@ use native.Mathlib.Omega.{arith}
 use lib.Seq.{length-take-le}
 use borrow.Author.Needs.{needs}
 use Rattle.sha256.specs.Fips.{sha256}
+use Rattle.apollo.specs.Size.{frameSize}
 use Rattle.apollo.specs.Bytes.{part}
 use Rattle.apollo.specs.BlockRun.{judgedRun}
 use Rattle.frame.proofs.Frames.{rest}
@@ -17,8 +18,8 @@ use Rattle.judging.proofs.judge_run.Tie as tie
 abbrev Inv-loop : tie.InvT-loop
 Inv-loop s frames n first next₀ next =
     (1 ≤ next) × (next ≤ n)
-    × (judgedRun sha256 s next (some (part frames (512 * (next - 1)) 512)) (rest frames n next)
-    ≡ judgedRun sha256 s 1 (some (part frames 0 512)) (rest frames n 1))
+    × (judgedRun sha256 s next (some (part frames (frameSize * (next - 1)) frameSize)) (rest frames n next)
+    ≡ judgedRun sha256 s 1 (some (part frames 0 frameSize)) (rest frames n 1))
 
 abbrev μ-loop : tie.MeasureT-loop
 μ-loop s frames n first next₀ next = n - next
@@ -27,7 +28,7 @@ returns : tie.Need-returns Inv-loop μ-loop
 returns c = run-none _ (c .before .before .args .frames .now) _ _ (c .if1 .taken)
 
 first-whole : tie.Need-slice-aggregate-judge-first Inv-loop μ-loop
-first-whole c = sym (length-take-le 512 (c .before .before .before .args .frames .now) (omega arith))
+first-whole c = sym (length-take-le frameSize (c .before .before .before .args .frames .now) (omega arith))
 
 returns-2 : tie.Need-returns-2 Inv-loop μ-loop
 returns-2 c =

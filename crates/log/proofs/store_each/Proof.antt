@@ -4,6 +4,7 @@ use Prim.Native.Nat.{_≤_, _-_, _/_}
 use native.Mathlib.Omega.{arith}
 use lib.ListN.{length}
 use borrow.Author.Needs.{needs}
+use Rattle.apollo.specs.Size.{frameSize}
 use Rattle.apollo.specs.Frame as Frame
 use Rattle.apollo.specs.Branch.{storeAll}
 use Rattle.log.specs.Slots.{Slotted}
@@ -25,7 +26,7 @@ store-frame-requires : tie.Need-store-frame-requires Inv-loop μ-loop
 store-frame-requires c κs =
     let l = c .before .before .before in
     let b = l .before .before .before .args .frames .now in
-    rw (l .loop .inv .1) (next-slot _ b (length b / 512) (l .loop .i) (c .before .before .loop-test .taken) (omega arith) (l .loop .inv .3))
+    rw (l .loop .inv .1) (next-slot _ b (length b / frameSize) (l .loop .i) (c .before .before .loop-test .taken) (omega arith) (l .loop .inv .3))
 
 loop-again : tie.Need-loop-again Inv-loop μ-loop
 loop-again c = (search needs, search needs, each-more (c .before .before .before .before .before .before .loop .log) (c .before .before .store-frame .last .0) (c .before .before .before .before .before .before .before .before .before .args .frames .now) _ _ (c .before .before .before .before .before .before .loop .i) (c .before .before .before .before .before .loop-test .taken) (c .before .before .store-frame .ensures) (c .before .before .before .before .before .before .loop .inv .2), slotted-next _ _ _ (c .before .before .before .before .before .before .loop .i) (c .before .before .before .before .before .loop-test .taken) (c .before .before .before .before .before .before .loop .inv .3) .2)
