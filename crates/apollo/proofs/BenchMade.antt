@@ -19,18 +19,18 @@ use Rattle.apollo.specs.Setup.{replicas, leader, setup, setupOf, validLi
 use Rattle.apollo.specs.Frame.{kind, signer, round, height, parent, digest, linked, sealed, blameHead, makeBlock, makeBlame}
 use Rattle.apollo.specs.Log.{genesis, slot, filled, store, clearAbove, attach, highest}
 use Rattle.apollo.specs.Masks.{bit, mask, addBlame}
-use Rattle.apollo.specs.Replica.{fresh, leads, validOwn, validOpening, withCommitted}
+use Rattle.apollo.specs.Replica.{fresh, leads, validOwn, withCommitted}
 use Rattle.apollo.specs.Enter.{State, Effect, commitLimit, commit, tipped, hearing, holding, entered, ownBlock, proposing, enterRound, settle}
 use Rattle.apollo.specs.Outcome.{taken, stateOf}
 use Rattle.apollo.specs.BlockRun.{lastOf, block}
 use Rattle.apollo.specs.Branch.{firstUncertified, storeAll, grown, adopting, placed}
 use Rattle.apollo.specs.Single.{oneBlame}
 use Rattle.apollo.specs.Calls.{openCall, branchCall, blameCall}
-use Rattle.apollo.specs.BenchSheet.{turn, Callable}
+use Rattle.apollo.specs.BenchSheet.{turn, Openable, Callable}
 use Rattle.apollo.proofs.Single.{blame-one}
 use Rattle.apollo.proofs.Tests.{both, cond-true, cond-false, same-of}
 use Rattle.apollo.proofs.Rotation.{turn-rotation, padded-valid, turn-seat}
-use Rattle.apollo.proofs.Validity.{Valid, valid, valid-of}
+use Rattle.apollo.proofs.Validity.{Valid, setup-none, valid, valid-of}
 use Rattle.apollo.proofs.Slots.{length-zeros, length-store, store-same, store-other, length-clear, clear-low, take-slots}
 use Rattle.apollo.proofs.Judging.{passes, fresh-branch, attaches}
 use Rattle.apollo.proofs.BlockRun.{blocks-one}
@@ -286,25 +286,33 @@ no-blocks = record { size = length-zeros 3072; slots = λ k l. let z : k ≡ 0 =
 unfoldable pub opening : (id : ℕ) → State
 opening id = stateOf (openCall id 1 2 6 (turn 1) (zeros 3072) (zeros 6) [] out)
 
-opened : (id : ℕ) → validOpening (fresh id 1 2 6 (turn 1)) (zeros 3072) ≡ true
+opened : (id : ℕ) → validOwn (fresh id 1 2 6 (turn 1)) ≡ true
     → opening id ≡ enterRound sha256 [] (state id 0 (zeros 3072) (zeros 6)) .state
 unfolding opening out taken fresh
-opened id valid =
-    ap stateOf (open-fits id 1 2 6 (turn 1) (zeros 3072) (zeros 6) [] (zeros 1024) valid (unfold zeros in refl) (turn-rotation 3)
-    (omega (arith, length-zeros 1024)) (omega arith))
+opened id own = ap stateOf (open-fits id 1 2 6 (turn 1) (zeros 3072) (zeros 6) [] (zeros 1024) openable (omega arith))
+  where
+    openable : Openable id 1 2 6 (turn 1) (zeros 3072) (zeros 6) (zeros 1024)
+    openable =
+        record {
+          setup = setup-none 1 6 (turn 1) (unfold validLimits in refl) (turn-rotation 3);
+          own = own;
+          slots = unfold zeros in refl;
+          lent = unfold zeros in refl;
+          room = omega (arith, length-zeros 1024);
+        }
 
 pub opening-0 : Made (opening 0) 0 1 (zeros 6)
 opening-0 =
     let m : Made (enterRound sha256 [] (state 0 0 (zeros 3072) (zeros 6)) .state) 0 1 (zeros 6) =
     entered-leads 0 0 0 (zeros 3072) (zeros 6) (omega arith) no-blocks refl (unfold leads leader padded inTurn zeros in refl) in
-    record { log = m .log; is = opened 0 (unfold validOpening validLimits validOwn fresh zeros in refl) ∙ m .is; holds = m .holds }
+    record { log = m .log; is = opened 0 (unfold validOwn fresh in refl) ∙ m .is; holds = m .holds }
 
 pub opening-1 : Made (opening 1) 1 0 (zeros 6)
 opening-1 =
     record {
       log = zeros 3072;
       is =
-          opened 1 (unfold validOpening validLimits validOwn fresh zeros in refl)
+          opened 1 (unfold validOwn fresh in refl)
           ∙ entered-waits 1 0 0 (zeros 3072) (zeros 6) (omega arith) no-blocks (unfold leads leader padded inTurn zeros in refl);
       holds = no-blocks;
     }

@@ -11,24 +11,24 @@ use lib.Pow.{pow-pos}
 use lib.Dec.{eqb, ltb}
 use borrow.Author.Tests.{lt-ltb, le-ltb, eq-eqb}
 use Rattle.sha256.specs.Fips.{sha256}
-use Rattle.apollo.specs.Size.{frameSize}
+use Rattle.apollo.specs.Size.{frameSize, outLeast}
 use Rattle.apollo.specs.declared.Replica.{Replica}
 use Rattle.apollo.specs.Bytes.{number4, zeros}
-use Rattle.apollo.specs.Rotation.{isRotation, padded}
-use Rattle.apollo.specs.Setup.{leader, setup}
+use Rattle.apollo.specs.Rotation.{padded}
+use Rattle.apollo.specs.Setup.{leader, setup, setupNumber}
 use Rattle.apollo.specs.Frame.{round, height, digest, sealed, blockHead, makeBlock}
 use Rattle.apollo.specs.Log.{slot, genesis, store, highest}
-use Rattle.apollo.specs.Replica.{fresh, zeroReplica, leads, validOpening, validReplica, validMasks}
+use Rattle.apollo.specs.Replica.{fresh, zeroReplica, leads, validOwn, validLog, validReplica, validMasks}
 use Rattle.apollo.specs.Enter.{State, Effect, commitLimit, commit, tipped, holding, entered, ownBlock, proposing, enterRound}
 use Rattle.apollo.specs.Outcome.{Outcome, refused, taken, guarded, stateOf}
 use Rattle.apollo.specs.Open.{openWith}
 use Rattle.apollo.specs.Tick.{tickWith}
 use Rattle.apollo.specs.Calls.{openCall, tickCall}
-use Rattle.apollo.specs.BenchSheet.{turn, number, newRound}
+use Rattle.apollo.specs.BenchSheet.{turn, Openable, number, newRound}
 use Rattle.apollo.specs.BlockRun.{block}
 use Rattle.apollo.proofs.Tests.{both, cond-true, cond-false}
 use Rattle.apollo.proofs.Rotation.{turn-rotation, turn-seat, padded-valid}
-use Rattle.apollo.proofs.Validity.{ValidOpening, valid-opening, valid-of}
+use Rattle.apollo.proofs.Validity.{ValidOpening, setup-good, valid-opening, valid-of}
 use Rattle.apollo.proofs.Slots.{length-zeros, length-store}
 use Rattle.apollo.proofs.Made.{block-length, block-made}
 
@@ -39,18 +39,17 @@ unopened log masks = record { replica = zeroReplica; log = log; masks = masks }
 abbrev opened : (id f timeout T : ℕ) (rotation : List ℕ) → State
 opened id f timeout T rotation = record { replica = fresh id f timeout T rotation; log = zeros (frameSize * T); masks = zeros T }
 
-module _ (id f timeout T : ℕ) (rotation log masks entry out : List ℕ) (valid : validOpening (fresh id f timeout T rotation) log ≡ true)
-    (lent : validMasks (fresh id f timeout T rotation) masks ≡ true) (turns : isRotation (2 * f + 1) rotation ≡ true)
-    (room : 1024 ≤ length out) where
+module _ (id f timeout T : ℕ) (rotation log masks entry out : List ℕ) (o : Openable id f timeout T rotation log masks out) where
   opens : openCall id f timeout T rotation log masks entry out
       ≡ cond (ltb 400 (length entry)) (refused (unopened log masks) out 5 0)
       (taken (enterRound sha256 entry (opened id f timeout T rotation)) out)
   unfolding openWith fresh
   opens =
       let r : Replica = fresh id f timeout T rotation in
-      let v : not (validOpening r log && validMasks r masks) ≡ false =
-      ap not (both (validOpening r log) (validMasks r masks) valid lent) in
-      cond-false _ _ v ∙ cond-false _ _ (ap not turns) ∙ cond-false _ _ (le-ltb (length out) 1024 room)
+      let v : not (validOwn r && validLog r log && validMasks r masks) ≡ false =
+      ap not (both (validOwn r && validLog r log) (validMasks r masks) (both (validOwn r) (validLog r log) (o .own) (o .slots)) (o .lent)) in
+      cond-false _ _ v ∙ cond-false _ _ (ap not (eq-eqb (setupNumber f T rotation) 0 (o .setup)))
+      ∙ cond-false _ _ (le-ltb (length out) outLeast (o .room))
 
   pub open-fits : length entry ≤ 400
       → openCall id f timeout T rotation log masks entry out ≡ taken (enterRound sha256 entry (opened id f timeout T rotation)) out
@@ -64,8 +63,7 @@ module _ (id f timeout T : ℕ) (rotation log masks entry out : List ℕ) (valid
   unfolding refused
   open-401 l = ap number (opens ∙ cond-true _ _ (lt-ltb 400 (length entry) (omega arith)))
 
-module _ (f timeout : ℕ) (log masks entry out : List ℕ) (valid : validOpening (fresh 0 f timeout 1 (turn f)) log ≡ true)
-    (lent : validMasks (fresh 0 f timeout 1 (turn f)) masks ≡ true) (room : 1024 ≤ length out) (l : length entry ≤ 400) where
+module _ (f timeout : ℕ) (log masks entry out : List ℕ) (o : Openable 0 f timeout 1 (turn f) log masks out) (l : length entry ≤ 400) where
   new : State
   new = opened 0 f timeout 1 (turn f)
 
@@ -85,7 +83,7 @@ module _ (f timeout : ℕ) (log masks entry out : List ℕ) (valid : validOpenin
   proposes : openCall 0 f timeout 1 (turn f) log masks entry out ≡ taken (record { state = left; emitted = first ∷ [] }) out
   unfolding new first left enterRound leads fresh
   proposes =
-      open-fits 0 f timeout 1 (turn f) log masks entry out valid lent (turn-rotation (2 * f + 1)) room l
+      open-fits 0 f timeout 1 (turn f) log masks entry out o l
       ∙ ap (λ (e : Effect). taken e out) (cond-true _ _ (eq-eqb (leader (setup f 1 (turn f)) 1) 0 leader-1))
 
   parent-length : length (digest (slot (zeros frameSize) 0)) ≡ 32
@@ -135,7 +133,7 @@ module _ (f timeout : ℕ) (log masks entry out : List ℕ) (valid : validOpenin
   left-valid : validReplica (left .replica) (left .log) ≡ true
   unfolding new first left stored entered proposing holding tipped commit commitLimit fresh leads
   left-valid =
-      let s : ValidOpening (fresh 0 f timeout 1 (turn f)) log = valid-opening (fresh 0 f timeout 1 (turn f)) log valid in
+      let s : ValidOpening (fresh 0 f timeout 1 (turn f)) log = valid-opening (fresh 0 f timeout 1 (turn f)) log (setup-good f 1 (turn f) (o .setup) .0) (o .own) (o .slots) in
       let low : 1 ≤ f = s .f-least in
       let c : (highest stored (1 - f) ≡ 0) × (height (slot stored (highest stored (1 - f))) ≡ 0) =
       none-committed (1 - f) (omega arith) in

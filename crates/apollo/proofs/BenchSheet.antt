@@ -28,9 +28,9 @@ benchSheet =
           λ s x xs entry out c l three fit good.
           (ends-in-2 c entry l x xs three fit good, ends-in-3 c entry l x xs three fit good);
       item-7 = (
-        λ id f timeout T rotation log masks entry out v m turns room. (
-          open-400 id f timeout T rotation log masks entry out v m turns room,
-          open-401 id f timeout T rotation log masks entry out v m turns room,
+        λ id f timeout T rotation log masks entry out o. (
+          open-400 id f timeout T rotation log masks entry out o,
+          open-401 id f timeout T rotation log masks entry out o,
         ),
         λ s bytes entry out c. (
           λ l. (branch-400 c bytes entry l, hand-400 c bytes entry l 1, hand-400 c bytes entry l 15, tick-400 c bytes entry l),
@@ -50,7 +50,7 @@ benchSheet =
             λ y held good child four. held-10 h entry l held y good child four,
           );
       item-11 =
-          λ f timeout log masks entry out entry′ out′ v m room l.
-          let e = open-emits f timeout log masks entry out v m room l in
-          (e .0, e .1, e .2, e .3, e .4, then-over f timeout log masks entry out v m room l entry′ out′);
+          λ f timeout log masks entry out entry′ out′ o l.
+          let e = open-emits f timeout log masks entry out o l in
+          (e .0, e .1, e .2, e .3, e .4, then-over f timeout log masks entry out o l entry′ out′);
     }

@@ -15,7 +15,7 @@ use Rattle.apollo.specs.declared.Setup.{Setup}
 use Rattle.apollo.specs.declared.Verdict.{Verdict}
 use Rattle.apollo.specs.Frame.{round, frames, blockForm, linked, checked}
 use Rattle.apollo.specs.Judging.{noRefusal, fault}
-use Rattle.apollo.specs.BlockRun.{childOf, follows, block, blocks, faulty, judgedRun}
+use Rattle.apollo.specs.BlockRun.{childOf, follows, block, blocks, faulty, judgedNext, judgedRun}
 use Rattle.apollo.proofs.Tests.{and-true, both, by-cond, cond-true, cond-false}
 use Rattle.apollo.proofs.Frames.{Whole}
 use Rattle.apollo.proofs.Fault.{fault-none, fault-number}
@@ -92,36 +92,48 @@ blocks-whole s p (x ∷ xs) e =
 -- a good run is refused nothing
 pub judged-blocks : (s : Setup) (k : ℕ) (p : Option (List ℕ)) (xs : List (List ℕ)) → blocks s p xs ≡ true
     → judgedRun sha256 s k p xs ≡ noRefusal
-unfolding judgedRun
+unfolding judgedRun judgedNext
 judged-blocks s k p [] e = refl
 judged-blocks s k p (x ∷ xs) e =
     let q = blocks-parts s p x xs e in
-    cond-true _ _ (eq-eqb (faulty sha256 s x) 0 (faultless s x (q .0))) ∙ cond-true _ _ (q .1)
-    ∙ judged-blocks s (k + 1) (some x) xs (q .2)
+    let f : eqb (faulty sha256 s x) 0 ≡ true = eq-eqb (faulty sha256 s x) 0 (faultless s x (q .0)) in
+    rw (f, q .1) (judged-blocks s (k + 1) (some x) xs (q .2))
 
 -- and whole frames that are refused nothing are a good run
+next-block : (s : Setup) (p : Option (List ℕ)) (x : List ℕ) → length x ≡ frameSize → judgedNext sha256 s p x ≡ 0
+    → (block s x ≡ true) × (follows p x ≡ true)
+unfolding judgedNext
+next-block s p x l e =
+    by-cond (λ n. n ≡ 0 → Next) (eqb (faulty sha256 s x) 0)
+    (λ g. by-cond (λ n. n ≡ 0 → Next) (follows p x)
+    (λ f v. let q = fault-none sha256 (blockForm s) x (eqb-true _ _ g) in (block-of s x l (q .0) (q .1), f))
+    (λ f v. absurd (omega (arith, v))))
+    (λ g v. absurd (eqb-false _ _ g v)) e
+  where
+    Next : Type 0
+    Next = (block s x ≡ true) × (follows p x ≡ true)
+
 pub blocks-judged : (s : Setup) (k : ℕ) (p : Option (List ℕ)) (xs : List (List ℕ)) → judgedRun sha256 s k p xs .number ≡ 0
     → Whole xs → blocks s p xs ≡ true
 unfolding judgedRun
 blocks-judged s k p [] e w = blocks-none s p
 blocks-judged s k p (x ∷ xs) e w =
-    by-cond (λ (v : Verdict). v .number ≡ 0 → blocks s p (x ∷ xs) ≡ true) (eqb (faulty sha256 s x) 0)
-    (λ g. by-cond (λ (v : Verdict). v .number ≡ 0 → blocks s p (x ∷ xs) ≡ true) (follows p x)
-    (λ f v. let q = fault-none sha256 (blockForm s) x (eqb-true _ _ g) in
-    blocks-of s p x xs (block-of s x (w .0) (q .0) (q .1)) f (blocks-judged s (k + 1) (some x) xs v (w .1)))
-    (λ f v. absurd (omega (arith, v))))
+    by-cond (λ (v : Verdict). v .number ≡ 0 → blocks s p (x ∷ xs) ≡ true) (eqb (judgedNext sha256 s p x) 0)
+    (λ g v. let q = next-block s p x (w .0) (eqb-true _ _ g) in
+    blocks-of s p x xs (q .0) (q .1) (blocks-judged s (k + 1) (some x) xs v (w .1)))
     (λ g v. absurd (eqb-false _ _ g v)) e
 
 -- the frames of a run are answered 0, 7, 8 or 9
 pub run-number : (P : ℕ → Type 0) → P 0 → P 7 → P 8 → P 9 → (s : Setup) (k : ℕ) (p : Option (List ℕ)) (xs : List (List ℕ))
     → P (judgedRun sha256 s k p xs .number)
-unfolding judgedRun
+unfolding judgedRun judgedNext
 run-number P p0 p7 p8 p9 s k p [] = p0
 run-number P p0 p7 p8 p9 s k p (x ∷ xs) =
     let ih : P (judgedRun sha256 s (k + 1) (some x) xs .number) = run-number P p0 p7 p8 p9 s (k + 1) (some x) xs in
-    by-cond (λ (v : Verdict). P (v .number)) (eqb (faulty sha256 s x) 0)
-    (λ _. by-cond (λ (v : Verdict). P (v .number)) (follows p x) (λ _. ih) (λ _. p9))
-    (λ _. fault-number P p0 p7 p8 sha256 (blockForm s) x)
+    let next : P (judgedNext sha256 s p x) =
+    by-cond P (eqb (faulty sha256 s x) 0) (λ _. by-cond P (follows p x) (λ _. p0) (λ _. p9))
+    (λ _. fault-number P p0 p7 p8 sha256 (blockForm s) x) in
+    by-cond (λ (v : Verdict). P (v .number)) (eqb (judgedNext sha256 s p x) 0) (λ _. ih) (λ _. next)
 
 -- a run read back from its bytes
 pub run-length : (s : Setup) (p : Option (List ℕ)) (xs : List (List ℕ)) → blocks s p xs ≡ true

@@ -4,15 +4,17 @@ use mathlib.Core.Path.{_≡_, ap}
 use mathlib.Core.List.{List}
 use mathlib.Core.Bool.{true, false, _&&_, not}
 use lib.ListN.{length}
+use native.Mathlib.Omega.{arith}
 use lib.Dec.{eqb, leb, ltb}
-use borrow.Author.Tests.{ltb-true, leb-true, eqb-true, lt-ltb, le-leb, eq-eqb, not-true}
+use borrow.Author.Tests.{ltb-true, leb-true, eqb-true, lt-ltb, le-leb, eq-eqb, not-true, not-false}
 use Rattle.apollo.specs.Size.{frameSize}
 use Rattle.apollo.specs.declared.Replica.{Replica}
 use Rattle.apollo.specs.declared.Setup.{Setup}
 use Rattle.apollo.specs.Bytes.{within}
-use Rattle.apollo.specs.Setup.{setupOf, replicas, validRotation, validLimits, validSetup}
-use Rattle.apollo.specs.Replica.{leads, validOwn, validRounds, validMarks, validRecord, validLog, validOpening, validReplica}
-use Rattle.apollo.proofs.Tests.{and-true, both, within-true, within-of}
+use Rattle.apollo.specs.Setup.{setup, setupOf, replicas, validRotation, validLimits, validSetup, setupNumber}
+use Rattle.apollo.specs.Rotation.{isRotation}
+use Rattle.apollo.specs.Replica.{leads, validOwn, validRounds, validMarks, validRecord, validLog, validReplica}
+use Rattle.apollo.proofs.Tests.{and-true, both, by-cond, within-true, within-of}
 
 -- f and T are in range
 pub record Limits (s : Setup) : Type 0 where
@@ -55,13 +57,12 @@ limits s e =
     let l = within-true 1 (s .«last_round» .0) 4096 (a .1) in
     record { f-least = f .0; f-most = f .1; last-least = l .0; last-most = l .1 }
 
-pub valid-opening : (r : Replica) (log : List ℕ) → validOpening r log ≡ true → ValidOpening r log
-unfolding validOpening validOwn
-valid-opening r log e =
-    let a = and-true _ (eqb (length log) (frameSize * r .«last_round» .0)) e in
-    let b = and-true (validLimits (setupOf r)) _ (a .0) in
-    let c = and-true (ltb (r .id) (replicas (setupOf r))) (within 1 (r .timeout .0) 60000) (b .1) in
-    let l : Limits (setupOf r) = limits (setupOf r) (b .0) in
+pub valid-opening : (r : Replica) (log : List ℕ) → validLimits (setupOf r) ≡ true → validOwn r ≡ true → validLog r log ≡ true
+    → ValidOpening r log
+unfolding validOwn
+valid-opening r log e o s =
+    let c = and-true (ltb (r .id) (replicas (setupOf r))) (within 1 (r .timeout .0) 60000) o in
+    let l : Limits (setupOf r) = limits (setupOf r) e in
     let t : (1 ≤ r .timeout .0) × (r .timeout .0 ≤ 60000) = within-true 1 (r .timeout .0) 60000 (c .1) in
     record {
       id-below = ltb-true (r .id) (replicas (setupOf r)) (c .0);
@@ -71,7 +72,7 @@ valid-opening r log e =
       timeout-most = t .1;
       last-least = l .last-least;
       last-most = l .last-most;
-      size = eqb-true (length log) (frameSize * r .«last_round» .0) (a .1);
+      size = eqb-true (length log) (frameSize * r .«last_round» .0) s;
     }
 
 opening-of : (r : Replica) (log : List ℕ) → ValidOpening r log → (validLimits (setupOf r) ≡ true) × (validOwn r ≡ true)
@@ -82,6 +83,30 @@ opening-of r log s = (
   both (ltb (r .id) (replicas (setupOf r))) (within 1 (r .timeout .0) 60000) (lt-ltb (r .id) (replicas (setupOf r)) (s .id-below))
       (within-of 1 (r .timeout .0) 60000 (s .timeout-least) (s .timeout-most)),
 )
+
+-- 1 and 17 of a set-up: which numbers come, and what it has where none does
+module _ (f last : ℕ) (rotation : List ℕ) where
+  abbrev lent : Setup
+  lent = setup f last rotation
+
+  pub setup-number : (P : ℕ → Type 0) → P 0 → P 1 → P 17 → P (setupNumber f last rotation)
+  unfolding setupNumber
+  setup-number P p0 p1 p17 =
+      by-cond P (not (validLimits lent)) (λ _. p1) (λ _. by-cond P (not (isRotation (replicas lent) rotation)) (λ _. p17) (λ _. p0))
+
+  pub setup-good : setupNumber f last rotation ≡ 0 → (validLimits lent ≡ true) × (isRotation (replicas lent) rotation ≡ true)
+  unfolding setupNumber
+  setup-good e =
+      by-cond (λ n. n ≡ 0 → Good) (not (validLimits lent)) (λ l v. absurd (omega (arith, v)))
+      (λ l. by-cond (λ n. n ≡ 0 → Good) (not (isRotation (replicas lent) rotation)) (λ t v. absurd (omega (arith, v)))
+      (λ t v. (not-false _ l, not-false _ t))) e
+    where
+      Good : Type 0
+      Good = (validLimits lent ≡ true) × (isRotation (replicas lent) rotation ≡ true)
+
+  pub setup-none : validLimits lent ≡ true → isRotation (replicas lent) rotation ≡ true → setupNumber f last rotation ≡ 0
+  unfolding setupNumber
+  setup-none l t = rw (l, t)
 
 -- the parts of a record's test
 record Parts (r : Replica) : Type 0 where
@@ -107,7 +132,7 @@ pub record-turns : (r : Replica) → validRecord r ≡ true → (r .f ≤ 7) × 
 record-turns r e = let p : Parts r = parts r e in (limits (setupOf r) (p .limited) .f-most, p .rotation)
 
 pub valid : (r : Replica) (log : List ℕ) → validReplica r log ≡ true → Valid r log
-unfolding validReplica validOpening validRounds
+unfolding validReplica validRounds
 valid r log e =
     let z = and-true (validRecord r) (validLog r log) e in
     let p : Parts r = parts r (z .0) in
@@ -120,10 +145,7 @@ valid r log e =
     let w : (1 ≤ r .round .0) × (r .round .0 ≤ r .«last_round» .0 + 1) =
     within-true 1 (r .round .0) (r .«last_round» .0 + 1) (k .0) in
     record {
-      setup =
-          valid-opening r log
-          (both (validLimits (setupOf r) && validOwn r) (validLog r log)
-          (both (validLimits (setupOf r)) (validOwn r) (p .limited) (p .own)) (z .1));
+      setup = valid-opening r log (p .limited) (p .own) (z .1);
       rotation = p .rotation;
       round-least = w .0;
       round-most = w .1;

@@ -12,12 +12,12 @@ use Rattle.sha256.specs.Fips.{sha256}
 use Rattle.apollo.specs.Size.{entryMost, frameSize, outLeast}
 use Rattle.apollo.specs.declared.Replica.{Replica}
 use Rattle.apollo.specs.declared.Setup.{Setup}
-use Rattle.apollo.specs.Rotation.{isRotation, inTurn, padded}
-use Rattle.apollo.specs.Setup.{setup, setupOf, leader}
+use Rattle.apollo.specs.Rotation.{inTurn, padded}
+use Rattle.apollo.specs.Setup.{setup, setupOf, leader, setupNumber}
 use Rattle.apollo.specs.Frame.{signer, round, blockForm, blameForm, linked, checked}
 use Rattle.apollo.specs.Log.{genesis, slot, filled}
 use Rattle.apollo.specs.Masks.{mask, addBlame, certified}
-use Rattle.apollo.specs.Replica.{fresh, validOpening, validReplica, validMasks}
+use Rattle.apollo.specs.Replica.{fresh, validOwn, validLog, validMasks, validReplica}
 use Rattle.apollo.specs.Enter.{State, commit}
 use Rattle.apollo.specs.BlockRun.{lastOf, block, blocks}
 use Rattle.apollo.specs.Outcome.{Outcome, stateOf}
@@ -51,6 +51,14 @@ newRound o = o .answer .replica .round .0
 
 abbrev pub newCommitted : Outcome → ℕ
 newCommitted o = o .answer .replica .«committed_round» .0
+
+-- no open with these is refused with 1, 17 or 4
+pub record Openable (id f timeout T : ℕ) (rotation log masks out : List ℕ) : Type 0 where
+  pub setup : setupNumber f T rotation ≡ 0
+  pub own : validOwn (fresh id f timeout T rotation) ≡ true
+  pub slots : validLog (fresh id f timeout T rotation) log ≡ true
+  pub lent : validMasks (fresh id f timeout T rotation) masks ≡ true
+  pub room : outLeast ≤ length out
 
 -- no call on s with this out buffer is refused with 2, 3 or 4
 pub record Callable (s : State) (out : List ℕ) : Type 0 where
@@ -137,8 +145,7 @@ pub record BenchSheet : Type 0 where
       → (round (lastOf x xs) ≡ 2 → number (branchCall s (flatten (x ∷ xs)) entry out) ≡ 10)
       × (round (lastOf x xs) ≡ 3 → ¬ (number (branchCall s (flatten (x ∷ xs)) entry out) ≡ 10))
   -- open, then branch, blame, blames and tick
-  pub item-7 : ((id f timeout T : ℕ) (rotation log masks entry out : List ℕ) → validOpening (fresh id f timeout T rotation) log ≡ true
-      → validMasks (fresh id f timeout T rotation) masks ≡ true → isRotation (2 * f + 1) rotation ≡ true → outLeast ≤ length out
+  pub item-7 : ((id f timeout T : ℕ) (rotation log masks entry out : List ℕ) → Openable id f timeout T rotation log masks out
       → (length entry ≡ 400 → number (openCall id f timeout T rotation log masks entry out) ≡ 0)
       × (length entry ≡ 401 → number (openCall id f timeout T rotation log masks entry out) ≡ 5))
       × ((s : State) (bytes entry out : List ℕ) → Callable s out
@@ -173,8 +180,7 @@ pub record BenchSheet : Type 0 where
       → linked (slot (s .log) 3) y ≡ true → round y ≡ 4
       → number (branchCall s (slot (s .log) 1 ++ slot (s .log) 2 ++ slot (s .log) 3 ++ y) entry out) ≡ 0)
   pub item-11 : (f timeout : ℕ) (log masks entry out entry′ out′ : List ℕ)
-      → validOpening (fresh 0 f timeout 1 (turn f)) log ≡ true → validMasks (fresh 0 f timeout 1 (turn f)) masks ≡ true → outLeast ≤ length out
-      → length entry ≤ entryMost
+      → Openable 0 f timeout 1 (turn f) log masks out → length entry ≤ entryMost
       → (number (openCall 0 f timeout 1 (turn f) log masks entry out) ≡ 0)
       × (openCall 0 f timeout 1 (turn f) log masks entry out .answer .frames ≡ 1)
       × (block (setup f 1 (turn f)) (take frameSize (openCall 0 f timeout 1 (turn f) log masks entry out .out)) ≡ true)

@@ -41,9 +41,12 @@ module _ (hash : List ℕ → List ℕ) where
   abbrev pub faulty : Setup → List ℕ → ℕ
   faulty s = fault hash (blockForm s)
 
-  -- 7, 8 and 9 of frames behind p, the first of which has index k. A branch may have any parent; a run behind the genesis begins a chain
+  -- 7, 8 and 9 of frame x behind p, 0 if there is none
+  unfoldable pub judgedNext : Setup → (p : Option (List ℕ)) (x : List ℕ) → ℕ
+  judgedNext s p x = cond (eqb (faulty s x) 0) (cond (follows p x) 0 notChild) (faulty s x)
+
+  -- the same of frames, the first of which has index k. A branch may have any parent; a run behind the genesis begins a chain
   unfoldable pub judgedRun : Setup → (k : ℕ) (p : Option (List ℕ)) → List (List ℕ) → Verdict
   judgedRun s k p [] = noRefusal
   judgedRun s k p (x ∷ xs) =
-      cond (eqb (faulty s x) 0) (cond (follows p x) (judgedRun s (k + 1) (some x) xs) (verdict notChild k))
-      (verdict (faulty s x) k)
+      cond (eqb (judgedNext s p x) 0) (judgedRun s (k + 1) (some x) xs) (verdict (judgedNext s p x) k)

@@ -8,7 +8,7 @@ use Rattle.apollo.specs.Size.{frameSize}
 use Rattle.apollo.specs.declared.Replica.{Replica}
 use Rattle.apollo.specs.Bytes.{zeros, within}
 use Rattle.apollo.specs.Rotation.{padded}
-use Rattle.apollo.specs.Setup.{setupOf, replicas, leader, validLimits, validSetup}
+use Rattle.apollo.specs.Setup.{setupOf, replicas, leader, validSetup}
 use Rattle.apollo.specs.Masks.{setBit}
 
 -- the record with these in place of R, ticks left, tip, committed and marks
@@ -128,10 +128,6 @@ validLog r log = eqb (length log) (frameSize * r .«last_round» .0)
 -- one mask a round
 abbrev pub validMasks : Replica → (masks : List ℕ) → Bool
 validMasks r masks = eqb (length masks) (r .«last_round» .0)
-
--- what open tests by 1, but for the masks; the rotation comes behind it, by 17
-unfoldable pub validOpening : Replica → (log : List ℕ) → Bool
-validOpening r log = validLimits (setupOf r) && validOwn r && validLog r log
 
 -- the record with its log
 unfoldable pub validReplica : Replica → (log : List ℕ) → Bool

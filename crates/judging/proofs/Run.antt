@@ -15,10 +15,9 @@ use Rattle.apollo.specs.declared.Setup.{Setup}
 use Rattle.apollo.specs.declared.Verdict.{Verdict}
 use Rattle.apollo.specs.Frame.{round, linked, frames}
 use Rattle.apollo.specs.Judging.{verdict, noRefusal}
-use Rattle.apollo.specs.BlockRun.{childOf, follows, faulty, judgedRun}
+use Rattle.apollo.specs.BlockRun.{childOf, faulty, judgedNext, judgedRun}
 use Rattle.apollo.proofs.Frames.{frames-split}
 use Rattle.frame.proofs.Frames.{rest, rest-next, rest-end, frame-part}
-use Rattle.judging.specs.Run.{judgedNext}
 
 module _ (p x : List ℕ) (b : Bool) (d : b ≡ linked p x) where
   pub no-child : b ≡ false → false ≡ childOf p x
@@ -30,16 +29,16 @@ module _ (p x : List ℕ) (b : Bool) (d : b ≡ linked p x) where
   child q r t e f = rw (← d, t, e, f)
 
 module _ (s : Setup) (x : List ℕ) (k : ℕ) (d : k ≡ faulty sha256 s x) where
-  pub next-faulty : (p : Option (List ℕ)) → (k ≡ 0 → ⊥) → k ≡ judgedNext s p x
+  pub next-faulty : (p : Option (List ℕ)) → (k ≡ 0 → ⊥) → k ≡ judgedNext sha256 s p x
   unfolding judgedNext
   next-faulty p n = rw (← d, ne-eqb k 0 n)
 
-  pub next-child : (p : List ℕ) (b : Bool) → k ≡ 0 → b ≡ childOf p x → cond b 0 9 ≡ judgedNext s (some p) x
+  pub next-child : (p : List ℕ) (b : Bool) → k ≡ 0 → b ≡ childOf p x → cond b 0 9 ≡ judgedNext sha256 s (some p) x
   unfolding judgedNext
   next-child p b e f = rw (← d, eq-eqb k 0 e, f)
 
   -- behind nothing 9 does not come
-  pub next-any : k ≡ judgedNext s none x
+  pub next-any : k ≡ judgedNext sha256 s none x
   unfolding judgedNext
   next-any = d ∙ sym (go (eqb (faulty sha256 s x) 0) refl)
     where
@@ -48,27 +47,14 @@ module _ (s : Setup) (x : List ℕ) (k : ℕ) (d : k ≡ faulty sha256 s x) wher
       go false e = refl
 
 -- a step of judging, by what the next frame's number is
-module _ (s : Setup) (p : Option (List ℕ)) (x : List ℕ) (xs : List (List ℕ)) (i k : ℕ) (d : k ≡ judgedNext s p x) where
-  sound : (z c : Bool) → eqb (faulty sha256 s x) 0 ≡ z → cond z (cond c 0 9) (faulty sha256 s x) ≡ 0 → (v u w : Verdict)
-      → cond z (cond c v u) w ≡ v
-  sound true true e h v u w = refl
-  sound true false e h v u w = absurd (omega arith)
-  sound false c e h v u w = absurd (eqb-false (faulty sha256 s x) 0 e h)
-
-  refused : (z c : Bool) (m : ℕ) → (cond z (cond c 0 9) m ≡ 0 → ⊥) → (v : Verdict)
-      → cond z (cond c v (verdict 9 i)) (verdict m i) ≡ verdict (cond z (cond c 0 9) m) i
-  refused true true m n v = absurd (n refl)
-  refused true false m n v = refl
-  refused false c m n v = refl
-
+module _ (s : Setup) (p : Option (List ℕ)) (x : List ℕ) (xs : List (List ℕ)) (i k : ℕ) (d : k ≡ judgedNext sha256 s p x) where
   step-on : k ≡ 0 → judgedRun sha256 s i p (x ∷ xs) ≡ judgedRun sha256 s (i + 1) (some x) xs
-  unfolding judgedRun judgedNext
-  step-on z = sound (eqb (faulty sha256 s x) 0) (follows p x) refl (sym d ∙ z) _ _ _
+  unfolding judgedRun
+  step-on z = rw (← d, eq-eqb k 0 z)
 
   step-stop : (k ≡ 0 → ⊥) → judgedRun sha256 s i p (x ∷ xs) ≡ verdict k i
-  unfolding judgedRun judgedNext
-  step-stop n =
-      refused (eqb (faulty sha256 s x) 0) (follows p x) (faulty sha256 s x) (λ w. n (d ∙ w)) _ ∙ ap (λ m. verdict m i) (sym d)
+  unfolding judgedRun
+  step-stop n = rw (← d, ne-eqb k 0 n)
 
 -- along the frames
 module _ (s : Setup) (b : List ℕ) (n : ℕ) where
@@ -77,7 +63,7 @@ module _ (s : Setup) (b : List ℕ) (n : ℕ) where
     unfolding judgedRun frames
     run-none e = rw e
 
-    module _ (h : 0 < n) (k : ℕ) (d : k ≡ judgedNext s p (take frameSize b)) where
+    module _ (h : 0 < n) (k : ℕ) (d : k ≡ judgedNext sha256 s p (take frameSize b)) where
       pub run-first : (k ≡ 0 → ⊥) → verdict k 0 ≡ judgedRun sha256 s 0 p (frames n b)
       run-first z = sym (ap (judgedRun sha256 s 0 p) (frames-split n b h) ∙ step-stop s p (take frameSize b) _ 0 k d z)
 
@@ -85,9 +71,9 @@ module _ (s : Setup) (b : List ℕ) (n : ℕ) where
       run-start z = sym (ap (judgedRun sha256 s 0 p) (frames-split n b h) ∙ step-on s p (take frameSize b) _ 0 k d z)
 
   module _ (i k : ℕ) (goal : Verdict) (h : 1 ≤ i) (g : i < n)
-      (d : k ≡ judgedNext s (some (take (frameSize * i - (frameSize * i - frameSize)) (drop (frameSize * i - frameSize) b))) (take (frameSize * i + frameSize - frameSize * i) (drop (frameSize * i) b)))
+      (d : k ≡ judgedNext sha256 s (some (take (frameSize * i - (frameSize * i - frameSize)) (drop (frameSize * i - frameSize) b))) (take (frameSize * i + frameSize - frameSize * i) (drop (frameSize * i) b)))
       (e : judgedRun sha256 s i (some (part b (frameSize * (i - 1)) frameSize)) (rest b n i) ≡ goal) where
-    next-is : k ≡ judgedNext s (some (part b (frameSize * (i - 1)) frameSize)) (part b (frameSize * i) frameSize)
+    next-is : k ≡ judgedNext sha256 s (some (part b (frameSize * (i - 1)) frameSize)) (part b (frameSize * i) frameSize)
     next-is =
         let y : frameSize * i - (frameSize * i - frameSize) ≡ frameSize = omega arith in
         let z : frameSize * i - frameSize ≡ frameSize * (i - 1) = omega arith in

@@ -13,9 +13,9 @@ ghost use Rattle.apollo.specs.Size.{frameSize};
 ghost use Rattle.apollo.specs.Frame.{framesOf};
 ghost use Rattle.apollo.specs.Judging.{judgedEach};
 ghost use Rattle.apollo.specs.BlockRun as BlockRun;
-ghost use Rattle.apollo.specs.BlockRun.{judgedRun};
+ghost use Rattle.apollo.specs.BlockRun.{judgedNext, judgedRun};
 ghost use Rattle.frame_forms.specs.Forms.{formOf};
-ghost use Rattle.judging.specs.Run.{startOf, judgedNext};
+ghost use Rattle.judging.specs.Starts.{startOf};
 
 // What the first frame of a run must follow.
 pub enum Start {
@@ -60,7 +60,7 @@ fn is_child(p: &[u8], x: &[u8]) -> bool
 
 // 7, 8 and 9 of frame x behind frame p.
 fn judge_next(s: Setup, p: &[u8], x: &[u8]) -> u8
-    ensures { λ k. ⌜ k ≡ judgedNext s (some (now (p .entry))) (now (x .entry)) ⌝ }
+    ensures { λ k. ⌜ k ≡ judgedNext sha256 s (some (now (p .entry))) (now (x .entry)) ⌝ }
 {
     let fault = frame_forms::fault(Form::Block, s, x);
     if fault != 0 {
@@ -75,7 +75,7 @@ fn judge_next(s: Setup, p: &[u8], x: &[u8]) -> u8
 
 // 7, 8 and 9 of the first frame.
 fn judge_first(s: Setup, start: Start, x: &[u8]) -> u8
-    ensures { λ k. ⌜ k ≡ judgedNext s (startOf start) (now (x .entry)) ⌝ }
+    ensures { λ k. ⌜ k ≡ judgedNext sha256 s (startOf start) (now (x .entry)) ⌝ }
 {
     match start {
         Start::AnyParent => frame_forms::fault(Form::Block, s, x),

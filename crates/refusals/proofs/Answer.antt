@@ -5,20 +5,16 @@ use mathlib.Core.List.{List}
 use Prim.Native.Nat.{ℕ, _+_, _*_}
 use lib.Dec.{eqb, ltb}
 use lib.ListN.{length}
-use native.Mathlib.Omega.{arith}
-use borrow.Author.Tests.{not-false}
 use Rattle.sha256.specs.Fips.{sha256}
 use Rattle.apollo.specs.Size.{frameSize}
 use Rattle.apollo.specs.declared.Replica.{Replica}
-use Rattle.apollo.specs.Rotation.{isRotation}
-use Rattle.apollo.specs.Setup.{setupOf, replicas, validRotation}
-use Rattle.apollo.proofs.Tests.{and-first}
-use Rattle.apollo.proofs.Rotation.{padded-same}
-use Rattle.apollo.proofs.Validity.{ValidOpening, valid-opening}
+use Rattle.apollo.specs.Setup.{setupOf, setupNumber}
 use Rattle.apollo.specs.Bytes.{zeros}
 use Rattle.apollo.specs.declared.Verdict.{Verdict}
 use Rattle.apollo.specs.Judging.{verdict}
-use Rattle.apollo.specs.Replica.{fresh, zeroReplica, validOpening, validReplica, validMasks}
+use Rattle.apollo.specs.Replica.{fresh, zeroReplica, validOwn, validLog, validReplica, validMasks}
+use Rattle.setup_ranges.specs.Number.{lentNumber}
+use Rattle.setup_ranges.proofs.Number.{lent-is}
 use Rattle.apollo.specs.Enter.{State, enterRound}
 use Rattle.apollo.specs.Outcome.{Outcome, refused, taken, guarded}
 use Rattle.apollo.specs.Open.{openWith}
@@ -39,18 +35,17 @@ abbrev pub by-number : (n : ℕ) (o : Outcome) (f : ℕ → Outcome) → Outcome
 by-number n o f = cond (eqb n 0) o (f n)
 
 -- chains of tests, and the number of each
-rotation-chain : (b c d : Bool) (o : Outcome) (f : ℕ → Outcome)
-    → cond b (f 17) (cond c (f 4) (cond d (f 5) o)) ≡ by-number (cond b 17 (cond c 4 (cond d 5 0))) o f
-rotation-chain true c d o f = refl
-rotation-chain false true d o f = refl
-rotation-chain false false true o f = refl
-rotation-chain false false false o f = refl
+room-chain : (c d : Bool) (o : Outcome) (f : ℕ → Outcome) → cond c (f 4) (cond d (f 5) o) ≡ by-number (cond c 4 (cond d 5 0)) o f
+room-chain true d o f = refl
+room-chain false true o f = refl
+room-chain false false o f = refl
 
--- 17 is tested as b where 1 has passed
-open-chain : (a b t c d : Bool) (o : Outcome) (f : ℕ → Outcome) → (a ≡ false → b ≡ t)
-    → cond a (f 1) (cond t (f 17) (cond c (f 4) (cond d (f 5) o))) ≡ by-number (cond a 1 (cond b 17 (cond c 4 (cond d 5 0)))) o f
-open-chain true b t c d o f h = refl
-open-chain false b t c d o f h = rw (h refl) (rotation-chain t c d o f)
+-- n is the set-up's number
+open-chain : (a : Bool) (n : ℕ) (z c d : Bool) (o : Outcome) (f : ℕ → Outcome) → eqb n 0 ≡ z
+    → cond a (f 1) (cond (not z) (f n) (cond c (f 4) (cond d (f 5) o))) ≡ by-number (cond a 1 (cond (not z) n (cond c 4 (cond d 5 0)))) o f
+open-chain true n z c d o f e = refl
+open-chain false n true c d o f e = room-chain c d o f
+open-chain false n false c d o f e = rw e
 
 guard-chain : (a b c d : Bool) (o : Outcome) (f : ℕ → Outcome)
     → cond a (f 2) (cond b (f 3) (cond c (f 4) (cond d (f 5) o))) ≡ by-number (cond a 2 (cond b 3 (cond c 4 (cond d 5 0)))) o f
@@ -84,21 +79,19 @@ module _ (id f timeout last : ℕ) (rotation log masks entry out : List ℕ) whe
   abbrev r : Replica
   r = fresh id f timeout last rotation
 
-  same-rotation : not (validOpening r log && validMasks r masks) ≡ false
-      → not (eqb (length rotation) (replicas (setupOf r)) && validRotation (setupOf r)) ≡ not (isRotation (replicas (setupOf r)) rotation)
-  same-rotation e =
-      let v : ValidOpening r log =
-      valid-opening r log (and-first (validOpening r log) (validMasks r masks) (not-false (validOpening r log && validMasks r masks) e)) in
-      ap not (padded-same (setupOf r) rotation (omega (arith, v .f-most)) (unfold fresh in refl))
+  setup-is : lentNumber (setupOf r) (length rotation) ≡ setupNumber f last rotation
+  unfolding fresh
+  setup-is = lent-is f last rotation
 
   pub open-by : openWith sha256 id f timeout last rotation log masks entry out
       ≡ by-number (openNumber r (length rotation) log masks (length entry) (length out))
       (taken (enterRound sha256 entry new) out) (λ n. refused closed out n 0)
   unfolding openWith openNumber roomNumber
   open-by =
-      open-chain (not (validOpening r log && validMasks r masks)) _ (not (isRotation (replicas (setupOf r)) rotation))
-      (ltb (length out) 1024) (ltb 400 (length entry)) (taken (enterRound sha256 entry new) out) (λ n. refused closed out n 0)
-      same-rotation
+      rw setup-is
+      (open-chain (not (validOwn r && validLog r log && validMasks r masks)) (setupNumber f last rotation)
+      (eqb (setupNumber f last rotation) 0) (ltb (length out) 1024) (ltb 400 (length entry)) (taken (enterRound sha256 entry new) out)
+      (λ n. refused closed out n 0) refl)
 
 module _ (s : State) (entry out : List ℕ) where
   abbrev number : ℕ

@@ -1,17 +1,16 @@
 -- The numbers by the code's tests. Assumes nothing.
-use mathlib.Core.Path.{_≡_, refl}
-use mathlib.Core.Bool.{Bool, true, false, _&&_, not, cond}
+use mathlib.Core.Path.{_≡_}
+use mathlib.Core.Bool.{Bool, true, false, _&&_, not}
 use mathlib.Core.List.{List}
 use Prim.Native.Nat.{ℕ, _+_, _≤_, _<_}
-use native.Mathlib.Omega.{arith}
 use lib.Dec.{eqb}
 use borrow.Author.Tests.{eq-eqb, ne-eqb, lt-ltb, le-ltb, not-true, not-false}
 use Rattle.apollo.specs.declared.Replica.{Replica}
 use Rattle.apollo.specs.declared.Setup.{Setup}
 use Rattle.apollo.specs.declared.Verdict.{Verdict}
 use Rattle.apollo.specs.Judging.{verdict}
-use Rattle.apollo.specs.Setup.{setupOf, replicas, validRotation, validLimits}
-use Rattle.apollo.specs.Replica.{validRecord, validOwn, validLog, validOpening, validMasks}
+use Rattle.apollo.specs.Setup.{setupOf}
+use Rattle.apollo.specs.Replica.{validRecord, validOwn, validLog, validMasks}
 use Rattle.setup_ranges.specs.Number.{lentNumber}
 use Rattle.branch.specs.declared.Judged.{Judged}
 use Rattle.branch.specs.Judge.{refusal, judgedBranch}
@@ -34,44 +33,25 @@ module _ (entry out : ℕ) where
   unfolding roomNumber
   room-none h g = rw (le-ltb out 1024 h, le-ltb 400 entry g)
 
--- the tests of 1 and of 17, in the set-up's number and in open's
-unlent : (c o l m : Bool) (k : ℕ) → not (o && l && m) ≡ true → 1 ≡ cond (not (c && o && l && m)) 1 k
-unlent true o l m k t = rw (not-true (o && l && m) t)
-unlent false o l m k t = refl
-
-by-setup : (c t o l m : Bool) (n k : ℕ) → n ≡ cond (not c) 1 (cond (not t) 17 0) → not (o && l && m) ≡ false → (n ≡ 0 → ⊥)
-    → n ≡ cond (not (c && o && l && m)) 1 (cond (not t) 17 k)
-by-setup true true o l m n k e f h = absurd (h e)
-by-setup true false o l m n k e f h = rw (not-false (o && l && m) f) e
-by-setup false t o l m n k e f h = e
-
-by-room : (c t o l m : Bool) (n k q : ℕ) → n ≡ cond (not c) 1 (cond (not t) 17 0) → not (o && l && m) ≡ false → n ≡ 0 → q ≡ k
-    → q ≡ cond (not (c && o && l && m)) 1 (cond (not t) 17 k)
-by-room true true o l m n k q e f z g = rw (not-false (o && l && m) f) g
-by-room true false o l m n k q e f z g = absurd (omega arith)
-by-room false t o l m n k q e f z g = absurd (omega arith)
-
 module _ (r : Replica) (log masks : List ℕ) (entry out : ℕ) where
   -- 1 and 17, by the set-up's own number and the other tests of 1
   module _ (size n : ℕ) (s : Setup) (es : s ≡ setupOf r) (en : n ≡ lentNumber s size) (o l m : Bool) (eo : o ≡ validOwn r)
       (el : l ≡ validLog r log) (em : m ≡ validMasks r masks) where
-    pub open-lent : not (o && l && m) ≡ true → 1 ≡ openNumber r size log masks entry out
-    unfolding openNumber validOpening
-    open-lent t = rw (← eo, ← el, ← em) (unlent (validLimits (setupOf r)) o l m _ t)
-
     number-is : n ≡ lentNumber (setupOf r) size
     number-is = rw es at en
 
+    pub open-lent : not (o && l && m) ≡ true → 1 ≡ openNumber r size log masks entry out
+    unfolding openNumber
+    open-lent t = rw (← eo, ← el, ← em, not-true (o && l && m) t)
+
     module _ (t : not (o && l && m) ≡ false) where
       pub open-setup : (n ≡ 0 → ⊥) → n ≡ openNumber r size log masks entry out
-      unfolding openNumber validOpening lentNumber
-      open-setup h =
-          rw (← eo, ← el, ← em) (by-setup (validLimits (setupOf r)) (eqb size (replicas (setupOf r)) && validRotation (setupOf r)) o l m n _ number-is t h)
+      unfolding openNumber
+      open-setup h = rw (← eo, ← el, ← em, ← number-is, not-false (o && l && m) t, ne-eqb n 0 h)
 
       pub open-room : (k : ℕ) → n ≡ 0 → k ≡ roomNumber entry out → k ≡ openNumber r size log masks entry out
-      unfolding openNumber validOpening lentNumber
-      open-room k z e =
-          rw (← eo, ← el, ← em) (by-room (validLimits (setupOf r)) (eqb size (replicas (setupOf r)) && validRotation (setupOf r)) o l m n _ k number-is t z e)
+      unfolding openNumber
+      open-room k z e = rw (← eo, ← el, ← em, ← number-is, not-false (o && l && m) t, eq-eqb n 0 z) e
 
   -- 2 and 3
   module _ (a l b : Bool) (el : l ≡ validLog r log) (eb : b ≡ validMasks r masks) where

@@ -11,11 +11,13 @@ use Rattle.apollo.specs.declared.Replica.{Replica}
 use Rattle.apollo.specs.declared.Verdict.{Verdict}
 use Rattle.apollo.specs.Frame.{framesOf}
 use Rattle.apollo.specs.Judging.{verdict}
-use Rattle.apollo.specs.Setup.{setupOf, replicas, validRotation}
-use Rattle.apollo.specs.Replica.{validOpening, validReplica, validMasks}
+use Rattle.apollo.specs.Setup.{setupOf}
+use Rattle.apollo.specs.Replica.{validOwn, validLog, validReplica, validMasks}
 use Rattle.apollo.proofs.Validity.{ValidOpening, Valid}
-use Rattle.apollo.proofs.Tests.{and-first, and-second}
+use Rattle.apollo.proofs.Tests.{and-first, and-second, and-true}
 use Rattle.apollo.proofs.Validity.{valid-opening, valid}
+use Rattle.setup_ranges.specs.Number.{lentNumber}
+use Rattle.setup_ranges.proofs.Number.{lent-limits}
 use Rattle.branch.specs.declared.Judged.{Judged}
 use Rattle.branch.specs.Judge.{refusal, judgedBranch}
 use Rattle.blame_set.specs.Set.{HaveBits, judgedSet}
@@ -27,6 +29,10 @@ use Rattle.refusals.specs.Branch.{guardedBranch}
 -- with the number 0 every test failed
 nonzero : (n : ℕ) → suc n ≡ 0 → ⊥
 nonzero n e = omega arith
+
+setup-passed : (z : Bool) (n k : ℕ) → eqb n 0 ≡ z → cond (not z) n k ≡ 0 → (n ≡ 0) × (k ≡ 0)
+setup-passed true n k e h = (eqb-true n 0 e, h)
+setup-passed false n k e h = absurd (eqb-false n 0 e h)
 
 first-failed : (a : Bool) (m n : ℕ) → cond a (suc m) n ≡ 0 → (a ≡ false) × (n ≡ 0)
 first-failed true m n e = absurd (nonzero m e)
@@ -67,14 +73,16 @@ module _ (r : Replica) (log masks : List ℕ) (entry out : ℕ) where
   pub opened : (size : ℕ) → openNumber r size log masks entry out ≡ 0 → Opened r log masks entry out
   unfolding openNumber
   opened size e =
-      let turns = not (eqb size (replicas (setupOf r)) && validRotation (setupOf r)) in
-      let p = first-failed (not (validOpening r log && validMasks r masks)) 0 (cond turns 17 (roomNumber entry out)) e in
-      let t = first-failed turns 16 (roomNumber entry out) (p .1) in
-      let v = not-false (validOpening r log && validMasks r masks) (p .0) in
+      let lent = not (validOwn r && validLog r log && validMasks r masks) in
+      let setup : ℕ = lentNumber (setupOf r) size in
+      let p = first-failed lent 0 (cond (not (eqb setup 0)) setup (roomNumber entry out)) e in
+      let t = setup-passed (eqb setup 0) setup (roomNumber entry out) refl (p .1) in
+      let v = and-true (validOwn r && validLog r log) (validMasks r masks) (not-false (validOwn r && validLog r log && validMasks r masks) (p .0)) in
+      let w = and-true (validOwn r) (validLog r log) (v .0) in
       let q = room entry out (t .1) in
       record {
-        valid = valid-opening r log (and-first (validOpening r log) (validMasks r masks) v);
-        masks-size = eqb-true (length masks) (r .«last_round» .0) (and-second (validOpening r log) (validMasks r masks) v);
+        valid = valid-opening r log (lent-limits (setupOf r) size (t .0)) (w .0) (w .1);
+        masks-size = eqb-true (length masks) (r .«last_round» .0) (v .1);
         out-least = q .0;
         entry-most = q .1;
       }

@@ -12,6 +12,7 @@ use Rattle.apollo.specs.Bytes.{blank, within}
 use Rattle.apollo.specs.Rotation.{isRotation}
 use Rattle.apollo.specs.Setup.{setup, replicas, validRotation, validLimits, setupNumber}
 use Rattle.apollo.specs.Refusal.{badSetup, badRotation}
+use Rattle.apollo.proofs.Tests.{by-cond}
 use Rattle.apollo.proofs.Rotation.{padded-same}
 use Rattle.apollo.proofs.Validity.{limits}
 use Rattle.setup_ranges.specs.Number.{lentNumber}
@@ -30,6 +31,12 @@ module _ (s : Setup) (size : ℕ) (a : Bool) (ea : a ≡ within 1 (s .f) 7 && wi
     pub setup-good : not (eqb size (replicas s) && c) ≡ false → 0 ≡ lentNumber s size
     unfolding lentNumber validLimits validRotation
     setup-good u = rw (← ea, ← ec, not-false a t, not-false (eqb size (replicas s) && c) u)
+
+-- f and T of a set-up that passed
+pub lent-limits : (s : Setup) (size : ℕ) → lentNumber s size ≡ 0 → validLimits s ≡ true
+unfolding lentNumber
+lent-limits s size e =
+    by-cond (λ n. n ≡ 0 → validLimits s ≡ true) (not (validLimits s)) (λ _ v. absurd (omega (arith, v))) (λ l _. not-false _ l) e
 
 -- of f, T and a rotation as they were lent
 pub lent-is : (f last : ℕ) (rotation : List ℕ) → lentNumber (setup f last rotation) (length rotation) ≡ setupNumber f last rotation

@@ -8,22 +8,23 @@ use native.Mathlib.Omega.{arith}
 use lib.ListN.{length, getD, replicate, getD-replicate, List·getD-eq-default, length-replicate}
 use lib.Dec.{leb, ltb, eqb}
 use lib.Pow.{pow-pos}
-use borrow.Author.Tests.{lt-leb, leb-true, leb-false, ltb-false, eqb-false, not-false}
+use borrow.Author.Tests.{lt-leb, leb-true, leb-false, ltb-false, eqb-true, eqb-false, not-true, not-false}
 use Rattle.sha256.specs.Fips.{sha256}
 use Rattle.apollo.specs.Size.{frameSize}
 use Rattle.apollo.specs.declared.Setup.{Setup}
 use Rattle.apollo.specs.Bytes.{zeros}
 use Rattle.apollo.specs.Rotation.{isRotation, padded}
+use Rattle.apollo.specs.Setup.{setupNumber}
 use Rattle.apollo.specs.Frame.{height, frames}
 use Rattle.apollo.specs.Log.{genesis, slot, filled}
 use Rattle.apollo.specs.Masks.{count, bit, mask, certified}
 use Rattle.apollo.proofs.Masks.{bit-zero}
-use Rattle.apollo.specs.Replica.{fresh, validOpening, validMasks}
+use Rattle.apollo.specs.Replica.{fresh, validOwn, validLog, validMasks}
 use Rattle.apollo.specs.Enter.{State, commitLimit, enterRound}
 use Rattle.apollo.specs.Outcome.{Outcome, refused, taken}
 use Rattle.apollo.specs.Open.{openWith}
 use Rattle.apollo.proofs.Rotation.{padded-valid}
-use Rattle.apollo.proofs.Validity.{ValidOpening, valid-opening}
+use Rattle.apollo.proofs.Validity.{ValidOpening, setup-number, setup-good, valid-opening}
 use Rattle.theorem_agreement.specs.Run.{Event, emitted, In, emittedBy}
 use Rattle.theorem_agreement.proofs.Tests.{clash, and-true, by-cond}
 use Rattle.theorem_agreement.proofs.Counts.{count-none}
@@ -130,12 +131,15 @@ module _ (s : Setup) (past : List Event) (i : ℕ) where
       }
 
   ranges : (id f timeout last : ℕ) (rotation log masks : List ℕ)
-      → (validOpening (fresh id f timeout last rotation) log && validMasks (fresh id f timeout last rotation) masks) ≡ true
-      → isRotation (2 * f + 1) rotation ≡ true → id ≡ i → f ≡ s .f → last ≡ s .«last_round» .0 → padded rotation ≡ s .rotation
+      → (validOwn (fresh id f timeout last rotation) && validLog (fresh id f timeout last rotation) log
+      && validMasks (fresh id f timeout last rotation) masks) ≡ true
+      → setupNumber f last rotation ≡ 0 → id ≡ i → f ≡ s .f → last ≡ s .«last_round» .0 → padded rotation ≡ s .rotation
       → Fixed s i id f timeout last (padded rotation)
   unfolding fresh
-  ranges id f timeout last rotation log masks v t ei ef el er =
-      let x : ValidOpening (fresh id f timeout last rotation) log = valid-opening _ log (and-true _ _ v .0) in
+  ranges id f timeout last rotation log masks v n ei ef el er =
+      let t = setup-good f last rotation n in
+      let o = and-true _ _ (and-true _ _ v .0) in
+      let x : ValidOpening (fresh id f timeout last rotation) log = valid-opening _ log (t .0) (o .0) (o .1) in
       record {
         id-is = ei;
         f-is = ef;
@@ -148,14 +152,14 @@ module _ (s : Setup) (past : List Event) (i : ℕ) where
         timeout-top = x .timeout-most;
         last-one = x .last-least;
         last-top = x .last-most;
-        turns = padded-valid s rotation (ap (λ k. isRotation (2 * k + 1) rotation) (sym ef) ∙ t) (omega (arith, x .f-most)) (sym er);
+        turns = padded-valid s rotation (ap (λ k. isRotation (2 * k + 1) rotation) (sym ef) ∙ t .1) (omega (arith, x .f-most)) (sym er);
       }
 
   module _ (id f timeout last : ℕ) (rotation log masks entry out : List ℕ) where
     abbrev new : State
     new = record { replica = fresh id f timeout last rotation; log = zeros (frameSize * last); masks = zeros last }
 
-    made : (validOpening (new .replica) log && validMasks (new .replica) masks) ≡ true → isRotation (2 * f + 1) rotation ≡ true
+    made : (validOwn (new .replica) && validLog (new .replica) log && validMasks (new .replica) masks) ≡ true → setupNumber f last rotation ≡ 0
         → length entry ≤ 400 → OpenFine id f last rotation (taken (enterRound sha256 entry new) out)
     unfolding taken
     made v t fits =
@@ -179,9 +183,11 @@ module _ (s : Setup) (past : List Event) (i : ℕ) where
     pub open-fine : Opens (openWith sha256 id f timeout last rotation log masks entry out)
     unfolding openWith fresh
     open-fine =
-        by-cond Opens (not (validOpening (new .replica) log && validMasks (new .replica) masks))
+        by-cond Opens (not (validOwn (new .replica) && validLog (new .replica) log && validMasks (new .replica) masks))
         (λ _. refusal id f last rotation _ out 1 refl refl refl)
-        (λ v. by-cond Opens (not (isRotation (2 * f + 1) rotation)) (λ _. refusal id f last rotation _ out 17 refl refl refl)
+        (λ v. by-cond Opens (not (eqb (setupNumber f last rotation) 0))
+        (λ e. refusal id f last rotation _ out _ (setup-number f last rotation (λ k. eqb k 2 ≡ false) refl refl refl)
+        (setup-number f last rotation (λ k. eqb k 12 ≡ false) refl refl refl) (not-true _ e))
         (λ t. by-cond Opens (ltb (length out) 1024) (λ _. refusal id f last rotation _ out 4 refl refl refl)
         (λ _. by-cond Opens (ltb 400 (length entry)) (λ _. refusal id f last rotation _ out 5 refl refl refl)
-        (λ l. made (not-false _ v) (not-false _ t) (ltb-false _ _ l)))))
+        (λ l. made (not-false _ v) (eqb-true _ _ (not-false _ t)) (ltb-false _ _ l)))))

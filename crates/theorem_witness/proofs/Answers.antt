@@ -8,16 +8,16 @@ use mathlib.Core.Bool.{true}
 use Rattle.sha256.specs.Fips.{sha256}
 use Rattle.apollo.specs.Bytes.{zeros, number2, number4, same}
 use Rattle.apollo.specs.Rotation.{seats, eachOnce, isRotation, padded}
-use Rattle.apollo.specs.Setup.{leader, validRotation, validLimits, validSetup}
+use Rattle.apollo.specs.Setup.{leader, validRotation, validLimits, validSetup, setupNumber}
 use Rattle.apollo.specs.Frame.{frames, wholeFrames, checked, blockForm, blameForm, linked, blockHead, blameHead, sealed, makeBlock, makeBlame}
 use Rattle.apollo.specs.Log.{genesis, slot, store, clearAbove, attach, highest}
 use Rattle.apollo.specs.Masks.{bit, setBit, count, certified, gap}
-use Rattle.apollo.specs.Replica.{withEquivocators, fresh, leads, validOwn, validRounds, validRecord, validOpening, validReplica}
+use Rattle.apollo.specs.Replica.{withEquivocators, fresh, leads, validOwn, validRounds, validRecord, validReplica}
 use Rattle.apollo.specs.Enter.{State, commitLimit, commit, tipped, waiting, hearing, holding, entered, ownBlock, proposing, enterRound, settle}
 use Rattle.apollo.specs.Judging.{fault, judgedEach}
 use Rattle.apollo.specs.Outcome.{Outcome, taken, guarded}
 use Rattle.apollo.specs.Open.{openWith}
-use Rattle.apollo.specs.BlockRun.{lastOf, childOf, judgedRun}
+use Rattle.apollo.specs.BlockRun.{lastOf, judgedNext, judgedRun}
 use Rattle.apollo.specs.Branch.{firstUncertified, storeAll, grown, adopting, placed, branched, branchWith}
 use Rattle.apollo.specs.Blame.{oneSet, anyFresh, addBlames, hearingAll, heard, handing}
 use Rattle.apollo.specs.Tick.{blaming, ticked, tickWith}
@@ -74,7 +74,7 @@ made c xs = taken (record { state = c; emitted = xs }) out
 
 -- all that computes, but for SHA-256 and the test of a check
 unfoldable pub all : Unit {0}
-unfolding out rotation log0 log1 log3 log4 stateAt made b1 b2 b2′ b3 b4 m0 m2 head1 head2 head2′ head3 head4 head-m0 head-m2 d1 d2 d2′ d3 d4 e0 e2 blockHead blameHead zeros number2 number4 same seats eachOnce isRotation padded leader validRotation frames wholeFrames blockForm blameForm linked sealed makeBlock makeBlame genesis slot store clearAbove attach highest bit setBit count certified gap fresh leads validLimits validSetup validOwn validRounds validRecord validOpening validReplica commitLimit commit tipped waiting hearing holding entered ownBlock proposing enterRound settle taken guarded openWith lastOf firstUncertified storeAll grown fault judgedEach judgedRun adopting placed branched branchWith oneSet anyFresh addBlames hearingAll heard handing blaming ticked tickWith conflicting accusing equivocationWith
+unfolding out rotation log0 log1 log3 log4 stateAt made b1 b2 b2′ b3 b4 m0 m2 head1 head2 head2′ head3 head4 head-m0 head-m2 d1 d2 d2′ d3 d4 e0 e2 blockHead blameHead zeros number2 number4 same seats eachOnce isRotation padded leader validRotation frames wholeFrames blockForm blameForm linked sealed makeBlock makeBlame genesis slot store clearAbove attach highest bit setBit count certified gap fresh leads validLimits validSetup validOwn validRounds validRecord setupNumber validReplica commitLimit commit tipped waiting hearing holding entered ownBlock proposing enterRound settle taken guarded openWith lastOf firstUncertified storeAll grown fault judgedEach judgedNext judgedRun adopting placed branched branchWith oneSet anyFresh addBlames hearingAll heard handing blaming ticked tickWith conflicting accusing equivocationWith
 all = tt
 
 -- Replica 1 opens.
