@@ -1,4 +1,4 @@
--- Demand 3's claim about a whole list of calls, and seven facts beyond it.
+-- Demand 3's claim about a whole list of calls, and facts beyond it.
 use Prim.Native.Nat.{ℕ, _+_, _*_, _≤_, _<_}
 use mathlib.Core.Path.{_≡_}
 use mathlib.Core.Logic.{_⊎_, _≢_}
