@@ -25,7 +25,7 @@ use Rattle.apollo.specs.BlockRun.{lastOf, childOf, block, blocks}
 use Rattle.apollo.specs.Branch.{firstUncertified, storeAll, grown, adopting, placed}
 use Rattle.apollo.specs.Calls.{branchCall}
 use Rattle.apollo.specs.BenchSheet.{turn, Callable, ParentIn, Item9, Item10, Held, number, place, newRound}
-use Rattle.apollo.proofs.Tests.{and-true, both, cond-true, cond-false, same-of, different}
+use Rattle.apollo.proofs.Tests.{both, cond-true, cond-false, same-of, different}
 use Rattle.apollo.proofs.Validity.{Valid, valid}
 use Rattle.apollo.proofs.Slots.{slot-length, length-store, store-same, store-other, length-clear, clear-low, clear-high, take-slots, slot-take}
 use Rattle.apollo.proofs.BlockRun.{block-length, blocks-parts, blocks-of, blocks-none, blocks-one}

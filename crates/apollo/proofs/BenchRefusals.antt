@@ -1,22 +1,21 @@
 -- Items 6 and 7 of the bench sheet: stale branches, and the length of the entry. Assumes nothing.
-use Prim.Native.Nat.{ℕ, _+_, _-_, _*_, _/_, _≤_}
+use Prim.Native.Nat.{ℕ, _-_, _*_, _/_, _≤_}
 use mathlib.Core.Path.{_≡_, ap}
 use mathlib.Core.List.{List, [], _∷_, flatten}
 use mathlib.Core.Option.{Option, none, some}
-use mathlib.Core.Bool.{Bool, true, not}
+use mathlib.Core.Bool.{true}
 use native.Mathlib.Omega.{arith}
 use lib.ListN.{length, take}
 use lib.Dec.{eqb, ltb}
 use Rattle.sha256.specs.Fips.{sha256}
 use Rattle.apollo.specs.Size.{frameSize}
 use Rattle.apollo.specs.Bytes.{same}
-use Rattle.apollo.specs.declared.Setup.{Setup}
 use Rattle.apollo.specs.Setup.{setupOf}
-use Rattle.apollo.specs.Frame.{round, frames, framesOf, wholeFrames, blockForm, blameForm, checked}
+use Rattle.apollo.specs.Frame.{round, frames, framesOf, wholeFrames, blameForm}
 use Rattle.apollo.specs.Log.{attach}
 use Rattle.apollo.specs.Enter.{State}
 use Rattle.apollo.specs.declared.Verdict.{Verdict}
-use Rattle.apollo.specs.Judging.{fault, judgedEach}
+use Rattle.apollo.specs.Judging.{judgedEach}
 use Rattle.apollo.specs.Outcome.{refused, taken}
 use Rattle.apollo.specs.BlockRun.{lastOf, blocks, judgedRun}
 use Rattle.apollo.specs.Branch.{firstUncertified, grown, placed, branched, branchWith}

@@ -16,7 +16,7 @@ use Rattle.apollo.specs.declared.Verdict.{Verdict}
 use Rattle.apollo.specs.Frame.{round, frames, blockForm, linked, checked}
 use Rattle.apollo.specs.Judging.{noRefusal, fault}
 use Rattle.apollo.specs.BlockRun.{childOf, follows, block, blocks, faulty, judgedNext, judgedRun}
-use Rattle.apollo.proofs.Tests.{and-true, both, by-cond, cond-true, cond-false}
+use Rattle.apollo.proofs.Tests.{and-true, both, by-cond, cond-false}
 use Rattle.apollo.proofs.Frames.{Whole}
 use Rattle.apollo.proofs.Fault.{fault-none, fault-number}
 

@@ -2,24 +2,21 @@
 -- Assumes nothing.
 use Prim.Native.Nat.{ℕ, zero, suc, _+_, _-_, _*_, _/_, _%_, _≤_, _<_}
 use mathlib.Core.Path.{_≡_, refl, sym, ap, _∙_, subst}
-use mathlib.Core.List.{List, [], _∷_, _++_, flatten}
+use mathlib.Core.List.{List, _∷_, flatten}
 use mathlib.Core.Option.{none, some}
 use mathlib.Core.Bool.{Bool, true, false, _&&_, not, cond}
 use native.Mathlib.Omega.{arith}
-use lib.ListN.{length, take, drop, length-append}
-use lib.Seq.{drop-at, take-at}
+use lib.ListN.{length}
 use lib.Dec.{eqb, ltb}
 use borrow.Author.Tests.{lt-ltb, le-ltb, eqb-true, eqb-false, eq-eqb, ne-eqb}
 use Rattle.sha256.specs.Fips.{sha256}
 use Rattle.apollo.specs.Size.{frameSize}
-use Rattle.apollo.specs.declared.Setup.{Setup}
 use Rattle.apollo.specs.Setup.{setupOf}
-use Rattle.apollo.specs.Frame.{round, frames, blockForm, linked, checked}
+use Rattle.apollo.specs.Frame.{round, frames, linked}
 use Rattle.apollo.specs.Log.{slot, filled, attach}
 use Rattle.apollo.specs.Replica.{validReplica, validMasks}
 use Rattle.apollo.specs.Enter.{State}
 use Rattle.apollo.specs.declared.Verdict.{Verdict}
-use Rattle.apollo.specs.Judging.{noRefusal, fault}
 use Rattle.apollo.specs.Outcome.{Outcome, refused, guarded}
 use Rattle.apollo.specs.BlockRun.{lastOf, blocks, judgedRun}
 use Rattle.apollo.specs.Branch.{placed, branched, branchWith}

@@ -5,16 +5,15 @@ use Prim.Native.Nat.{ℕ, zero, suc, _+_, _*_, _≤_, _<_}
 use mathlib.Core.Path.{_≡_}
 use mathlib.Core.List.{List, [], _∷_, _++_, flatten}
 use mathlib.Core.Option.{none}
-use mathlib.Core.Bool.{Bool, true, false, _&&_, cond}
+use mathlib.Core.Bool.{true, false, _&&_, cond}
 use lib.ListN.{length, take}
-use lib.Dec.{eqb}
 use Rattle.sha256.specs.Fips.{sha256}
 use Rattle.apollo.specs.Size.{entryMost, frameSize, outLeast}
 use Rattle.apollo.specs.declared.Replica.{Replica}
 use Rattle.apollo.specs.declared.Setup.{Setup}
 use Rattle.apollo.specs.Rotation.{inTurn, padded}
 use Rattle.apollo.specs.Setup.{setup, setupOf, leader, setupNumber}
-use Rattle.apollo.specs.Frame.{signer, round, blockForm, blameForm, linked, checked}
+use Rattle.apollo.specs.Frame.{signer, round, blameForm, linked, checked}
 use Rattle.apollo.specs.Log.{genesis, slot, filled}
 use Rattle.apollo.specs.Masks.{mask, addBlame, certified}
 use Rattle.apollo.specs.Replica.{fresh, validOwn, validLog, validMasks, validReplica}

@@ -2,6 +2,7 @@
 use Prim.Native.Nat.{ℕ, zero, suc, _+_, _-_, _*_}
 use mathlib.Core.List.{List}
 use mathlib.Core.Bool.{Bool, _&&_, not, cond}
+use denote.Ref.{RefT}
 use lib.Dec.{eqb, leb}
 use Rattle.apollo.specs.Size.{entryMost, frameSize}
 use Rattle.apollo.specs.declared.Replica.{Replica}
@@ -21,6 +22,10 @@ pub record ReadOutcome : Type 0 where
 abbrev pub partOf : (log : List ℕ) (number start length : ℕ) → ReadOutcome
 partOf log number start length =
     record { answer = record { number = number; start = start; length = length }; bytes = part log start length }
+
+-- where the bytes of a lent list x lie from `start` on: the block of memory that it lies in, and the offset there
+abbrev pub placeIn : RefT (List ℕ) → (start : ℕ) → ℕ × ℕ
+placeIn x start = (x .ptr .0, start + x .ptr .1)
 
 -- slot x is filled, with height h and an entry length of at most 400
 unfoldable pub readable : (x : List ℕ) (h : ℕ) → Bool

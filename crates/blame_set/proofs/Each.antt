@@ -1,11 +1,10 @@
 -- The frames of a set one by one: joined to the set, looked for in the masks, and added. Assumes nothing.
-use mathlib.Core.Path.{_≡_, sym, _∙_}
+use mathlib.Core.Path.{_≡_}
 use mathlib.Core.Bool.{Bool, true, false, _&&_, not}
 use mathlib.Core.List.{List}
 use Prim.Native.Nat.{ℕ, _+_, _-_, _*_, _≤_, _<_}
 use lib.Dec.{eqb}
 use lib.ListN.{take, drop}
-use borrow.Author.Tests.{eq-eqb, ne-eqb}
 use Rattle.apollo.specs.Size.{frameSize}
 use Rattle.apollo.specs.Bytes.{part}
 use Rattle.apollo.specs.Frame.{signer, round}

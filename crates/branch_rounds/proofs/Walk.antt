@@ -13,7 +13,6 @@ use Rattle.apollo.specs.Frame.{round}
 use Rattle.apollo.specs.Masks.{certified, gap}
 use Rattle.apollo.specs.Branch.{firstUncertified}
 use Rattle.frame.proofs.Frames.{rest, rest-next, rest-end, frame-part}
-use Rattle.branch_rounds.specs.declared.Gap.{Gap}
 use Rattle.branch_rounds.specs.declared.Gap.the-variants.{Uncertified, Closed}
 use Rattle.branch_rounds.specs.Answers.{gapAt}
 

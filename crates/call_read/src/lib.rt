@@ -8,7 +8,8 @@ ghost use Prim.Native.Nat.{_+_, _≤_, _<_};
 ghost use lib.ListN.{length};
 ghost use Rattle.apollo.specs.Bytes as Bytes;
 ghost use Rattle.apollo.specs.Calls.{readCall};
-ghost use Rattle.call_read.specs.Answers.{noPart, entryPart, placeIn};
+ghost use Rattle.call_read.specs.Answers.{noPart, entryPart};
+ghost use Rattle.apollo.specs.Read.{placeIn};
 
 fn no_part(number: u8) -> Part
     ensures { λ p. ⌜ p ≡ noPart number ⌝ }

@@ -14,7 +14,7 @@ use Rattle.apollo.specs.Judging.{verdict}
 use Rattle.apollo.specs.Setup.{setupOf}
 use Rattle.apollo.specs.Replica.{validOwn, validLog, validReplica, validMasks}
 use Rattle.apollo.proofs.Validity.{ValidOpening, Valid}
-use Rattle.apollo.proofs.Tests.{and-first, and-second, and-true}
+use Rattle.apollo.proofs.Tests.{and-first, and-true}
 use Rattle.apollo.proofs.Validity.{valid-opening, valid}
 use Rattle.setup_ranges.specs.Number.{lentNumber}
 use Rattle.setup_ranges.proofs.Number.{lent-limits}

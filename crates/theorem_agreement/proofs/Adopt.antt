@@ -8,11 +8,10 @@ use mathlib.Core.Bool.{true, _&&_}
 use native.Mathlib.Omega.{arith}
 use lib.ListN.{length}
 use lib.Dec.{eqb}
-use borrow.Author.Tests.{eqb-true, eqb-false, eq-eqb, leb-true, ltb-true}
+use borrow.Author.Tests.{eqb-true, eqb-false, eq-eqb, leb-true}
 use Rattle.sha256.specs.Fips.{sha256}
 use Rattle.apollo.specs.Size.{frameSize}
 use Rattle.apollo.specs.declared.Setup.{Setup}
-use Rattle.apollo.specs.declared.Verdict.{Verdict}
 use Rattle.apollo.specs.Setup.{leader}
 use Rattle.apollo.specs.Bytes.{same}
 use Rattle.apollo.specs.Frame.{kind, signer, round, height, digest, parent, blockForm, linked, checked}
@@ -28,7 +27,6 @@ use Rattle.theorem_agreement.proofs.Slots.{store-same, clear-low}
 use Rattle.theorem_agreement.proofs.Frames.{Whole}
 use Rattle.theorem_agreement.proofs.Chain.{Held, Joins, within}
 use Rattle.theorem_agreement.proofs.Stored.{Fact, Stored, store-stored, clear-stored}
-use Rattle.apollo.proofs.Fault.{fault-none}
 use Rattle.apollo.proofs.BlockRun.{block-of, block-parts, child-parts, blocks-parts, blocks-judged}
 
 pub linked-joins : (p x : List ℕ) → linked p x ≡ true → Joins p x

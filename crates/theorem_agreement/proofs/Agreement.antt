@@ -14,7 +14,7 @@ use Rattle.apollo.specs.Setup.{setup, replicas}
 use Rattle.apollo.specs.Frame.{signer, checked}
 use Rattle.apollo.specs.Log.{genesis, slot, chain}
 use Rattle.apollo.specs.Enter.{State, commitLimit}
-use Rattle.apollo.specs.Committed.{committed, Begins}
+use Rattle.apollo.specs.Committed.{committedList, committed, Begins}
 use Rattle.apollo.specs.Outcome.{Outcome}
 use Rattle.theorem_agreement.specs.Run.{Call, opening, act, handed, emitted, In, Seen, World, isOpen, present, start, framesIn, hand, after, opened, answer, callAt, step, run}
 use Rattle.apollo.specs.Calls.{openCall}
@@ -34,7 +34,7 @@ use Rattle.theorem_agreement.proofs.Honest.{Honest, same-limit, committ
 -- a list begins another with which its replica shares the slots up to the committed round
 begins : (c d : State) → c .replica .«committed_round» .0 ≤ d .replica .«committed_round» .0
     → ((q : ℕ) → 1 ≤ q → q ≤ c .replica .«committed_round» .0 → slot (c .log) q ≡ slot (d .log) q) → Begins (committed c) (committed d)
-unfolding committed
+unfolding committedList
 begins c d l e =
     let n : ℕ = c .replica .«committed_round» .0 in
     let r : Begins (chain (d .log) n) (chain (d .log) (d .replica .«committed_round» .0)) = chain-more (d .log) n _ l in
@@ -161,7 +161,7 @@ module _ (s : Setup) (correct : ℕ → Bool) (calls : List (ℕ × Call)) (p : 
 
   level-by : (i j : ℕ) (c d : State) → w .states i ≡ some c → w .states j ≡ some d → c .replica .round .0 ≡ d .replica .round .0
       → committed c ≡ committed d
-  unfolding committed
+  unfolding committedList
   level-by i j c d ec ed e =
       let k : c .replica .«committed_round» .0 ≡ d .replica .«committed_round» .0 =
       omega (arith, further i j c d ec ed (omega arith), further j i d c ed ec (omega arith)) in

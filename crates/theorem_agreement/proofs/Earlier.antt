@@ -6,7 +6,7 @@ use mathlib.Core.Option.{some}
 use mathlib.Core.List.{List, [], append-nil}
 use Rattle.apollo.specs.declared.Setup.{Setup}
 use Rattle.apollo.specs.Enter.{State}
-use Rattle.theorem_agreement.specs.Run.{Call, World, start, run}
+use Rattle.theorem_agreement.specs.Run.{Call, start, run}
 use Rattle.theorem_agreement.specs.Premises.{Each, Lawful}
 use Rattle.theorem_agreement.specs.Cases.{Had}
 use Rattle.theorem_agreement.proofs.Past.{Grows}

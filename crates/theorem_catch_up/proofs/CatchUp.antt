@@ -46,7 +46,7 @@ use Rattle.theorem_agreement.proofs.GoodRun.{stored-low, held-round, parts, fro
 use Rattle.theorem_agreement.proofs.Honest.{Honest, same-limit, no-revert}
 use Rattle.theorem_agreement.proofs.Agreement.{honest}
 use Rattle.theorem_agreement.proofs.Earlier.{has, had-good, had-rested, had-extends}
-use Rattle.theorem_catch_up.specs.CatchUp.{verdictOf, lacking, received, Shared, Answers, Continues, Common, CatchUp, CatchUpLater}
+use Rattle.theorem_catch_up.specs.CatchUp.{verdictOf, lacking, received, Answers, Continues, Common, CatchUp, CatchUpLater}
 
 -- a branch attaches to round k and, where all that it skips is certified, keeps what is committed
 pub record Extending (c : State) (k : ℕ) (x : List ℕ) (ys : List (List ℕ)) : Type 0 where

@@ -18,7 +18,7 @@ use Rattle.apollo.specs.Frame.{kind, signer, round, digest}
 use Rattle.apollo.specs.Log.{genesis, chain}
 use Rattle.apollo.specs.Masks.{count}
 use Rattle.apollo.specs.Enter.{State}
-use Rattle.apollo.specs.Committed.{committed}
+use Rattle.apollo.specs.Committed.{committedList, committed}
 use Rattle.apollo.specs.Outcome.{stateOf}
 use Rattle.apollo.specs.Calls.{blamesCall}
 use Rattle.theorem_agreement.specs.Run.{Act, branch, blame, blames, tick, equivocation, Call, opening, act, Event, handed, emitted, answered, In, Seen, World, isOpen, present, start, uncut, framesIn, emit, answer, run}
@@ -350,7 +350,7 @@ all-leave =
 
 -- replicas 0 and 2 have both committed the blocks of rounds 1 and 3
 pub commits : (committed marked-0 ≡ b1 ∷ b3 ∷ []) × (committed last-2 ≡ b1 ∷ b3 ∷ [])
-unfolding all last-0 marked-0 last-2 committed chain
+unfolding all last-0 marked-0 last-2 committedList chain
 commits = (refl, refl)
 
 -- The first ten, eight, seven, six and five calls meet the premises too.
@@ -429,6 +429,6 @@ had-waited = record { first = first-seven; rest = _; whole = refl; left = seven-
 -- nothing (`hear-set`).
 pub by-blames : (committed blaming-2 ≡ []) × (committed (stateOf (blamesCall blaming-2 (m2 ++ m0) [] out)) ≡ b1 ∷ [])
 by-blames = (
-  unfold all blaming-2 committed chain in refl,
-  ap (λ o. committed (stateOf o)) hear-set ∙ (unfold all skipped-2 committed chain in refl),
+  unfold all blaming-2 committedList chain in refl,
+  ap (λ o. committed (stateOf o)) hear-set ∙ (unfold all skipped-2 committedList chain in refl),
 )

@@ -4,7 +4,7 @@ use Prim.Native.Nat.{_+_, _≤_}
 use lib.ListN.{length}
 use Rattle.apollo.specs.declared.Part.{Part}
 use Rattle.apollo.specs.Bytes.{part}
-use Rattle.call_read.specs.Answers.{placeIn}
+use Rattle.apollo.specs.Read.{placeIn}
 use Rattle.call_read.proofs.Reading.{read-bytes, part-fits}
 use borrow.Author.Needs.{needs}
 use Rattle.call_read.proofs.read.Statement.{statement}
