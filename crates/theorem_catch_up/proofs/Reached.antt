@@ -83,5 +83,6 @@ taken-later =
       fetched = refl;
       waited = refl;
       more = omega arith;
+      begins-low = omega arith;
       taken = refl;
     }

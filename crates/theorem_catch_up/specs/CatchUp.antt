@@ -78,12 +78,15 @@ GrowsOn =
     (d e : State) → Begins (chain (d .log) (d .replica .«last_round» .0)) (chain (e .log) (e .replica .«last_round» .0))
     → (h : ℕ) → Begins (fetchable (d .replica) (d .log) h) (fetchable (e .replica) (e .log) h)
 
--- What d has above a block that both hold, all of it or a beginning (of one fetch, say), end to end, is answered so. Never with 2, 6, 7,
--- 8, 9, 11 or 12
-abbrev pub Continues : Type 0
-Continues =
+-- Of what d has above a block that both hold: x and ys are all of it or a beginning (of one fetch, say)
+abbrev pub OfShared : ((c : State) (k : ℕ) (x : List ℕ) (ys : List (List ℕ)) → Type 0) → Type 0
+OfShared P =
     OfLawful (λ s calls. TwoStates calls (λ c d. (k : ℕ) → Shared c d k → (x : List ℕ) (ys zs : List (List ℕ))
-    → beyond c d k ≡ x ∷ (ys ++ zs) → Answers c (flatten (x ∷ ys)) (received c k x ys)))
+    → beyond c d k ≡ x ∷ (ys ++ zs) → P c k x ys))
+
+-- End to end, it is answered so. Never with 2, 6, 7, 8, 9, 11 or 12
+abbrev pub Continues : Type 0
+Continues = OfShared (λ c k x ys. Answers c (flatten (x ∷ ys)) (received c k x ys))
 
 -- A blame for a round above R is early (14). After a 13 that is no dead end: the round that it names is at most R, or else the frames below
 -- that round, handed in by themselves, are taken, and then it is
@@ -95,9 +98,7 @@ NoDeadEnd c k x ys =
     × (q ≤ newRound (branchCall c (flatten (beneath q (x ∷ ys))) entry out)))
 
 abbrev pub Split : Type 0
-Split =
-    OfLawful (λ s calls. TwoStates calls (λ c d. (k : ℕ) → Shared c d k → (x : List ℕ) (ys zs : List (List ℕ))
-    → beyond c d k ≡ x ∷ (ys ++ zs) → NoDeadEnd c k x ys))
+Split = OfShared NoDeadEnd
 
 -- With the premises, c's committed block is such a one as soon as what d has above it reaches c's R
 abbrev pub Common : Type 0
@@ -168,7 +169,7 @@ pub record VerdictsCome : Type 0 where
   pub below-taken : number (branchCall (far .back .c) (flatten (beneath 2 (far .x ∷ far .ys))) [] out) ≡ 0
 
 -- Frames are answered 13, the committed round grows by the blames of the round named (document 02, F-2), and the same frames are taken: they
--- begin at or below it now, so that `CatchUp` does not speak of them any more
+-- begin at or below the committed height now, so that `CatchUp` does not speak of them any more
 pub record TakenLater : Type 0 where
   pub list : PremisesMet
   pub back : StateLeft list
@@ -181,4 +182,5 @@ pub record TakenLater : Type 0 where
   pub fetched : missing before (other .c) ≡ x ∷ ys
   pub waited : received before (before .replica .«committed_round» .0) x ys ≡ verdict notCertified 2
   pub more : before .replica .«committed_round» .0 < back .c .replica .«committed_round» .0
+  pub begins-low : height x ≤ back .c .replica .«committed_height» .0
   pub taken : received (back .c) (before .replica .«committed_round» .0) x ys ≡ noRefusal
