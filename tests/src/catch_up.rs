@@ -13,12 +13,16 @@
 //! committed nothing.
 //!
 //! While the premises hold, with nothing forged handed to the two either: the same of the giver's
-//! frames above the taker's committed height, so the giver holds that block or is behind.
+//! frames above the taker's committed height, so the giver holds that block or is behind. And of what
+//! was fetched earlier: of the frames that the giver had at any time above a height that the taker
+//! had committed at any time since it was opened, though it has committed more since.
+
+use std::cmp::Ordering;
 
 use crate::frame::{self, Frame, SIZE};
 use crate::library::Library;
 use crate::model::{block_in_form, filled, is_child, line_above, slots, unshown};
-use crate::model::{Answer, Fetched, Lent, LEAST_OUT};
+use crate::model::{Answer, Fetched, Lent, Record, LEAST_OUT};
 use crate::rng::Rng;
 use crate::runner::Side;
 
@@ -39,7 +43,7 @@ impl<'a> Card<'a> {
     }
 
     /// The frames of its line above a height.
-    fn above(&self, height: u32) -> Vec<Frame> {
+    pub fn above(&self, height: u32) -> Vec<Frame> {
         line_above(self.log(), height).copied().collect()
     }
 }
@@ -104,35 +108,55 @@ struct Start {
     height: u32,
 }
 
+impl Start {
+    /// The committed block.
+    fn committed(record: &Record) -> Start {
+        Start {
+            round: record.committed_round,
+            height: record.committed_height,
+        }
+    }
+}
+
 /// A card that comes back, and what the giver has for it.
 pub struct CatchUp<'a> {
     library: &'a dyn Library,
     taker: Card<'a>,
     giver: Card<'a>,
-    /// The taker's committed block, or one above that both hold.
+    /// The taker's committed block, one that it had committed, or one above that both hold.
     start: Start,
-    /// The giver's line above its height.
+    /// The giver's line above its height, that of now or an earlier one.
     frames: Vec<Frame>,
 }
 
 impl<'a> CatchUp<'a> {
     /// None if the giver has nothing for the taker above its committed height.
     pub fn new(library: &'a dyn Library, taker: Card<'a>, giver: Card<'a>) -> Option<Self> {
-        let record = &taker.side.record;
-        let start = Start {
-            round: record.committed_round,
-            height: record.committed_height,
-        };
-        CatchUp::above(library, taker, giver, start)
+        let start = Start::committed(&taker.side.record);
+        let frames = giver.above(start.height);
+        CatchUp::above(library, [taker, giver], start, frames)
+    }
+
+    /// What the giver had above the height that the taker had committed: a line of the one, and a
+    /// record of the other, from any two moments. None if that is nothing.
+    pub fn earlier(
+        library: &'a dyn Library,
+        cards: [Card<'a>; 2],
+        had: &Record,
+        line: &[Frame],
+    ) -> Option<Self> {
+        let start = Start::committed(had);
+        let above = |frame: &&Frame| frame::height(frame) > start.height;
+        let frames = line.iter().filter(above).copied().collect();
+        CatchUp::above(library, cards, start, frames)
     }
 
     fn above(
         library: &'a dyn Library,
-        taker: Card<'a>,
-        giver: Card<'a>,
+        [taker, giver]: [Card<'a>; 2],
         start: Start,
+        frames: Vec<Frame>,
     ) -> Option<Self> {
-        let frames = giver.above(start.height);
         (!frames.is_empty()).then_some(CatchUp {
             library,
             taker,
@@ -169,7 +193,8 @@ impl<'a> CatchUp<'a> {
             (_, 0) => rng.pick(&shared),
             (&highest, _) => highest,
         };
-        CatchUp::above(self.library, self.taker, self.giver, start)
+        let frames = self.giver.above(start.height);
+        CatchUp::above(self.library, [self.taker, self.giver], start, frames)
     }
 
     pub fn taker(&self) -> &'a Side {
@@ -182,6 +207,13 @@ impl<'a> CatchUp<'a> {
 
     pub fn frames(&self) -> &[Frame] {
         &self.frames
+    }
+
+    /// Whether the giver's line above the start still begins with the frames.
+    pub fn stands(&self) -> bool {
+        self.giver
+            .above(self.start.height)
+            .starts_with(&self.frames)
     }
 
     /// The taker's own line above the start.
@@ -217,7 +249,7 @@ impl<'a> CatchUp<'a> {
     }
 
     /// Hands in all frames, and fewer if there are several.
-    fn hand_in_some(&self, rng: &mut Rng) -> Result<Replies, String> {
+    pub fn hand_in_some(&self, rng: &mut Rng) -> Result<Replies, String> {
         let all = self.frames.len();
         let fewer = (all > 1).then(|| 1 + rng.below(all - 1));
         Ok(Replies {
@@ -314,10 +346,12 @@ impl<'a> CatchUp<'a> {
 
     /// What the frames are above.
     fn origin(&self) -> String {
-        if self.start.round == self.taker.side.record.committed_round {
-            return "its committed height".into();
+        let round = self.start.round;
+        match round.cmp(&self.taker.side.record.committed_round) {
+            Ordering::Less => format!("round {round}, up to which it had committed"),
+            Ordering::Equal => "its committed height".into(),
+            Ordering::Greater => format!("the shared block of round {round}"),
         }
-        format!("the shared block of round {}", self.start.round)
     }
 
     /// The frames below a round that is not shown are taken, and R is then no longer below it.

@@ -4,7 +4,7 @@
 use std::collections::BTreeMap;
 
 use crate::call::{Call, Head, What};
-use crate::catch_up::{CatchUp, Checked, Reply};
+use crate::catch_up::{CatchUp, Checked, Replies, Reply};
 use crate::changes;
 use crate::claims::Due;
 use crate::frame::{self, Frame, MOST_ENTRY, SIZE};
@@ -385,6 +385,16 @@ const FEWER: &str = "catching up, fewer frames";
 const NOT_SOUND: &str = "catching up, not sound";
 /// To frames above a block that both hold, above its committed one.
 const SHARED: &str = "catching up, shared block";
+/// To frames above a height that it had committed, where it has committed more since.
+const EARLIER: &str = "catching up, earlier";
+
+/// What has come since, where all these frames are taken, or stale.
+const SINCE: [&str; 4] = [
+    "giver's line another, taken",
+    "giver's line another, stale",
+    "frames below the committed, taken",
+    "committed by blames alone, taken",
+];
 
 /// How the giver's frames were fetched; the last two where the premises of the claims fail.
 const FETCHED_ON: [&str; 5] = [
@@ -601,9 +611,10 @@ impl Coverage {
         rows.extend(MADE_TWICE.map(|row| (OTHER_MARKS, row)));
         rows.extend(FETCHED_ON.map(|row| (CATCHING_UP, row)));
         rows.extend(TWO_CARDS.map(|row| (CATCHING_UP, row)));
-        for group in [ALL, FEWER, NOT_SOUND, SHARED] {
+        for group in [ALL, FEWER, NOT_SOUND, SHARED, EARLIER] {
             rows.extend(REPLIES.map(|row| (group, row)));
         }
+        rows.extend(SINCE.map(|row| (EARLIER, row)));
         rows.extend(SIZES.iter().map(|size| ("list", size.0)));
         Coverage {
             rows,
@@ -1291,6 +1302,24 @@ impl Coverage {
             self.replies(SHARED, &[replies.all]);
             self.replies(SHARED, replies.fewer.as_slice());
         }
+    }
+
+    /// Counts what was checked of frames above what a card had committed, if it has committed more.
+    pub fn catch_up_by_earlier(&mut self, between: &CatchUp, had: &Record, replies: &Replies) {
+        let (record, first) = (&between.taker().record, frame::round(&between.frames()[0]));
+        if had.committed_round == record.committed_round {
+            return;
+        }
+        self.replies(EARLIER, &[replies.all]);
+        self.replies(EARLIER, replies.fewer.as_slice());
+        let (taken, stands) = (replies.all == Reply::Taken, between.stands());
+        let reached = [
+            taken && !stands,
+            replies.all == Reply::Stale && !stands,
+            taken && first < record.committed_round,
+            taken && had.tip_round == record.tip_round,
+        ];
+        self.add_all(EARLIER, &zip(reached, SINCE));
     }
 
     fn two_cards(&mut self, between: &CatchUp, reply: Reply) {

@@ -8,6 +8,7 @@ pub mod claims;
 pub mod coverage;
 pub mod crash;
 pub mod drive;
+pub mod earlier;
 pub mod emit;
 pub mod fetches;
 pub mod ffi;

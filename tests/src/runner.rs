@@ -1,11 +1,12 @@
 //! Runs calls on the library and on the model and compares every byte after each, and two searches.
 //! Some calls are made with other marks too, on copies. After some calls, and at the end, a card
-//! catches up with another on copies.
+//! catches up with another on copies, by what that one has and by what it had earlier.
 
 use crate::call::{Call, Head, State, Step, What};
 use crate::catch_up::{Card, CatchUp, Due};
 use crate::claims::Claims;
 use crate::coverage::{Before, Coverage};
+use crate::earlier::Earlier;
 use crate::frame::{Frame, SIZE};
 use crate::library::{Library, Model};
 use crate::marks::{self, Other};
@@ -21,6 +22,8 @@ const SLACK: usize = 1024;
 const ABOVE: u32 = 3;
 /// One in so many calls is followed by a card's catching up.
 const CATCH_UPS: usize = 16;
+/// One in so many of these is tried with what was there earlier, too.
+const EARLIER: usize = 3;
 /// One in so many calls is made with other marks, too.
 const OTHER_MARKS: usize = 16;
 
@@ -213,6 +216,7 @@ pub struct Runner<'l> {
     /// T.
     term: u32,
     pub claims: Claims,
+    pub earlier: Earlier,
     pub calls: u64,
 }
 
@@ -238,6 +242,7 @@ impl<'l> Runner<'l> {
             stride: 37,
             term: head.term,
             claims: Claims::new(head),
+            earlier: Earlier::new(head.cards),
             calls: 0,
         }
     }
@@ -292,6 +297,7 @@ impl<'l> Runner<'l> {
         let due = self
             .claims
             .after(call, &outcome, &self.tried, out, search)?;
+        self.note_earlier(call, &outcome);
         self.catch_up_after(call, coverage)?;
         coverage.call(call, &before, &outcome, due);
         coverage.searches(&searched, &self.tried[call.card]);
@@ -428,6 +434,16 @@ impl<'l> Runner<'l> {
         })
     }
 
+    /// Keeps what a call left at a card for later.
+    fn note_earlier(&mut self, call: &Call, outcome: &Outcome) {
+        let card = Card {
+            number: call.card,
+            side: &self.tried[call.card],
+        };
+        let due = self.claims.catching_up_is_due_for(call.card, card.side);
+        self.earlier.after(call, outcome, card, due);
+    }
+
     /// After some calls the called card catches up with another or, more often, another with it;
     /// mostly that is the lawful card with the lowest R, of all or of those that are not sound.
     fn catch_up_after(&self, call: &Call, coverage: &mut Coverage) -> Result<(), String> {
@@ -446,7 +462,11 @@ impl<'l> Runner<'l> {
             3 => (unsound.unwrap_or(lowest), called),
             _ => (lowest, called),
         };
-        self.catch_up(taker, giver, &mut rng, coverage)
+        self.catch_up(taker, giver, &mut rng, coverage)?;
+        match rng.below(EARLIER) {
+            0 => self.catch_up_by_earlier(taker, giver, &mut rng, coverage),
+            _ => Ok(()),
+        }
     }
 
     /// The card with the lowest R of the lawful ones that fit, the called one left out.
@@ -461,8 +481,9 @@ impl<'l> Runner<'l> {
     pub fn end(&self, coverage: &mut Coverage) -> Result<(), String> {
         let cards = self.tried.len();
         (0..cards).try_for_each(|taker| {
-            let mut rng = Rng::new(taker as u64);
-            self.catch_up(taker, (taker + 1) % cards, &mut rng, coverage)
+            let (giver, mut rng) = ((taker + 1) % cards, Rng::new(taker as u64));
+            self.catch_up(taker, giver, &mut rng, coverage)?;
+            self.catch_up_by_earlier(taker, giver, &mut rng, coverage)
         })
     }
 
@@ -487,13 +508,44 @@ impl<'l> Runner<'l> {
         if due == Due::default() {
             return Ok(());
         }
-        let card = |number| Card {
-            number,
-            side: &self.tried[number],
-        };
-        if let Some(catch_up) = CatchUp::new(self.library, card(taker), card(giver)) {
+        let [back, other] = pair.map(|card| self.card(card));
+        if let Some(catch_up) = CatchUp::new(self.library, back, other) {
             let checked = catch_up.check(due, rng)?;
             coverage.catch_up(&catch_up, &checked, claims.are_due_for(taker));
+        }
+        Ok(())
+    }
+
+    fn card(&self, number: usize) -> Card<'_> {
+        Card {
+            number,
+            side: &self.tried[number],
+        }
+    }
+
+    /// The same by a line that the other has or had, above what the one had committed. The other need
+    /// not keep the rules any more, if it did when it had that line.
+    fn catch_up_by_earlier(
+        &self,
+        taker: usize,
+        giver: usize,
+        rng: &mut Rng,
+        coverage: &mut Coverage,
+    ) -> Result<(), String> {
+        let cards = [taker, giver].map(|card| self.card(card));
+        let [due, giver_due] =
+            cards.map(|card| self.claims.catching_up_is_due_for(card.number, card.side));
+        let had = self.earlier.record(taker, rng).filter(|_| due);
+        let line = match self.earlier.line(giver) {
+            Some(line) if !giver_due || rng.chance(75) => Some(line.to_vec()),
+            _ => giver_due.then(|| cards[1].above(0)),
+        };
+        let (Some(had), Some(line)) = (had, line) else {
+            return Ok(());
+        };
+        if let Some(catch_up) = CatchUp::earlier(self.library, cards, &had, &line) {
+            let replies = catch_up.hand_in_some(rng)?;
+            coverage.catch_up_by_earlier(&catch_up, &had, &replies);
         }
         Ok(())
     }

@@ -9,8 +9,8 @@ use beside::runner::Runner;
 use crate::blame::shows_with_f;
 use crate::blames::{takes_stale_sets, waits_for_its_own_round};
 use crate::branch::{
-    loose_above_the_committed_block, loose_on_the_committed_block, place_of_the_wrong_round,
-    takes_unshown_rounds, undoes, undone_on_the_committed_block,
+    loose_above_the_committed_block, loose_below_the_committed_block, loose_on_the_committed_block,
+    place_of_the_wrong_round, takes_unshown_rounds, undoes, undone_on_the_committed_block,
 };
 use crate::commit::{
     commits_by_the_tip, commits_nothing, commits_nothing_at_the_end, commits_one_round_early,
@@ -200,6 +200,15 @@ fn runs_on_shared_blocks_find_slips_by_themselves() {
     let library = Replaced::machine(loose_above_the_committed_block);
     claims_find("11", &library, true, 1, "above the shared block of round");
     assert!(failures(&library, false).next().is_none());
+}
+
+/// What a card has for another now does not show this, nor does any claim about sound cards.
+#[test]
+fn what_was_fetched_earlier_finds_slips_by_itself() {
+    let library = Replaced::machine(loose_below_the_committed_block);
+    for rules in [true, false] {
+        claims_find("11", &library, rules, 1, "up to which it had committed");
+    }
 }
 
 /// Whoever is sound, and with no claim about every card.

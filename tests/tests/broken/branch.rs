@@ -155,6 +155,13 @@ pub fn loose_above_the_committed_block(ask: &Ask, lent: Lent) -> Answer {
     })
 }
 
+/// On a block below the committed one, so with committed frames again.
+pub fn loose_below_the_committed_block(ask: &Ask, lent: Lent) -> Answer {
+    instead_on(ask, lent, 11, |record, round| {
+        round < record.committed_round
+    })
+}
+
 pub fn place_of_the_wrong_round(ask: &Ask, lent: Lent) -> Answer {
     let mut answer = honest(ask, lent);
     if answer.number == 13 {

@@ -1,11 +1,14 @@
 //! A card that comes back.
 
+use std::collections::BTreeSet;
+
 use beside::call::What;
 use beside::catch_up::Reply;
 use beside::frame::{block, name, round, signer, GENESIS, SIZE};
 use beside::library::{Library, Model};
-use beside::model::{slots, Answer, Lent, Record};
+use beside::model::{slots, Answer, Lent, Record, Setup};
 use beside::replaced::{again, honest, Ask, Replaced};
+use beside::rng::Rng;
 
 use crate::common::{Cards, FORGED, HOLDS};
 
@@ -74,17 +77,23 @@ fn the_frames_before_a_skipped_round_bring_r_to_it() {
     assert_eq!(cards.hand_in(4, 3, 2), Err(message.into()));
 }
 
+fn refusal(number: u8, record: Record) -> Answer {
+    Answer {
+        number,
+        place: 0,
+        frames: 0,
+        leader: 255,
+        record,
+    }
+}
+
 /// Refuses a branch that ends in the round waited for.
 fn stale_at_r(ask: &Ask, lent: Lent) -> Answer {
     let record = ask.record();
     match ask {
-        Ask::Branch(_, bytes) if slots(bytes).last().map(round) == Some(record.round) => Answer {
-            number: 10,
-            place: 0,
-            frames: 0,
-            leader: 255,
-            record,
-        },
+        Ask::Branch(_, bytes) if slots(bytes).last().map(round) == Some(record.round) => {
+            refusal(10, record)
+        }
         _ => honest(ask, lent),
     }
 }
@@ -106,6 +115,91 @@ fn the_first_frames_count_by_themselves() {
                    answered (10, 0), not (0, 0)";
     assert_eq!(cards.hand_in(4, 1, 3), Ok(Reply::Taken));
     assert_eq!(cards.hand_in(4, 1, 1), Err(message.into()));
+}
+
+/// f = 1, card 2 is silent, and cards 0 and 1 hold blocks 1 and 2. Card 0 passes over round 3 with a
+/// blame of card 2, and puts out block 4.
+fn ahead_of_card_1() -> Cards<'static> {
+    let mut cards = Cards::open(1, &[0, 1], 0b011, &Model);
+    let first = cards.line(0, 0);
+    assert_eq!(cards.branch(1, &first), 0);
+    let second = cards.line(1, 1);
+    assert_eq!(cards.branch(0, &second), 0);
+    assert_eq!(cards.step(0, What::Tick), 0);
+    assert_eq!(cards.blames(0, 3, &[2]), 0);
+    cards
+}
+
+/// Answers 12 to a branch that brings a committed frame again.
+fn undone_by_committed_frames(ask: &Ask, lent: Lent) -> Answer {
+    let record = ask.record();
+    match ask {
+        Ask::Branch(_, bytes) if round(&slots(bytes)[0]) <= record.committed_round => {
+            refusal(12, record)
+        }
+        _ => honest(ask, lent),
+    }
+}
+
+/// The blames after a 13 commit block 2. What was fetched before begins with it, and is taken.
+#[test]
+fn frames_fetched_before_blames_are_taken_after_them() {
+    let slip = Replaced::machine(undone_by_committed_frames);
+    let mut cards = ahead_of_card_1();
+    let had = cards.record(1);
+    assert_eq!((had.round, had.committed_round), (3, 1));
+    let fetched = cards.line(0, had.committed_height);
+    assert_eq!(fetched.iter().map(round).collect::<Vec<_>>(), [2, 4]);
+    let told = |cards: &Cards| cards.hand_in_earlier([1, 0], &had, &fetched);
+    assert_eq!(told(&cards), Ok(Reply::Unshown(3)));
+    assert_eq!(cards.branch(1, &fetched), 13);
+    assert_eq!(cards.blames(1, 3, &[0, 2]), 0);
+    assert_eq!(cards.record(1).committed_round, 2);
+    assert_eq!(cards.between(1, 0).frames(), &fetched[1..]);
+    assert_eq!(told(&cards), Ok(Reply::Taken));
+    cards.library = &slip;
+    let message = "claim: card 1, handed 2 of 2 frames of card 0 above round 1, up to which it \
+                   had committed, answered (12, 0), not (0, 0)";
+    assert_eq!(cards.hand_in(1, 0, 1), Ok(Reply::Taken), "not of now");
+    assert_eq!(told(&cards), Err(message.into()));
+    cards.library = &Model;
+    assert_eq!(cards.branch(1, &fetched), 0);
+    assert_eq!((&cards.line(1, 1)[..2], cards.round(1)), (&fetched[..], 6));
+    assert_eq!(told(&cards), Ok(Reply::Stale));
+    assert_eq!(cards.end(), HOLDS);
+}
+
+/// What card 2 had committed before it was opened again does not count, as it has lost that.
+#[test]
+fn a_card_that_is_opened_again_had_nothing() {
+    let mut cards = Cards::open(1, &[0, 1, 2], 0b011, &Model);
+    let first = cards.line(0, 0);
+    assert_eq!(cards.branch(1, &first), 0);
+    let frames = cards.line(1, 0);
+    assert_eq!(cards.branch(2, &frames), 0);
+    let had = cards.record(2);
+    let rounds = |cards: &Cards| {
+        let record = |seed| cards.runner.earlier.record(2, &mut Rng::new(seed));
+        let records = (0..20).filter_map(record);
+        BTreeSet::from_iter(records.map(|record| record.committed_round))
+    };
+    assert_eq!((had.committed_round, rounds(&cards)), (2, [0, 2].into()));
+    let setup = Setup {
+        own: 2,
+        f: 1,
+        wait: 1,
+        term: 8,
+    };
+    let seats = cards.head.seats().to_vec();
+    assert_eq!(cards.step(2, What::Open(setup, seats)), 0);
+    assert_eq!(rounds(&cards), [0].into());
+    assert_eq!(cards.branch(0, &frames[1..]), 0);
+    let third = block(2, 3, 3, name(&frames[1]), b"");
+    assert_eq!(cards.branch(0, &[third]), 0);
+    let told = cards.hand_in_earlier([2, 0], &had, &cards.line(0, 0));
+    let told = told.expect_err("loose");
+    assert!(told.ends_with("answered (11, 0), not (0, 0)"), "{told}");
+    assert_eq!(cards.end(), HOLDS);
 }
 
 /// Puts out its block and stores it, both without a check.

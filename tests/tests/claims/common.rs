@@ -5,7 +5,7 @@ use beside::catch_up::{Card, CatchUp, Reply};
 use beside::coverage::Coverage;
 use beside::frame::{blame, block, name, Frame, GENESIS, SIZE};
 use beside::library::Library;
-use beside::model::{in_turn, line_above, seats, Setup};
+use beside::model::{in_turn, line_above, seats, Record, Setup};
 use beside::runner::{Runner, Side};
 
 pub const FORGED: Option<&str> = Some("a frame was forged");
@@ -149,18 +149,38 @@ impl<'l> Cards<'l> {
         line_above(log, height).copied().collect()
     }
 
-    pub fn between(&self, taker: usize, giver: usize) -> CatchUp<'_> {
-        let card = |number| Card {
+    pub fn record(&self, card: usize) -> Record {
+        self.runner.sides()[card].record
+    }
+
+    fn card(&self, number: usize) -> Card<'_> {
+        Card {
             number,
             side: &self.runner.sides()[number],
-        };
-        let catch_up = CatchUp::new(self.library, card(taker), card(giver));
+        }
+    }
+
+    pub fn between(&self, taker: usize, giver: usize) -> CatchUp<'_> {
+        let catch_up = CatchUp::new(self.library, self.card(taker), self.card(giver));
         catch_up.expect("frames for the taker")
     }
 
     /// Hands a copy of the taker the first frames that a giver has for it.
     pub fn hand_in(&self, taker: usize, giver: usize, count: usize) -> Result<Reply, String> {
         self.between(taker, giver).hand_in(count)
+    }
+
+    /// Hands a copy of the taker what a giver had above the height that the taker had committed.
+    pub fn hand_in_earlier(
+        &self,
+        [taker, giver]: [usize; 2],
+        had: &Record,
+        line: &[Frame],
+    ) -> Result<Reply, String> {
+        let cards = [taker, giver].map(|card| self.card(card));
+        let earlier = CatchUp::earlier(self.library, cards, had, line);
+        let earlier = earlier.expect("frames for the taker");
+        earlier.hand_in(earlier.frames().len())
     }
 
     /// The premise that failed, and what the end of the list comes to.
