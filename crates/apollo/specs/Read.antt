@@ -22,7 +22,7 @@ part_of log number start length =
 
 -- where the bytes of a lent list x lie from `start` on: the block of memory that it lies in, and the offset there
 abbrev pub place_in : Bor (List ℕ) → (start : ℕ) → ℕ × ℕ
-place_in x start = (x.ptr.0, start + x.ptr.1)
+place_in x start = (x.ref_ptr.0, start + x.ref_ptr.1)
 
 -- slot x is filled, with height h and an entry length of at most 400
 unfoldable pub readable : (x : List ℕ) (h : ℕ) → Bool

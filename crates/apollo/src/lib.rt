@@ -1,5 +1,6 @@
 // The data of a replica (document 01: a card) and the answers of its calls, laid out as in C. A comment beside a field is
 // document 01's word for it, where that differs.
+#![tactic(auto)]
 ghost use Rattle.std.specs.Prelude.{◌≡◌, ◌-◌};
 
 pub mod refusal;
@@ -7,7 +8,7 @@ pub mod size;
 
 // A round, 1 to T; the genesis has round 0.
 #[repr(C)]
-#[derive(Drop)]
+#[derive(Clone, Copy)]
 pub struct Round(pub u32);
 
 // The round before r, 0 for the genesis.
@@ -22,16 +23,16 @@ pub fn previous(r: u32) -> u32
 
 // A height in the chain; the genesis has height 0.
 #[repr(C)]
-#[derive(Drop)]
+#[derive(Clone, Copy)]
 pub struct Height(pub u32);
 
 // A number of ticks.
 #[repr(C)]
-#[derive(Drop)]
+#[derive(Clone, Copy)]
 pub struct Ticks(pub u32);
 
 // What all replicas share (part of the set-up).
-#[derive(Drop)]
+#[derive(Clone, Copy)]
 pub struct Setup {
     pub f: u8,
     pub last_round: Round, // T
@@ -39,7 +40,7 @@ pub struct Setup {
 }
 
 // What refuses frames that are handed in, and its place; 0 and 0 if nothing does.
-#[derive(Drop)]
+#[derive(Clone, Copy)]
 pub struct Verdict {
     pub number: u8,
     pub place: u32,
@@ -47,7 +48,7 @@ pub struct Verdict {
 
 // What a replica keeps between calls (record), beside the log (book) and the blame masks.
 #[repr(C)]
-#[derive(Drop)]
+#[derive(Clone, Copy)]
 pub struct Replica {
     pub id: u8, // own number
     pub f: u8,
@@ -65,7 +66,7 @@ pub struct Replica {
 
 // The answer of open, branch, blame, blames and tick (results).
 #[repr(C)]
-#[derive(Drop)]
+#[derive(Clone, Copy)]
 pub struct Answer {
     pub number: u8, // 0 taken, else the refusal
     pub frames: u8, // frames put out
@@ -76,7 +77,7 @@ pub struct Answer {
 
 // The answer of equivocation.
 #[repr(C)]
-#[derive(Drop)]
+#[derive(Clone, Copy)]
 pub struct Marked {
     pub number: u8,
     pub place: u32,
@@ -85,7 +86,7 @@ pub struct Marked {
 
 // The answer of read: a part of the lent log.
 #[repr(C)]
-#[derive(Drop)]
+#[derive(Clone, Copy)]
 pub struct Part {
     pub number: u8,
     pub start: usize,
@@ -94,7 +95,7 @@ pub struct Part {
 
 // The answer of fetch.
 #[repr(C)]
-#[derive(Drop)]
+#[derive(Clone, Copy)]
 pub struct Fetched {
     pub number: u8,
     pub count: usize, // frames copied

@@ -19,7 +19,7 @@ use Rattle.apollo.specs.declared.Verdict.{Verdict}
 use Rattle.apollo.specs.BlockRun.{last_of, block, blocks, judgedRun}
 use Rattle.frame_forms.proofs.Facts.{BlockFields, block-fields}
 use Rattle.apollo.proofs.BlockRun.{block-parts, blocks-parts, blocks-judged}
-use Rattle.log.specs.Slots.{Slotted}
+use Rattle.slots.specs.Slots.{Slotted}
 use Rattle.branch.specs.declared.Judged.{Judged}
 use Rattle.branch.specs.Judge.{refusal, judgedAt, judgedWhole, judgedBranch}
 use Rattle.apollo.proofs.Frames.{WholeFrames, whole-true, frames-split, frames-whole}

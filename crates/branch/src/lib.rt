@@ -1,5 +1,6 @@
 // The judgement of a branch that is handed in: refusals 6 to 13, each with its place. Every public function takes any
 // record and slices of any length and content.
+#![tactic(auto)]
 ghost use Rattle.std.specs.Prelude.{◌≡◌, ◌*◌, ◌≤◌, length, ltb};
 ghost use Rattle.apollo.specs.Size.{frameSize};
 ghost use Rattle.apollo.specs.Frame as Frame;
@@ -12,7 +13,7 @@ use branch_rounds::Gap;
 use judging::Start;
 
 // The refusal of a branch and its place, 0 and 0 if there is none, and then the round that it attaches to.
-#[derive(Drop)]
+#[derive(Clone, Copy)]
 pub struct Judged {
     pub number: u8,
     pub place: u32,

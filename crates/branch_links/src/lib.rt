@@ -1,4 +1,5 @@
 // Where a branch attaches: the round of the slot that its first frame has as its parent.
+#![tactic(auto)]
 ghost use Rattle.std.specs.Prelude.{◌≡◌, ◌-◌, ◌<◌, ◌&&◌};
 ghost use Rattle.apollo.specs.Frame as Frame;
 ghost use Rattle.apollo.specs.Log as Log;
@@ -7,7 +8,7 @@ ghost use Rattle.branch_links.specs.Answers.{attachOf};
 use apollo::size::FRAME;
 
 // Where a frame attaches: the round of a slot, 0 for the genesis.
-#[derive(Drop)]
+#[derive(Clone, Copy)]
 pub enum Attachment {
     At(u32),
     Nowhere,
@@ -18,7 +19,7 @@ fn attaches(log: &[u8], x: &[u8], r: u32) -> bool
     requires { 0 < r }
     ensures { result ≡ Log.filled (Log.slot log.now r) && Frame.linked (Log.slot log.now r) x.now }
 {
-    let p = log::slot(log, r);
+    let p = slots::slot(log, r);
     if frame::kind(p) != 1 {
         return false;
     }

@@ -16,7 +16,7 @@ use Rattle.apollo.specs.Log.{slot, store, clearAbove}
 use Rattle.apollo.specs.Branch.{storeAll, grown}
 use Rattle.apollo.proofs.Tests.{same_refl}
 use Rattle.apollo.proofs.Slots.{length-store, length-clear}
-use Rattle.log.proofs.Search.{slot-part}
+use Rattle.slots.proofs.Search.{slot-part}
 use Rattle.branch_links.specs.Ordered.{Ordered}
 use Rattle.branch_rounds.specs.Keeps.{keepsFrame, keepsAll}
 use Rattle.slices.proofs.Blank.{blank_none}

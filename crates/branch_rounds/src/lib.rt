@@ -1,5 +1,6 @@
 // The rounds that a branch spans: the skipped ones, certified or not, and the committed slots that taking it would keep. Every
 // function takes slices of any length and any numbers.
+#![tactic(auto)]
 ghost use Rattle.std.specs.Prelude.{◌≡◌};
 ghost use Rattle.apollo.specs.Frame.{framesOf};
 ghost use Rattle.apollo.specs.Branch as Branch;
@@ -10,7 +11,7 @@ use apollo::Setup;
 use apollo::size::FRAME;
 
 // The first skipped round that is not certified.
-#[derive(Drop)]
+#[derive(Clone, Copy)]
 pub enum Gap {
     Uncertified(u32),
     Closed,
@@ -60,7 +61,7 @@ fn keeps_frame(log: &[u8], lo: u32, x: &[u8], committed: u32) -> bool
     if !slices::is_blank(log, a, FRAME * ((r - 1) as usize)) {
         return false;
     }
-    slices::same_bytes(log::slot(log, r), x)
+    slices::same_bytes(slots::slot(log, r), x)
 }
 
 // The slots up to the committed round would keep their bytes if the frames were taken on round a.

@@ -15,7 +15,7 @@ use Rattle.apollo.specs.Enter.{State, tipped, holding, enterRound, state}
 use Rattle.apollo.specs.Outcome.{Outcome, refused, taken, outcome}
 use Rattle.apollo.specs.Branch.{grown, branchWith}
 use Rattle.frame_forms.proofs.Facts.{BlockFields}
-use Rattle.log.specs.Slots.{Slotted}
+use Rattle.slots.specs.Slots.{Slotted}
 use Rattle.branch.specs.declared.Judged.{Judged}
 use Rattle.branch.specs.Judge.{adopted, answered}
 use Rattle.branch.proofs.Last.{branch-sound}

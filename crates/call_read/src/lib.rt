@@ -1,4 +1,5 @@
 // The call read: the entry at a committed height. Takes any record and height, and slices of any length and content.
+#![tactic(auto)]
 ghost use Rattle.std.specs.Prelude.{◌≡◌, ◌+◌, ◌≤◌, ◌<◌, length};
 ghost use Rattle.apollo.specs.Bytes as Bytes;
 ghost use Rattle.apollo.specs.Calls.{readCall};
@@ -27,7 +28,7 @@ fn entry_part(log: &[u8], r: u32) -> Part
     Part {
         number: 0,
         start: FRAME * i + 44,
-        length: frame::entry_length(log::slot(log, r)),
+        length: frame::entry_length(slots::slot(log, r)),
     }
 }
 
@@ -48,8 +49,8 @@ pub fn read_part(replica: Replica, log: &[u8], height: Height) -> Part
 // The part p of the log: its bytes, in the place where they lie.
 fn cut<'a>(log: &'a [u8], p: Part) -> &'a [u8]
     requires { p.start + p.length ≤ length log.now }
-    ensures result_value { result.now ≡ Bytes.part log.now p.start p.length }
-    ensures ref_ptr_value { result.ref_ptr ≡ place_in log.entry p.start }
+    ensures bytes { result.now ≡ Bytes.part log.now p.start p.length }
+    ensures place { result.ref_ptr ≡ place_in log.entry p.start }
 {
     let start = p.start;
     let end = start + p.length;
@@ -58,9 +59,9 @@ fn cut<'a>(log: &'a [u8], p: Part) -> &'a [u8]
 
 // The entry at a committed height, as the part of the lent log that `read_part` tells, empty if refused.
 pub fn read<'a>(replica: Replica, log: &'a [u8], height: Height, number: &mut u8) -> &'a [u8]
-    ensures result_value { result.now ≡ (readCall replica log.now height.0).bytes }
-    ensures ref_ptr_value { result.ref_ptr ≡ place_in log.entry (readCall replica log.now height.0).answer.start }
-    ensures number_after { number.new ≡ (readCall replica log.now height.0).answer.number }
+    ensures bytes { result.now ≡ (readCall replica log.now height.0).bytes }
+    ensures place { result.ref_ptr ≡ place_in log.entry (readCall replica log.now height.0).answer.start }
+    ensures number { number.new ≡ (readCall replica log.now height.0).answer.number }
 {
     let p = read_part(replica, log, height);
     *number = p.number;

@@ -1,4 +1,5 @@
 // What a replica commits.
+#![tactic(auto)]
 ghost use Rattle.std.specs.Prelude.{◌≡◌};
 ghost use Rattle.apollo.specs.Enter.{commitLimit, commit};
 
@@ -17,6 +18,6 @@ fn commit_limit(r: Replica) -> u32
 pub fn commit(r: Replica, log: &[u8]) -> Replica
     ensures { result ≡ commit r log.now }
 {
-    let round = log::highest(log, commit_limit(r)).round;
-    record::with_committed(r, round, log::slot_height(log, round))
+    let round = slots::highest(log, commit_limit(r)).round;
+    record::with_committed(r, round, slots::slot_height(log, round))
 }

@@ -1,4 +1,5 @@
 // The hash value of SHA-256 over the blocks of a padded message. The definitions are in specs/Fips.antt.
+#![tactic(auto)]
 ghost use Rattle.std.specs.Prelude.{◌≡◌, ℕ, ◌+◌, ◌/◌, ◌%◌, ◌<◌, ◌≤◌, List, length, slice_index};
 ghost use Rattle.compression.specs.Fips as Fips;
 ghost use Rattle.compression.specs.Window.{Window, Turned};
@@ -72,7 +73,7 @@ pub const K: [u32; 64] = [
 ];
 
 // Eight words: a hash value, or the working variables.
-#[derive(Drop)]
+#[derive(Clone, Copy)]
 pub struct State {
     pub a: u32,
     pub b: u32,

@@ -1,5 +1,6 @@
 // Prints the SHA-256 digest of sample messages, a line each: the digest, two spaces, and the message's name. The last four are made at once.
 // The file stdout beside src/ has what coreutils' sha256sum makes of the same messages: see tools/expected-digests.
+#![tactic(auto)]
 use libc::STDOUT_FILENO;
 
 // A line for the digest d of the message with the name NAME and the number n behind it.

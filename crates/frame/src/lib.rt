@@ -1,5 +1,6 @@
 // One frame: its fields read in place, and its parent; whole frames, and the last of them. Every function
 // takes slices of any length, as the definitions do.
+#![tactic(auto)]
 ghost use Rattle.std.specs.Prelude.{◌≡◌, ◌≤◌, ◌<◌};
 ghost use Rattle.apollo.specs.Size.{frameSize};
 ghost use Rattle.apollo.specs.Bytes as Bytes;

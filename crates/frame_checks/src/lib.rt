@@ -1,4 +1,5 @@
 // The checks of frames, made ahead of their turn: in four lanes where three frames or more are left, one by one where one or two are.
+#![tactic(auto)]
 ghost use Rattle.std.specs.Prelude.{◌≡◌, [], ◌∷◌, ◌+◌, ◌-◌, ◌*◌, ◌%◌, ◌≤◌, length};
 ghost use Rattle.sha256.specs.Fips.{sha256};
 ghost use Rattle.apollo.specs.Size.{frameSize};

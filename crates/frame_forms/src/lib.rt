@@ -1,4 +1,5 @@
 // One frame judged in place: its form, a block's or a blame's, and 7 and 8 by its check and this. Every function takes slices of any length.
+#![tactic(auto)]
 ghost use Rattle.std.specs.Prelude.{◌≡◌};
 ghost use Rattle.apollo.specs.Bytes as Bytes;
 ghost use Rattle.apollo.specs.Frame as Frame;
@@ -10,7 +11,7 @@ use apollo::Setup;
 use apollo::size::{CHECK, ENTRY};
 
 // The form that a frame is to have.
-#[derive(Drop)]
+#[derive(Clone, Copy)]
 pub enum Form {
     Block,
     Blame,

@@ -1,5 +1,6 @@
 // Several frames judged in place, lowest first: each by itself, 7 and 8, or as a run of blocks, 7, 8 and 9. Their checks are made four at a
 // time: up to three more than a refusal needs. Every function takes slices of any content.
+#![tactic(auto)]
 ghost use Rattle.std.specs.Prelude.{◌≡◌, ◌*◌, ◌≤◌, length};
 ghost use Rattle.std.proofs.Math.Option.{some};
 ghost use Rattle.sha256.specs.Fips.{sha256};
@@ -17,7 +18,7 @@ use apollo::{Setup, Verdict};
 use frame_forms::Form;
 
 // What the first frame of a run must follow.
-#[derive(Drop)]
+#[derive(Clone, Copy)]
 pub enum Start {
     AnyParent,
     Genesis,

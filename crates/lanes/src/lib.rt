@@ -1,5 +1,6 @@
 // SHA-256 of four messages at once: each stands in a lane of its own, and the same step is made in all lanes. The definitions of the
 // standard are those of compression and sha256; specs/Lane.antt says where a lane's words stand.
+#![tactic(auto)]
 ghost use Rattle.std.specs.Prelude.{◌≡◌, ℕ, ◌+◌, ◌≤◌, ◌<◌, ◌%◌, List, length, get_or};
 ghost use Rattle.compression.specs.Fips as Fips;
 ghost use Rattle.compression.specs.Window.{Window, Turned};
@@ -235,7 +236,7 @@ fn last_block(s: &[u8]) -> [u8; 64]
 
 // Four digests, laid out as in C.
 #[repr(C)]
-#[derive(Drop)]
+#[derive(Clone, Copy)]
 pub struct Four {
     pub d0: [u8; 32],
     pub d1: [u8; 32],

@@ -1,4 +1,5 @@
 // Slots of a log by height: the lowest readable, and the chain frames above a height.
+#![tactic(auto)]
 ghost use Rattle.std.specs.Prelude.{◌≡◌, ◌+◌, ◌*◌, ◌/◌, ◌≤◌, ◌<◌, min, cond, length, take, drop};
 ghost use mathlib.Core.List.{◌++◌, flatten};
 ghost use Rattle.apollo.specs.Size.{frameSize};
@@ -60,7 +61,7 @@ fn fetch_slot(x: &[u8], h: u32, out: &mut [u8], k: u32) -> u32
     if !is_tall(x, h) {
         return k;
     }
-    log::store(out, k + 1, x);
+    slots::store(out, k + 1, x);
     k + 1
 }
 
@@ -82,7 +83,7 @@ fn last_low(log: &[u8], h: u32, last_round: u32) -> u32
 }
 
 // The chain frames of height above h are copied to out, in rising round, as many as fit; how many. A slot is cut out in 512
-// bytes, and not by `log::slot`, so that the compiler knows how long the copy is.
+// bytes, and not by `slots::slot`, so that the compiler knows how long the copy is.
 pub fn fetch_frames(log: &[u8], h: u32, last_round: u32, out: &mut [u8]) -> usize
     requires { frameSize * last_round ≤ length log.now }
     ensures value { result ≡ min (length (above h (Log.chain log.now last_round))) (length out.old / frameSize) }

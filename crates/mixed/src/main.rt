@@ -2,6 +2,7 @@
 // call prints its answer and the digest of what it was lent. The head of tests/src/emit.rs has the format. A line that is
 // none of these is told on standard error and passed over. The lists and what they have to print are those of the Rust
 // implementation: cd tests && cargo run --release -- emit ../crates/mixed/stdin ../crates/mixed/stdout 1 2000
+#![tactic(auto)]
 ghost use Rattle.std.specs.Prelude.{◌≡◌, ◌<◌, length};
 
 use apollo::{Answer, Height, Replica, Round, Ticks};
@@ -14,7 +15,7 @@ type Masks = [[u16; 9]; 5];
 
 // What goes from line to line: the five records, and a sixth, which the next call gets instead if it is given; how many lines
 // ended, and whether to stop.
-#[derive(Drop)]
+#[derive(Clone, Copy)]
 struct Table {
     replicas: [Replica; 6],
     is_given: bool,
@@ -309,7 +310,7 @@ fn put(log: &mut [u8], r: u32, x: &[u8]) {
     if 0 < r {
         if 512 * (r as usize) <= log.len() {
             if x.len() == 512 {
-                log::store(log, r, x);
+                slots::store(log, r, x);
             }
         }
     }

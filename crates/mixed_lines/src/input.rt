@@ -22,7 +22,7 @@ const ENDED: u8 = 8; // the letter, or `-`: the word ends here
 
 const BAD: u8 = 9; // the line is none of the list
 
-#[derive(Drop)]
+#[derive(Clone, Copy)]
 struct Line {
     letter: u8,
     form: u64, // the kinds of the words to come
@@ -41,7 +41,7 @@ struct Line {
 
 // What a line says: its letter, 0 if it is none of the list and 1 if there is none; its numbers of the kinds 1 to 8, by
 // kind, and the others in their order, from 1.
-#[derive(Drop)]
+#[derive(Clone, Copy)]
 pub struct Task {
     pub letter: u8,
     pub sizes: [usize; 9],
@@ -49,7 +49,7 @@ pub struct Task {
 }
 
 // The line that was read, and where the reader stands after it.
-#[derive(Drop)]
+#[derive(Clone, Copy)]
 pub struct Input {
     pub task: Task,
     pub reader: Reader,

@@ -2,14 +2,14 @@
 use text::Reader;
 
 // The first four bytes of a line, and how many there are; 5 for more. The fourth may be the carriage return of `\r\n`.
-#[derive(Drop)]
+#[derive(Clone, Copy)]
 pub struct Line {
     pub length: usize,
     pub bytes: [u8; 4],
 }
 
 // A line, where the reader stands after it, and whether the input ended with it.
-#[derive(Drop)]
+#[derive(Clone, Copy)]
 pub struct Input {
     pub line: Line,
     pub reader: Reader,

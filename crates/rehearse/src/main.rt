@@ -1,6 +1,7 @@
 // Three replicas in one program, driven by standard input: f = 1, T = 6, timeout 2, the old turn, entries empty. `t i` is a tick at
 // replica i, `d i` hands replica i the oldest frame of its queue. Each prints the replica, the answer's number, R, the tip's
 // round and the committed round. A line that is neither is told on standard error and passed over.
+#![tactic(auto)]
 use apollo::size::{FRAME, OUT};
 
 mod input;
@@ -18,7 +19,7 @@ type Masks = [[u16; 6]; 3];
 
 // A step: `o` opens replica i, `t` is a tick, `b` and `v` hand it frame k, a block as a branch of one or a blame. There is
 // nothing to do for replica 3.
-#[derive(Drop)]
+#[derive(Clone, Copy)]
 struct Step {
     letter: u8,
     i: usize,
@@ -27,7 +28,7 @@ struct Step {
 
 // The records, and of the frames sent so far how many there are and how many replica i is past: its queue is what another
 // sent since. How many lines ended, and whether to stop.
-#[derive(Drop)]
+#[derive(Clone, Copy)]
 struct Table {
     replicas: [Replica; 3],
     sent: u32,
@@ -41,7 +42,7 @@ fn put(log: &mut [u8], r: u32, x: &[u8]) {
     if 0 < r {
         if FRAME * (r as usize) <= log.len() {
             if x.len() == FRAME {
-                log::store(log, r, x);
+                slots::store(log, r, x);
             }
         }
     }

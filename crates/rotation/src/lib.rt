@@ -1,4 +1,5 @@
 // The rotation (document 02: seating): who leads a round, the test of a rotation, and how a record holds one.
+#![tactic(auto)]
 ghost use Rattle.std.specs.Prelude.{◌≡◌, ◌&&◌, ◌≤◌, take};
 ghost use Rattle.apollo.specs.Bytes.{blank};
 ghost use Rattle.apollo.specs.Rotation.{isRotation, padded};

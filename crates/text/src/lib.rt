@@ -1,4 +1,5 @@
 // Text: a row of numbers put into a lent buffer, the bytes of standard input one by one, and lines written, each at once.
+#![tactic(auto)]
 ghost use Rattle.std.specs.Prelude.{◌≡◌, ◌≤◌, min, length};
 ghost use Rattle.text.specs.Reading.{taken, Next};
 ghost use Rattle.text.specs.Row.{written, put, putNumber, putRow};
@@ -7,7 +8,7 @@ use libc::{STDERR_FILENO, STDIN_FILENO, STDOUT_FILENO};
 
 // Where a reader stands in its buffer: the bytes from `at` up to `end` are still to come. The byte that came last, and
 // whether the input has ended instead.
-#[derive(Drop)]
+#[derive(Clone, Copy)]
 pub struct Reader {
     pub at: usize,
     pub end: usize,

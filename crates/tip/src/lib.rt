@@ -1,4 +1,5 @@
 // A new tip: the own block or a branch goes into the log, and the record follows.
+#![tactic(auto)]
 ghost use Rattle.std.specs.Prelude.{◌≡◌, List, ◌++◌, ℕ, ◌+◌, ◌*◌, ◌≤◌, length, drop};
 ghost use Rattle.sha256.specs.Fips.{sha256};
 ghost use Rattle.apollo.specs.Size.{entryMost, frameSize};
@@ -7,7 +8,7 @@ ghost use Rattle.apollo.specs.Frame.{framesOf, lastFrame};
 ghost use Rattle.apollo.specs.Log as Log;
 ghost use Rattle.apollo.specs.Branch.{grown};
 ghost use Rattle.apollo.specs.Enter.{state, tipped, holding, ownBlock, proposing};
-ghost use Rattle.log.specs.Slots.{Slotted};
+ghost use Rattle.slots.specs.Slots.{Slotted};
 ghost use Rattle.tip.specs.Ready.{Ready};
 
 use apollo::Replica;
@@ -36,7 +37,7 @@ fn put_own_block(r: Replica, log: &[u8], height: u32, entry: &[u8], out: &mut [u
         frame_writing::put_block(out, r.id, round, height, &genesis, entry);
         return;
     }
-    let parent = slices::part(log::slot(log, tip), CHECK, 32);
+    let parent = slices::part(slots::slot(log, tip), CHECK, 32);
     frame_writing::put_block(out, r.id, round, height, parent, entry);
 }
 
@@ -51,7 +52,7 @@ pub fn propose(r: Replica, log: &mut [u8], entry: &[u8], out: &mut [u8]) -> Repl
     let round = r.round.0;
     let height = r.tip_height.0 + 1;
     put_own_block(r, log, height, entry, out);
-    log::store(log, round, slices::part(out, 0, FRAME));
+    slots::store(log, round, slices::part(out, 0, FRAME));
     tipped(r, round, height)
 }
 
@@ -64,7 +65,7 @@ pub fn adopt(r: Replica, log: &mut [u8], attach: u32, frames: &[u8]) -> Replica
         (grown log.old attach (framesOf frames.now))
         (Frame.round (lastFrame frames.now)) (Frame.height (lastFrame frames.now)) }
 {
-    log::take_branch(log, attach, frames);
+    slots::take_branch(log, attach, frames);
     let last = frame::last_frame(frames);
     tipped(r, frame::round(last), frame::height(last))
 }

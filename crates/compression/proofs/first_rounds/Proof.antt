@@ -4,7 +4,7 @@ use Rattle.compression.proofs.Schedule.{turned-start}
 use Rattle.compression.proofs.first_rounds.Statement.{statement}
 use Rattle.compression.proofs.first_rounds.Tie as tie
 
-load-round-requires : tie.Need-load-round-requires
+load-round-requires : tie.Need-load_round-requires
 load-round-requires c κs =
     let p = c.before.before.requires in
     (p.0, omega arith, p.2)

@@ -3,7 +3,7 @@ use Rattle.std.proofs.Common.{◌≡◌, ◌+◌, arith}
 use Rattle.compression.proofs.next_rounds.Statement.{statement}
 use Rattle.compression.proofs.next_rounds.Tie as tie
 
-extend-round-requires : tie.Need-extend-round-requires
+extend-round-requires : tie.Need-extend_round-requires
 extend-round-requires c κs =
     let p = c.before.requires in
     (p.0, p.1, p.2, p.3, omega arith)

@@ -6,7 +6,7 @@ use Rattle.compression.proofs.plus.Tie as tie
 returns : tie.Need-returns
 unfolding plus
 returns c =
-    rw (c.add8.ensures, c.before.add7.ensures, c.before.before.add6.ensures, c.before.before.before.add5.ensures, c.before.before.before.before.add4.ensures, c.before.before.before.before.before.add3.ensures, c.before.before.before.before.before.before.add2.ensures, c.before.before.before.before.before.before.before.add.ensures)
+    rw (c.add-8.ensures, c.before.add-7.ensures, c.before.before.add-6.ensures, c.before.before.before.add5.ensures, c.before.before.before.before.add4.ensures, c.before.before.before.before.before.add3.ensures, c.before.before.before.before.before.before.add2.ensures, c.before.before.before.before.before.before.before.add.ensures)
 
 pub plus-spec : {M : Type 1} → statement M
 plus-spec =

@@ -1,8 +1,8 @@
--- `log::is_filled` meets its contract: the slot's first byte; the genesis is not filled. Assumes nothing.
+-- `slots::is_filled` meets its contract: the slot's first byte; the genesis is not filled. Assumes nothing.
 use borrow.Author.Rules.{rules}
-use Rattle.log.proofs.Search.{genesis-empty, filled-read}
-use Rattle.log.proofs.is_filled.Statement.{statement}
-use Rattle.log.proofs.is_filled.Tie as tie
+use Rattle.slots.proofs.Search.{genesis-empty, filled-read}
+use Rattle.slots.proofs.is_filled.Statement.{statement}
+use Rattle.slots.proofs.is_filled.Tie as tie
 
 returns : tie.Need-returns
 returns c = genesis-empty c.before.before.args.log.now c.before.before.args.r c.if1.true

@@ -1,9 +1,9 @@
--- `log::slot` meets its contract: 512 bytes from the round's place on. Assumes nothing.
+-- `slots::slot` meets its contract: 512 bytes from the round's place on. Assumes nothing.
 use mathlib.Core.Path.{◌∙◌}
 use borrow.Author.Rules.{rules}
-use Rattle.log.proofs.Search.{slot-part}
-use Rattle.log.proofs.slot.Statement.{statement}
-use Rattle.log.proofs.slot.Tie as tie
+use Rattle.slots.proofs.Search.{slot-part}
+use Rattle.slots.proofs.slot.Statement.{statement}
+use Rattle.slots.proofs.slot.Tie as tie
 
 returns : tie.Need-returns
 returns c =

@@ -1,12 +1,12 @@
--- `log::highest` meets its contract. The loop's invariant: no slot above `round` up to the limit is filled, and each was read. Assumes nothing.
+-- `slots::highest` meets its contract. The loop's invariant: no slot above `round` up to the limit is filled, and each was read. Assumes nothing.
 use mathlib.Core.Path.{◌≡◌, refl, sym, ◌∙◌}
 use Prim.Native.Nat.{◌+◌}
 use native.Mathlib.Omega.{arith}
 use borrow.Author.Rules.{rules}
 use Rattle.apollo.specs.Log as Log
-use Rattle.log.proofs.Search.{highest-here, highest-below, highest-none, read_found, read_none}
-use Rattle.log.proofs.highest.Statement.{statement}
-use Rattle.log.proofs.highest.Tie as tie
+use Rattle.slots.proofs.Search.{highest-here, highest-below, highest-none, read_found, read_none}
+use Rattle.slots.proofs.highest.Statement.{statement}
+use Rattle.slots.proofs.highest.Tie as tie
 
 abbrev invariant-loop : tie.invariant-loop
 invariant-loop log limit round₀ slots-read₀ round slots_read = (slots_read + round ≡ limit) × (Log.highest log round ≡ Log.highest log limit)

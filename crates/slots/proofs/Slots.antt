@@ -11,7 +11,7 @@ use Rattle.apollo.specs.Bytes.{part, zeros}
 use Rattle.apollo.specs.Log.{store, clearAbove}
 use Rattle.apollo.specs.Frame.{round}
 use Rattle.apollo.specs.Branch.{storeAll}
-use Rattle.log.specs.Slots.{Slotted}
+use Rattle.slots.specs.Slots.{Slotted}
 use Rattle.frame.proofs.Frames.{rest, rest-next, rest_end, frame-part}
 
 -- a log whose slots above round r are zeroed in place, and one that has none

@@ -1,8 +1,8 @@
--- `log::take_branch` meets its contract: what stands above the round is zeroed, then the frames are stored. Assumes nothing.
+-- `slots::take_branch` meets its contract: what stands above the round is zeroed, then the frames are stored. Assumes nothing.
 use borrow.Author.Rules.{rules}
 use Rattle.apollo.specs.Branch.{grown}
-use Rattle.log.proofs.take_branch.Statement.{statement}
-use Rattle.log.proofs.take_branch.Tie as tie
+use Rattle.slots.proofs.take_branch.Statement.{statement}
+use Rattle.slots.proofs.take_branch.Tie as tie
 
 store-each-requires : tie.Need-store-each-requires
 store-each-requires c κs =

@@ -1,4 +1,4 @@
--- `log::store_each` meets its contract. The loop's invariant: storing the frames that are left makes the log asked for. Assumes nothing.
+-- `slots::store_each` meets its contract. The loop's invariant: storing the frames that are left makes the log asked for. Assumes nothing.
 use mathlib.Core.Path.{◌≡◌, refl, ap}
 use Prim.Native.Nat.{◌≤◌, ◌-◌, ◌/◌}
 use native.Mathlib.Omega.{arith}
@@ -7,11 +7,11 @@ use borrow.Author.Rules.{rules}
 use Rattle.apollo.specs.Size.{frameSize}
 use Rattle.apollo.specs.Frame as Frame
 use Rattle.apollo.specs.Branch.{storeAll}
-use Rattle.log.specs.Slots.{Slotted}
-use Rattle.log.proofs.Slots.{each_more, each-end, slotted-next, next-slot}
+use Rattle.slots.specs.Slots.{Slotted}
+use Rattle.slots.proofs.Slots.{each_more, each-end, slotted-next, next-slot}
 use Rattle.frame.proofs.Frames.{rest, rest-start}
-use Rattle.log.proofs.store_each.Statement.{statement}
-use Rattle.log.proofs.store_each.Tie as tie
+use Rattle.slots.proofs.store_each.Statement.{statement}
+use Rattle.slots.proofs.store_each.Tie as tie
 
 abbrev invariant-loop : tie.invariant-loop
 invariant-loop log₀ frames n i₀ log i = (i ≤ n) × (length log ≡ length log₀) × (storeAll log (rest frames n i) ≡ storeAll log₀ (Frame.frames n frames)) × Slotted (length log₀) (rest frames n i)

@@ -1,17 +1,18 @@
 // The log (book) of a replica: slots stored, zeroed and read, and the highest filled.
+#![tactic(auto)]
 ghost use Rattle.std.specs.Prelude.{◌≡◌, ◌*◌, ◌≤◌, ◌<◌, length};
 ghost use Rattle.apollo.specs.Size.{frameSize};
 ghost use Rattle.apollo.specs.Frame as Frame;
 ghost use Rattle.apollo.specs.Frame.{framesOf};
 ghost use Rattle.apollo.specs.Log as Log;
 ghost use Rattle.apollo.specs.Branch as Branch;
-ghost use Rattle.log.specs.Slots.{Slotted};
+ghost use Rattle.slots.specs.Slots.{Slotted};
 
 use apollo::size::FRAME;
 
 // What a search of the log gives, laid out as in C.
 #[repr(C)]
-#[derive(Drop)]
+#[derive(Clone, Copy)]
 pub struct Found {
     pub round: u32, // of the slot found, 0 if none
     pub slots_read: u32,

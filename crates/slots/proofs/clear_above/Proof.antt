@@ -1,9 +1,9 @@
--- `log::clear_above` meets its contract: the part above the round is zeroed in place. Assumes nothing.
+-- `slots::clear_above` meets its contract: the part above the round is zeroed in place. Assumes nothing.
 use native.Mathlib.Omega.{arith}
 use borrow.Author.Rules.{rules}
-use Rattle.log.proofs.Slots.{cleared, nothing_above}
-use Rattle.log.proofs.clear_above.Statement.{statement}
-use Rattle.log.proofs.clear_above.Tie as tie
+use Rattle.slots.proofs.Slots.{cleared, nothing_above}
+use Rattle.slots.proofs.clear_above.Statement.{statement}
+use Rattle.slots.proofs.clear_above.Tie as tie
 
 returns : tie.Need-returns
 returns c = cleared c.before.before.before.before.before.before.args.log.now c.before.before.clear.new.0 c.before.before.before.before.before.before.args.r (omega arith) c.before.before.clear.ensures

@@ -1,8 +1,8 @@
--- `log::slot_height` meets its contract: the height in the slot, 0 for the genesis. Assumes nothing.
+-- `slots::slot_height` meets its contract: the height in the slot, 0 for the genesis. Assumes nothing.
 use borrow.Author.Rules.{rules}
-use Rattle.log.proofs.Search.{genesis-height, height-read}
-use Rattle.log.proofs.slot_height.Statement.{statement}
-use Rattle.log.proofs.slot_height.Tie as tie
+use Rattle.slots.proofs.Search.{genesis-height, height-read}
+use Rattle.slots.proofs.slot_height.Statement.{statement}
+use Rattle.slots.proofs.slot_height.Tie as tie
 
 returns : tie.Need-returns
 returns c = genesis-height c.before.before.args.log.now c.before.before.args.r c.if1.true

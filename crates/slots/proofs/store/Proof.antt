@@ -1,9 +1,9 @@
--- `log::store` meets its contract: the slot's part takes the frame. Assumes nothing.
+-- `slots::store` meets its contract: the slot's part takes the frame. Assumes nothing.
 use native.Mathlib.Omega.{arith}
 use borrow.Author.Rules.{rules}
-use Rattle.log.proofs.Slots.{slot-size, stored}
-use Rattle.log.proofs.store.Statement.{statement}
-use Rattle.log.proofs.store.Tie as tie
+use Rattle.slots.proofs.Slots.{slot-size, stored}
+use Rattle.slots.proofs.store.Statement.{statement}
+use Rattle.slots.proofs.store.Tie as tie
 
 returns : tie.Need-returns
 returns c =
