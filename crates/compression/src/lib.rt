@@ -1,5 +1,6 @@
 // The hash value of SHA-256 over the blocks of a padded message. The definitions are in specs/Fips.antt.
 #![tactic(auto)]
+
 ghost use Rattle.std.specs.Prelude.{◌≡◌, ℕ, ◌+◌, ◌/◌, ◌%◌, ◌<◌, ◌≤◌, List, length, slice_index};
 ghost use Rattle.compression.specs.Fips as Fips;
 ghost use Rattle.compression.specs.Window.{Window, Turned};
