@@ -21,9 +21,3 @@ module _ (log : List ℕ) (a e : ℕ) where
       let l : length (take (e - a) (drop a log)) < length (zeros (e - a)) =
       simp (length-take, length-drop, length-zeros) (omega arith) in
       sym (same_length (take (e - a) (drop a log)) (zeros (e - a)) (λ (p : length (take (e - a) (drop a log)) ≡ length (zeros (e - a))). omega arith))
-
-  pub blank-read : (b : Bool) → a < e → e ≤ length log
-      → b ≡ same (take (e - a) (drop a log)) (zeros (length (take (e - a) (drop a log)))) → b ≡ blank log a e
-  blank-read b h g d =
-      let l : length (take (e - a) (drop a log)) ≡ e - a = simp (length-take, length-drop) (omega arith) in
-      rw l at d

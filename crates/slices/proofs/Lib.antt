@@ -1,4 +1,3 @@
 pub mod Same
-pub mod Parts
 pub mod Blank
 pub mod Copies

@@ -57,9 +57,9 @@ same_length (x ∷ a) (y ∷ b) n = and-false (eqb x y) (same a b) (same_length 
     and-false true s e = e
     and-false false s e = refl
 
-getD-zeros : (n i : ℕ) → i < n → get_or (zeros n) i 0 ≡ 0
+get_or-zeros : (n i : ℕ) → i < n → get_or (zeros n) i 0 ≡ 0
 unfolding zeros
-getD-zeros n i h = get_or-replicate n i 0 0 h
+get_or-zeros n i h = get_or-replicate n i 0 0 h
 
 -- the same of a list and zeros
 pub zero-next : (x : List ℕ) (i d : ℕ) → i < length x
@@ -67,7 +67,7 @@ pub zero-next : (x : List ℕ) (i d : ℕ) → i < length x
     ≡ eqb (bit_or d (get_or x i 0)) 0 && same (drop (i + 1) x) (drop (i + 1) (zeros (length x)))
 zero-next x i d h =
     let e : bit_xor (get_or x i 0) (get_or (zeros (length x)) i 0) ≡ get_or x i 0 =
-    rw (getD-zeros (length x) i h) (xor_zero_r (get_or x i 0)) in
+    rw (get_or-zeros (length x) i h) (xor_zero_r (get_or x i 0)) in
     rw e at (same_next x (zeros (length x)) i d h (sym (length-zeros (length x))))
 
 pub zero-end : (x : List ℕ) (i d : ℕ) → length x ≤ i

@@ -1,5 +1,6 @@
 // Slices of bytes: compared, cut and written in place. All but `copy` take slices of any length.
 #![tactic(auto)]
+
 ghost use Rattle.std.specs.Prelude.{◌≡◌, length, get_or};
 ghost use Rattle.apollo.specs.Bytes as Bytes;
 
