@@ -1,3 +1,1 @@
-pub mod Forms
 pub mod Facts
-pub mod Judging

@@ -1,5 +1,6 @@
 // One frame judged in place: its form, a block's or a blame's, and 7 and 8 by its check and this. Every function takes slices of any length.
 #![tactic(auto)]
+
 ghost use Rattle.std.specs.Prelude.{◌≡◌};
 ghost use Rattle.apollo.specs.Bytes as Bytes;
 ghost use Rattle.apollo.specs.Frame as Frame;
@@ -27,6 +28,7 @@ fn within(lo: u32, n: u32, hi: u32) -> bool
 }
 
 // x has the form of a block.
+#[tactic(auto, unfolding(apollo::specs::Frame::blockForm))]
 pub fn block_form(s: Setup, x: &[u8]) -> bool
     ensures { result ≡ Frame.blockForm s x.now }
 {
@@ -51,6 +53,7 @@ pub fn block_form(s: Setup, x: &[u8]) -> bool
 }
 
 // x has the form of a blame.
+#[tactic(auto, unfolding(apollo::specs::Frame::blameForm))]
 pub fn blame_form(s: Setup, x: &[u8]) -> bool
     ensures { result ≡ Frame.blameForm s x.now }
 {
@@ -80,6 +83,7 @@ fn has_form(form: Form, s: Setup, x: &[u8]) -> bool
 }
 
 // 7 and 8 of a frame that is to have that form, 0 if it is refused by neither. `checked`: its check is right.
+#[tactic(auto, unfolding(apollo::specs::Judging::fault))]
 pub fn fault(form: Form, s: Setup, x: &[u8], checked: bool) -> u8
     requires { checked ≡ Frame.checked sha256 x.now }
     ensures { result ≡ fault sha256 (form_of form s) x.now }

@@ -1,5 +1,6 @@
 // Frames written in place: the block and the blame that a replica makes.
 #![tactic(auto)]
+
 ghost use Rattle.std.specs.Prelude.{◌≡◌, ◌+◌, ◌-◌, ◌≤◌, ◌∷◌, ◌++◌, length, take, drop};
 ghost use Rattle.apollo.specs.Size.{checkAt, entryMost, frameSize};
 ghost use Rattle.apollo.specs.Bytes as Bytes;
