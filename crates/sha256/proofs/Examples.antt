@@ -1,7 +1,6 @@
 -- The one-block example of FIPS 180-4, computed by the definitions. Assumes nothing.
 use mathlib.Core.Path.{◌≡◌, refl}
-use mathlib.Core.List.{List, [], ◌∷◌}
-use Prim.Native.Nat.{ℕ}
+use mathlib.Core.List.{[], ◌∷◌}
 use Rattle.sha256.specs.Fips.{K, padded, schedule, t1, round, rounds, plus, compress, hash, sha256}
 
 abc : sha256 (0x61 ∷ 0x62 ∷ 0x63 ∷ [])

@@ -4,11 +4,10 @@ use mathlib.Core.List.{List, [], ◌∷◌, ◌++◌}
 use Prim.Native.Nat.{ℕ, zero, suc, ◌+◌, ◌*◌, ◌/◌, ◌≤◌, ◌<◌}
 use native.Mathlib.Numerals.{add-one}
 use native.Mathlib.Omega.{arith}
-use lib.ListN.{length, get_or, replicate}
+use lib.ListN.{length, get_or}
 use lib.Seq.{take_all}
 use Rattle.compression.specs.declared.State.{State}
 use Rattle.sha256.specs.Fips.{bytes4, zeros, padded, block, H0, compress, hash, bytes_of, sha256}
-use Rattle.sha256.specs.Words.{putWord}
 use Rattle.sha256.proofs.Padding.{length-padded, block-front}
 
 -- the blocks that lie whole in the message
@@ -37,12 +36,6 @@ unfolding sha256
 digest-end m r h k n p l g e q =
     let d : length (padded m) / 64 ≡ k = omega (arith, length-padded m) in
     rw d (q ∙ ap bytes_of e)
-
--- the eight words, written one after the other
-pub words-put : (s : State) {d1 d2 d3 d4 d5 d6 d7 d8 : List ℕ} → d1 ≡ putWord (replicate 32 0) 0 s.a → d2 ≡ putWord d1 4 s.b
-    → d3 ≡ putWord d2 8 s.c → d4 ≡ putWord d3 12 s.d → d5 ≡ putWord d4 16 s.e → d6 ≡ putWord d5 20 s.f → d7 ≡ putWord d6 24 s.g
-    → d8 ≡ putWord d7 28 s.h → d8 ≡ bytes_of s
-words-put s e1 e2 e3 e4 e5 e6 e7 e8 = rw (e8, e7, e6, e5, e4, e3, e2, e1)
 
 -- For all later use: a digest has 32 elements, and each is a byte.
 pub digest-length : (m : List ℕ) → length (sha256 m) ≡ 32

@@ -1,11 +1,10 @@
 -- Laws of the padded message. Assumes nothing.
-use mathlib.Core.Path.{◌≡◌, refl, sym, ap, ◌∙◌}
+use mathlib.Core.Path.{◌≡◌, refl, sym, ◌∙◌}
 use mathlib.Core.List.{List, ◌++◌}
 use Prim.Native.Nat.{ℕ, zero, suc, ◌+◌, ◌-◌, ◌*◌, ◌/◌, ◌%◌, ◌^◌, ◌≤◌, ◌<◌}
-use native.Mathlib.Numerals.{add-one}
 use native.Mathlib.Omega.{arith}
-use lib.ListN.{length, get_or, take, drop, set, replicate, length-append, length-drop, length-replicate, get_or-replicate, get_or-append, get_or-eq_default}
-use lib.Seq.{take-suc, take-suc-set, take_all, get_or-drop, get_or-append-add, get_or-append_seam, take-append-le, drop-append-le}
+use lib.ListN.{length, get_or, drop, replicate, length-append, length-drop, length-replicate, get_or-replicate, get_or-append, get_or-eq_default}
+use lib.Seq.{get_or-append-add, get_or-append_seam, take-append-le, drop-append-le}
 use Rattle.sha256.specs.Fips.{padded, zeros, bytes8, block}
 
 -- the zero bytes are as few as bring the whole to 56 modulo 64
@@ -64,19 +63,6 @@ padded-length m i j n q p h =
 
 pub padded-past : (m : List ℕ) (i : ℕ) → length m + 9 + zeros (length m) ≤ i → 0 ≡ get_or (padded m) i 0
 padded-past m i h = sym (get_or-eq_default (padded m) 0 (rw length-padded h))
-
--- a block is filled byte by byte
-pub block-step : (p b : List ℕ) (a t x : ℕ) → t < length b → a + t < length p → take t b ≡ take t (drop a p)
-    → x ≡ get_or p (a + t) 0 → take (t + 1) (set b t x) ≡ take (t + 1) (drop a p)
-block-step p b a t x h g e q =
-    let l : t < length (drop a p) = rw length-drop (omega arith) in
-    rw (add-one, take-suc-set b t x h, take-suc (drop a p) t 0 l, get_or-drop a p t 0, e, q)
-
-pub block-end : (p b : List ℕ) (a t : ℕ) → t ≤ 64 → 64 ≤ t → length b ≡ 64 → take t b ≡ take t (drop a p)
-    → b ≡ take 64 (drop a p)
-block-end p b a t h g l e =
-    let r : t ≡ 64 = omega arith in
-    sym (take_all t b (omega arith)) ∙ e ∙ ap (λ (n : ℕ). take n (drop a p)) r
 
 -- a block that lies whole in the message
 pub block-front : (m : List ℕ) (k : ℕ) → 64 * k + 64 ≤ length m → block m k ≡ block (padded m) k

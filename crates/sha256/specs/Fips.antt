@@ -1,7 +1,7 @@
 -- SHA-256 as FIPS 180-4 defines it; each part begins with the standard's section. The hash value over the blocks is defined in
 -- the crate compression. A byte is a number below 256, a message a list of bytes, and a name of the standard's is kept where it has
 -- one.
-use Rattle.std.specs.Prelude.{List, [], ◌∷◌, ◌++◌, ℕ, ◌+◌, ◌-◌, ◌*◌, ◌/◌, ◌%◌, ◌^◌, length, replicate}
+use Rattle.std.specs.Prelude.{List, [], ◌∷◌, ◌++◌, ℕ, ◌-◌, ◌*◌, ◌/◌, ◌%◌, ◌^◌, length, replicate}
 use Rattle.compression.specs.declared.State.{State}
 pub use Rattle.compression.specs.Fips.{block}
 unfoldable pub use Rattle.compression.specs.Fips.{K, schedule, t1, round, rounds, plus, compress, hash}

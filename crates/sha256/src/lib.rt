@@ -1,5 +1,6 @@
 // SHA-256, as FIPS 180-4 defines it: padding and digest. The definitions are in specs/Fips.antt.
 #![tactic(auto)]
+
 ghost use Rattle.std.specs.Prelude.{◌≡◌, ◌+◌, ◌*◌, ◌≤◌, ◌<◌, ◌/◌, ◌%◌, ◌^◌, length, get_or};
 ghost use Rattle.sha256.specs.Fips as Fips;
 ghost use Rattle.sha256.specs.Words.{putWord};
