@@ -1,17 +1,15 @@
--- The test for a parent, and the last frame. A variable beside x is what the code read there. Assumes nothing.
+-- The test for a parent. A variable beside x is what the code read there. Assumes nothing.
 use mathlib.Core.Path.{◌≡◌, refl, sym, ◌∙◌}
-use mathlib.Core.Bool.{Bool, true, false, not}
+use mathlib.Core.Bool.{Bool, true, false}
 use mathlib.Core.List.{List}
 use Prim.Native.Nat.{ℕ, zero, suc, ◌+◌, ◌-◌, ◌<◌}
 use native.Mathlib.Numerals.{add-one}
 use native.Mathlib.Omega.{arith}
 use lib.Dec.{eqb, eqb-suc-suc}
-use lib.ListN.{length}
-use borrow.Author.Tests.{ne_eqb, not-true, not-false}
-use Rattle.apollo.specs.Size.{frameSize}
-use Rattle.apollo.specs.Bytes.{part, same}
+use borrow.Author.Tests.{ne_eqb}
+use Rattle.apollo.specs.Bytes.{same}
 use Rattle.apollo.proofs.Tests.{and_no}
-use Rattle.apollo.specs.Frame.{height, parent, digest, linked, lastFrame}
+use Rattle.apollo.specs.Frame.{height, parent, digest, linked}
 
 -- a height that is one more
 height-next : (a h : ℕ) → (h ≡ 0 → ⊥) → eqb a (h - 1) ≡ eqb (a + 1) h
@@ -19,9 +17,9 @@ height-next a zero n = absurd (n refl)
 height-next a (suc h) n = let e : suc h - 1 ≡ h = omega arith in rw (e, add-one) (sym (eqb-suc-suc a h))
 
 module _ (p x d y : List ℕ) (b : Bool) (ed : d ≡ digest p) (ey : y ≡ parent x) (eb : b ≡ same d y) where
-  pub link-name : not b ≡ true → false ≡ linked p x
+  pub link-name : b ≡ false → false ≡ linked p x
   unfolding linked
-  link-name t = let f : same (digest p) (parent x) ≡ false = sym (rw (ed, ey) at eb) ∙ not-true b t in rw f
+  link-name t = let f : same (digest p) (parent x) ≡ false = sym (rw (ed, ey) at eb) ∙ t in rw f
 
   pub link-zero : (h : ℕ) → h ≡ height x → h ≡ 0 → false ≡ linked p x
   unfolding linked
@@ -29,14 +27,8 @@ module _ (p x d y : List ℕ) (b : Bool) (ed : d ≡ digest p) (ey : y ≡ paren
       let n : height p + 1 ≡ height x → ⊥ = omega arith in
       simp (ne_eqb (height p + 1) (height x) n, and_no)
 
-  pub link-height : (g h : ℕ) → g ≡ height p → h ≡ height x → not b ≡ false → (h ≡ 0 → ⊥) → eqb g (h - 1) ≡ linked p x
+  pub link-height : (g h : ℕ) → g ≡ height p → h ≡ height x → b ≡ true → (h ≡ 0 → ⊥) → eqb g (h - 1) ≡ linked p x
   unfolding linked
   link-height g h eg eh t n =
-      let f : same (digest p) (parent x) ≡ true = sym (rw (ed, ey) at eb) ∙ not-false b t in
+      let f : same (digest p) (parent x) ≡ true = sym (rw (ed, ey) at eb) ∙ t in
       rw (f, eg, eh) (height-next (height p) (height x) (rw eh at n))
-
--- the last frame of fewer bytes than one
-pub short-last : (b : List ℕ) → length b < frameSize → part b 0 frameSize ≡ lastFrame b
-short-last b h =
-    let z : length b - frameSize ≡ 0 = omega arith in
-    rw z

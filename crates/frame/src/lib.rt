@@ -1,6 +1,7 @@
 // One frame: its fields read in place, and its parent; whole frames, and the last of them. Every function
 // takes slices of any length, as the definitions do.
 #![tactic(auto)]
+
 ghost use Rattle.std.specs.Prelude.{◌≡◌, ◌≤◌, ◌<◌};
 ghost use Rattle.apollo.specs.Size.{frameSize};
 ghost use Rattle.apollo.specs.Bytes as Bytes;
@@ -14,6 +15,7 @@ fn wide(b: u8) -> u32
     b as u32
 }
 
+#[tactic(auto, unfolding(apollo::specs::Bytes::number4))]
 fn number4(x: &[u8], start: usize) -> u32
     requires { start ≤ frameSize }
     ensures { result ≡ Bytes.number4 x.now start }
@@ -37,6 +39,7 @@ pub fn signer(x: &[u8]) -> u8
     slices::byte(x, 1)
 }
 
+#[tactic(auto, unfolding(apollo::specs::Bytes::number2))]
 pub fn entry_length(x: &[u8]) -> usize
     ensures { (result ≡ Frame.entryLength x.now) × (result < 65536) }
 {
@@ -72,6 +75,7 @@ pub fn linked(p: &[u8], x: &[u8]) -> bool
 }
 
 // 1 to `most` whole frames.
+#[tactic(auto, unfolding(apollo::specs::Frame::wholeFrames))]
 pub fn is_whole(most: u32, frames: &[u8]) -> bool
     ensures { result ≡ Frame.wholeFrames most frames.now }
 {
