@@ -1,4 +1,5 @@
 // A line of the input, byte by byte: a letter, then its words with a space before each.
+use std::io::Read;
 use text::Reader;
 
 // What was read last, and what may come.
@@ -344,20 +345,24 @@ fn ended(l: Line, reader: Reader) -> Input {
     Input { task, reader }
 }
 
-// Reads the next line and puts its words of bytes. Nothing says that it ends, so the turns are counted down from a number
-// that no run uses up.
-pub fn read_line(input: Input, buf: &mut [u8; 4096], bytes: &mut [u8; 8704]) -> Input {
+// Reads the next line and puts its words of bytes. Nothing says that it ends, so the turns are counted, up to a number that
+// no run uses up.
+pub fn read_line(
+    from: &mut impl Read,
+    rt: &impl Eprint,
+    input: Input,
+    buf: &mut [u8; 4096],
+    bytes: &mut [u8; 8704],
+) -> Input {
     let mut reader = input.reader;
     let mut line = empty_line();
-    let mut turns = u64::MAX;
-    while turns > 0 {
-        reader = text::next(reader, buf);
+    for _ in 0..u64::MAX {
+        reader = text::next(from, rt, reader, buf);
         if reader.is_over | (reader.byte == b'\n') {
             return ended(line, reader);
         }
         line = longer(line, reader.byte);
         fill(bytes, line);
-        turns -= 1;
     }
     input
 }

@@ -25,18 +25,18 @@ fn hex(d: &[u8]) -> [u8; 66] {
 }
 
 // Prints numbers and a digest.
-fn row(ns: &[u64], d: [u8; 32]) -> bool {
+fn row(rt: &(impl Print + Eprint), ns: &[u64], d: [u8; 32]) -> bool {
     let mut line = [0u8; 256];
     let digits = hex(&d);
     let a = 1 - cut(ns.len(), 1); // a space only after numbers
     let n = text::put_row(&mut line, 0, ns, &digits[a..66]);
-    text::print(&line[0..n])
+    text::print(rt, &line[0..n])
 }
 
 // Prints the digest of some bytes.
-pub fn digest(bytes: &[u8]) -> bool {
+pub fn digest(rt: &(impl Print + Eprint), bytes: &[u8]) -> bool {
     let none = [0u64; 0];
-    row(&none, sha256::digest(bytes))
+    row(rt, &none, sha256::digest(bytes))
 }
 
 pub fn cut(n: usize, most: usize) -> usize
@@ -110,7 +110,7 @@ fn numbers_of(r: Replica) -> [u64; 10] {
 }
 
 // Prints numbers, a record, its rotation in hex before its marks, and what ends the line.
-fn record_row(ns: &[u64], r: Replica, end: &[u8]) -> bool {
+fn record_row(rt: &(impl Print + Eprint), ns: &[u64], r: Replica, end: &[u8]) -> bool {
     let mut line = [0u8; 256];
     let own = numbers_of(r);
     let rotation = r.rotation;
@@ -119,11 +119,12 @@ fn record_row(ns: &[u64], r: Replica, end: &[u8]) -> bool {
     let a = text::put_row(&mut line, 0, ns, b" ");
     let b = text::put_row(&mut line, a, &own, &seats[0..32]);
     let n = text::put_row(&mut line, b, &marks, end);
-    text::print(&line[0..n])
+    text::print(rt, &line[0..n])
 }
 
 // Prints an answer, and the digest of what was lent, whose sizes are s[2] to s[4].
 pub fn answer(
+    rt: &(impl Print + Eprint),
     x: Answer,
     s: [usize; 9],
     log: &[u8; 4608],
@@ -143,24 +144,30 @@ pub fn answer(
         slices::part(out, 0, s[4]),
     );
     let digits = hex(&d);
-    record_row(&ns, x.replica, &digits)
+    record_row(rt, &ns, x.replica, &digits)
 }
 
 // Prints the answer of an equivocation, for which no buffer is lent to write to.
-pub fn marked(x: Marked) -> bool {
+pub fn marked(rt: &(impl Print + Eprint), x: Marked) -> bool {
     let ns = [x.number as u64, wide(x.place)];
-    record_row(&ns, x.replica, b"\n")
+    record_row(rt, &ns, x.replica, b"\n")
 }
 
 // Prints the answer of a read and the digest of the lent log.
-pub fn entry(number: u8, start: usize, size: usize, log: &[u8]) -> bool {
+pub fn entry(
+    rt: &(impl Print + Eprint),
+    number: u8,
+    start: usize,
+    size: usize,
+    log: &[u8],
+) -> bool {
     let ns = [number as u64, start as u64, size as u64];
-    row(&ns, sha256::digest(log))
+    row(rt, &ns, sha256::digest(log))
 }
 
 // Prints the answer of a fetch and the digest of what was lent.
-pub fn fetched(x: Fetched, log: &[u8], out: &[u8]) -> bool {
+pub fn fetched(rt: &(impl Print + Eprint), x: Fetched, log: &[u8], out: &[u8]) -> bool {
     let ns = [x.number as u64, x.count as u64];
     let masks = [0u16; 0];
-    row(&ns, lent_digest(log, &masks, 0, out))
+    row(rt, &ns, lent_digest(log, &masks, 0, out))
 }

@@ -1,12 +1,7 @@
 -- Laws of what is put into a line. Assumes nothing.
-use mathlib.Core.Path.{◌≡◌, refl, sym, ap, ap₂, ◌∙◌}
-use mathlib.Core.List.{List, [], ◌∷◌}
-use Prim.Native.Nat.{ℕ, ◌+◌, ◌≤◌, ◌<◌, min}
-use native.Mathlib.Numerals.{add-one}
-use native.Mathlib.Omega.{arith}
-use lib.ListN.{length, get_or, drop}
-use lib.Seq.{paste, drop-cons, drop-length}
-use borrow.Author.Tests.{le-leb, lt-leb}
+use Rattle.std.proofs.Common.{◌≡◌, refl, sym, ap, ap₂, ◌∙◌, List, [], ◌∷◌, ℕ, ◌+◌, ◌≤◌, ◌<◌, min, add-one, arith, length, get_or, drop, drop-cons}
+use Rattle.std.proofs.Math.Seq.{paste, drop-length}
+use Rattle.std.proofs.lemmas.Bool.{le-leb, lt-leb}
 use Rattle.text.specs.Row.{Line, written, put, putNumber, putFrom}
 
 pub put-fits : (xs s : List ℕ) (at : ℕ) → at + length s ≤ length xs

@@ -1,10 +1,12 @@
 // Text: a row of numbers put into a lent buffer, the bytes of standard input one by one, and lines written, each at once.
 #![tactic(auto)]
+
 ghost use Rattle.std.specs.Prelude.{◌≡◌, ◌≤◌, min, length};
 ghost use Rattle.text.specs.Reading.{taken, Next};
 ghost use Rattle.text.specs.Row.{written, put, putNumber, putRow};
 
-use libc::{STDERR_FILENO, STDIN_FILENO, STDOUT_FILENO};
+use itoa::Buffer;
+use std::io::{Error, Read};
 
 // Where a reader stands in its buffer: the bytes from `at` up to `end` are still to come. The byte that came last, and
 // whether the input has ended instead.
@@ -46,11 +48,11 @@ fn put_number(line: &mut [u8], at: usize, i: usize, n: u64) -> usize
     ensures { written line.new result ≡ putNumber (written line.old at) i n }
 {
     let space = [b' '];
-    let mut digits = [0u8; 20];
-    let k = io::decimal(n, &mut digits);
+    let mut buffer = Buffer::new();
+    let digits = buffer.format(n).as_bytes();
     let g = least(i, 1);
     let e = put_bytes(line, at, &space[0..g]);
-    put_bytes(line, e, &digits[0..k])
+    put_bytes(line, e, digits)
 }
 
 // Puts the numbers in decimal, a space between any two, and then s. Answers the place after them. A piece that does not
@@ -87,17 +89,25 @@ fn take(r: Reader, buf: &[u8]) -> Reader
     next
 }
 
-// Reads once into the whole buffer, and answers how many bytes came.
-fn fill(buf: &mut [u8; 4096]) -> usize {
-    let got = libc::read(STDIN_FILENO, buf);
-    if got < 0 {
-        os::fail(b"standard input");
-    }
-    io::count(got, buf)
+// Tells what failed, and why.
+fn fail(rt: &impl Eprint, what: &str, error: Error) {
+    let _ = eprintln!(rt; "{what}: {error}");
 }
 
-// The next byte of standard input. Reads where none is left in the buffer; a read that fails is told, and ends the input.
-pub fn next(r: Reader, buf: &mut [u8; 4096]) -> Reader
+// Reads once into the whole buffer, and answers how many bytes came.
+fn fill(from: &mut impl Read, rt: &impl Eprint, buf: &mut [u8; 4096]) -> usize {
+    match from.read(buf) {
+        Ok(n) => n,
+        Err(e) => {
+            fail(rt, "standard input", e);
+            0
+        }
+    }
+}
+
+// The next byte of standard input, which `from` reads. Reads where none is left in the buffer; a read that fails is told,
+// and ends the input.
+pub fn next(from: &mut impl Read, rt: &impl Eprint, r: Reader, buf: &mut [u8; 4096]) -> Reader
     ensures { Next buf.old buf.new r result }
 {
     if r.at < r.end {
@@ -105,24 +115,22 @@ pub fn next(r: Reader, buf: &mut [u8; 4096]) -> Reader
     }
     let mut fresh = r;
     fresh.at = 0;
-    fresh.end = fill(buf);
+    fresh.end = fill(from, rt, buf);
     take(fresh, buf)
 }
 
 // Writes a line to standard output. One that could not be written is told, and false is the answer.
-pub fn print(line: &[u8]) -> bool {
-    let is_written = io::write_all(STDOUT_FILENO, line);
-    if !is_written {
-        os::fail(b"standard output");
+pub fn print(rt: &(impl Print + Eprint), line: &[u8]) -> bool {
+    match rt.write_all(line) {
+        Ok(()) => true,
+        Err(e) => {
+            fail(rt, "standard output", e);
+            false
+        }
     }
-    is_written
 }
 
 // Tells that a line of the input is no command.
-pub fn no_command(number: u64) {
-    let mut line = [0u8; 64];
-    let ns = [number];
-    let a = put_bytes(&mut line, 0, b"line ");
-    let n = put_row(&mut line, a, &ns, b": no command\n");
-    io::write_all(STDERR_FILENO, &line[0..n]);
+pub fn no_command(rt: &impl Eprint, number: u64) {
+    let _ = eprintln!(rt; "line {number}: no command");
 }

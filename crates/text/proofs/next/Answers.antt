@@ -1,0 +1,25 @@
+-- `text::next` meets its contract. By `take`, whose reader keeps its end. Assumes nothing.
+use Rattle.std.proofs.Common.{◌≡◌, ℕ, Bool, true, false, cond, ltb, min, length, List, refl, sym, ap, ◌∙◌, arith, rules}
+use Rattle.std.proofs.lemmas.Bool.{lt-ltb, le-ltb}
+use Rattle.text.specs.declared.Reader.{Reader}
+use Rattle.text.specs.Reading.{taken, before, Next}
+use Rattle.text.proofs.next.Goals as goal
+
+either : (b : Bool) (p q : Reader) (n : ℕ) → p.end ≡ n → q.end ≡ n → (cond b p q).end ≡ n
+either true p q n h g = h
+either false p q n h g = g
+
+taken-end : (xs : List ℕ) (r : Reader) → (taken xs r).end ≡ r.end
+unfolding taken
+taken-end xs r = either (ltb r.at (min r.end (length xs))) _ _ r.end refl refl
+
+pub returns : goal.returns
+returns g c =
+    let r = c.args.r in
+    let n = c.fill.result in
+    let ys = c.fill.new.buf in
+    let e : c.take-2.result.end ≡ n = ap (λ (q : Reader). q.end) c.take-2.ensures ∙ taken-end ys (before n r) in
+    record {
+      kept = λ h. absurd (omega (arith, h));
+      byte = rw (le-ltb r.at r.end (omega arith)) (c.take-2.ensures ∙ ap (λ k. taken ys (before k r)) (sym e));
+    }
