@@ -8,10 +8,8 @@ use lib.Pow.{pow-lt, pow_mono, pow_pos}
 use lib.Bits.{bit_or}
 use lib.Count.{ones}
 use lib.Dec.{eqb, leb, ltb}
-use lib.ListN.{length, get_or, set}
-use lib.Seq.{set_out}
 use borrow.Author.Tests.{lt-ltb}
-use Rattle.apollo.specs.Masks.{bit, setBit, mask, addBlame, certified}
+use Rattle.apollo.specs.Masks.{bit, setBit, mask, certified}
 use Rattle.apollo.proofs.Masks.{ones-count, or_set, bit-shift}
 use Rattle.apollo.specs.declared.Setup.{Setup}
 
@@ -52,11 +50,3 @@ bit_high i m h g =
 -- the or with 2 ^ i
 pub bit-set : (i m : ℕ) → i < 16 → bit_or m (1 * 2 ^ i % 2 ^ 16) ≡ setBit i m
 bit-set i m h = rw (one_bit 16 i h, or_set i m)
-
--- a bit set in the round's place
-module _ (masks : List ℕ) (r i k : ℕ) (e : k ≡ r - 1) where
-  pub blame-added : (m : ℕ) → m ≡ setBit i (get_or masks k 0) → set masks k m ≡ addBlame masks r i
-  blame-added m d = rw (d, e)
-
-  pub blame-past : length masks ≤ k → masks ≡ addBlame masks r i
-  blame-past g = rw (← e) (sym (set_out masks k (setBit i (get_or masks k 0)) g))

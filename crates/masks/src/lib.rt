@@ -1,6 +1,7 @@
 // Masks of 16 bits, a bit for each replica: their bits, as the blame masks and the marks have them; of the blame masks certified (shown)
 // rounds, and blames added; all masks zeroed.
 #![tactic(auto)]
+
 ghost use Rattle.std.specs.Prelude.{◌≡◌, ◌%◌, ◌^◌, ◌<◌, ltb, length};
 ghost use Rattle.apollo.specs.Bytes.{zeros};
 ghost use Rattle.apollo.specs.Masks as Masks;
