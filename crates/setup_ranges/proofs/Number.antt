@@ -1,14 +1,13 @@
--- 1 and 17 by the code's tests, and of what was lent. Assumes nothing.
+-- The number of a set-up, and of what was lent. Assumes nothing.
 use mathlib.Core.Path.{◌≡◌, refl, ap}
 use mathlib.Core.Bool.{Bool, true, false, ◌&&◌, not, cond}
 use mathlib.Core.List.{List}
 use Prim.Native.Nat.{ℕ}
 use native.Mathlib.Omega.{arith}
 use lib.Dec.{eqb}
-use lib.ListN.{length, take}
-use borrow.Author.Tests.{not-true, not-false}
+use lib.ListN.{length}
+use borrow.Author.Tests.{not-false}
 use Rattle.apollo.specs.declared.Setup.{Setup}
-use Rattle.apollo.specs.Bytes.{blank, within}
 use Rattle.apollo.specs.Rotation.{isRotation}
 use Rattle.apollo.specs.Setup.{setup, replicas, validRotation, validLimits, setupNumber}
 use Rattle.apollo.specs.Refusal.{badSetup, badRotation}
@@ -16,21 +15,6 @@ use Rattle.apollo.proofs.Tests.{by_cond}
 use Rattle.apollo.proofs.Rotation.{padded-same}
 use Rattle.apollo.proofs.Validity.{limits}
 use Rattle.setup_ranges.specs.Number.{lentNumber}
-
-module _ (s : Setup) (size : ℕ) (a : Bool) (ea : a ≡ within 1 s.f 7 && within 1 s.last_round.0 4096) where
-  pub limits-bad : not a ≡ true → 1 ≡ lentNumber s size
-  unfolding lentNumber validLimits
-  limits-bad t = rw (← ea, not-true a t)
-
-  module _ (t : not a ≡ false) (c : Bool)
-      (ec : c ≡ isRotation (replicas s) (take (replicas s) s.rotation) && blank s.rotation (replicas s) 15) where
-    pub rotation-bad : not (eqb size (replicas s) && c) ≡ true → 17 ≡ lentNumber s size
-    unfolding lentNumber validLimits validRotation
-    rotation-bad u = rw (← ea, ← ec, not-false a t, not-true (eqb size (replicas s) && c) u)
-
-    pub setup-good : not (eqb size (replicas s) && c) ≡ false → 0 ≡ lentNumber s size
-    unfolding lentNumber validLimits validRotation
-    setup-good u = rw (← ea, ← ec, not-false a t, not-false (eqb size (replicas s) && c) u)
 
 -- f and T of a set-up that passed
 pub lent-limits : (s : Setup) (size : ℕ) → lentNumber s size ≡ 0 → validLimits s ≡ true
