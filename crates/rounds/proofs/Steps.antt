@@ -36,26 +36,6 @@ module _ (r : Replica) where
   unfolding leads
   leads-last b e t = leb-true r.round.0 r.last_round.0 (and_first _ _ (sym e ∙ t))
 
-pub taken-told : (r : Replica) (frames l : ℕ) → l ≡ nextLeader r
-    → record { number = 0; frames = frames; leader = l; place = 0; replica = r } ≡ told r frames
-taken-told r frames l e =
-    ap (λ (k : ℕ). record { number = 0; frames = frames; leader = k; place = 0; replica = r }) e
-
--- with no ticks left the timer stays
-pub none_left : (r : Replica) (a : Answer) → r.timer.0 ≡ 0 → a ≡ told r 0 → a ≡ told (withTimer r (r.timer.0 - 1)) 0
-none_left r a h e =
-    let k : r.timer.0 ≡ r.timer.0 - 1 = omega arith in
-    e ∙ ap (λ (t : ℕ). told (withTimer r t) 0) k
-
-pub one_less : (r q : Replica) (a : Answer) → q ≡ withTimer r (r.timer.0 - 1) → a ≡ told q 0
-    → a ≡ told (withTimer r (r.timer.0 - 1)) 0
-one_less r q a eq e = e ∙ ap (λ (x : Replica). told x 0) eq
-
--- the whole wait is set, then committed
-pub entered-steps : (r q p : Replica) (log : List ℕ) (frames : ℕ) (a : Answer) → q ≡ withTimer r r.timeout.0 → p ≡ commit q log
-    → a ≡ told p frames → a ≡ told (commit (withTimer r r.timeout.0) log) frames
-entered-steps r q p log frames a eq ep ea = rw (ep, eq) at ea
-
 module _ (r : Replica) (log entry out masks : List ℕ) where
   -- the own round, and another's
   module _ (out' log' : List ℕ) (q : Replica)
@@ -70,15 +50,6 @@ module _ (r : Replica) (log entry out masks : List ℕ) where
   unfolding enterRound entered taken flatten
   entered-other a b eb t ea = rw (← eb, t, ea)
 
--- blames that certify R
-module _ (r : Replica) (masks : List ℕ) (round : ℕ) where
-  pub certifies-other : (round ≡ r.round.0 → ⊥) → false ≡ eqb round r.round.0 && certified (setupOf r) masks round
-  certifies-other h = rw (ne_eqb round r.round.0 h)
-
-  pub certifies-own : (s : Setup) (b : Bool) → round ≡ r.round.0 → s ≡ setupOf r → b ≡ certified s masks round
-      → b ≡ eqb round r.round.0 && certified (setupOf r) masks round
-  certifies-own s b h d e = rw (eq-eqb round r.round.0 h) (rw d at e)
-
 -- after blames for a round: R stays, or the next round is entered
 module _ (r : Replica) (log masks entry out : List ℕ) (round : ℕ)
     (b : Bool) (eb : b ≡ eqb round r.round.0 && certified (setupOf r) masks round) where
@@ -92,27 +63,9 @@ module _ (r : Replica) (log masks entry out : List ℕ) (round : ℕ)
   unfolding settle waiting
   settled-next q o k eq e = rw (← eb, k) (rw eq at e)
 
-  pub settled-round : b ≡ true → round ≡ r.round.0
-  settled-round k = eqb-true round r.round.0 (and_first _ _ (sym eb ∙ k))
-
 -- a blame that is heard, with masks that are now masks'
 pub heard-settled : (r : Replica) (log masks masks' entry out : List ℕ) (round signer : ℕ) (o : Outcome) → masks' ≡ addBlame masks round signer
     → o ≡ taken (settle sha256 entry (state r log masks') round) out
     → o ≡ taken (settle sha256 entry (hearing (state r log masks) round signer) round) out
 unfolding hearing
 heard-settled r log masks masks' entry out round signer o em e = rw em at e
-
--- the next round may be entered
-pub next-ready : (r : Replica) (log entry out : List ℕ) → Ready r log entry out → r.round.0 ≤ r.last_round.0
-    → (round : ℕ) → round ≡ r.round.0 → Ready (withRound r (round + 1)) log entry out
-next-ready r log entry out g h round e =
-    record {
-      f-most = g.f-most;
-      last-most = g.last-most;
-      size = g.size;
-      round-most = omega arith;
-      tip-below = omega arith;
-      tip-height = g.tip-height;
-      out-least = g.out-least;
-      entry-most = g.entry-most;
-    }
