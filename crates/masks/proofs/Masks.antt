@@ -4,7 +4,7 @@ use mathlib.Core.Bool.{true, false}
 use mathlib.Core.List.{List}
 use Prim.Native.Nat.{ℕ, ◌+◌, ◌-◌, ◌*◌, ◌/◌, ◌%◌, ◌^◌, ◌≤◌, ◌<◌}
 use native.Mathlib.Nat.{one-mul, mod-eq_of_lt, div-eq_of_lt, lt_of_lt_of_le}
-use lib.Pow.{pow-lt, pow_mono, pow_pos}
+use lib.Pow.{pow-lt, pow_mono}
 use lib.Bits.{bit_or}
 use lib.Count.{ones}
 use lib.Dec.{eqb, leb, ltb}
@@ -14,11 +14,8 @@ use Rattle.apollo.proofs.Masks.{ones-count, or_set, bit-shift}
 use Rattle.apollo.specs.declared.Setup.{Setup}
 
 -- 2 ^ n in a word of 2 ^ w
-pub one_bit : (w n : ℕ) → n < w → 1 * 2 ^ n % 2 ^ w ≡ 2 ^ n
+one_bit : (w n : ℕ) → n < w → 1 * 2 ^ n % 2 ^ w ≡ 2 ^ n
 one_bit w n h = rw one-mul (mod-eq_of_lt (pow-lt h))
-
-pub one-bit-pos : (w n : ℕ) → n < w → 0 < 1 * 2 ^ n % 2 ^ w
-one-bit-pos w n h = rw (one_bit w n h) (pow_pos n)
 
 below-pow : (m n : ℕ) → m < 2 ^ 16 → 16 ≤ n → m < 2 ^ n
 below-pow m n h g = lt_of_lt_of_le h (pow_mono g)

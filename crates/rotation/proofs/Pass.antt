@@ -1,10 +1,9 @@
 -- One pass over the seats of a record: the cards of those that are left, and whether the others are zero. Assumes nothing.
 use Prim.Native.Nat.{ℕ, suc, ◌+◌, ◌-◌, ◌≤◌, ◌<◌}
-use mathlib.Core.Path.{◌≡◌, refl, sym, ap, ◌∙◌}
+use mathlib.Core.Path.{◌≡◌, sym, ap, ◌∙◌}
 use mathlib.Core.List.{List, [], ◌∷◌}
 use mathlib.Core.Bool.{Bool, true, false, ◌&&◌}
 use native.Mathlib.Numerals.{add-one}
-use native.Mathlib.Nat.{sub-zero}
 use native.Mathlib.Omega.{arith}
 use lib.Dec.{eqb}
 use lib.ListN.{length, get_or, take, drop, length-take, length-drop, drop_of_length-le}
@@ -56,12 +55,6 @@ module _ (n : ℕ) (seats : List ℕ) (size : length seats ≡ 15) where
         let q : n - i ≡ 0 = omega arith in
         let r : n - (i + 1) ≡ 0 = omega arith in
         rw r (sym (and_assoc b _ _) ∙ (rw (q, rest i l) at z))
-
-  pub first-cards : Cards n seats 0 0
-  first-cards = rw sub-zero refl
-
-  pub first-zeros : Zeros n seats true 0
-  first-zeros = rw sub-zero refl
 
   -- too many cards for the seats
   pub too_many : 15 < n → false ≡ isRotation n (take n seats) && blank seats n 15

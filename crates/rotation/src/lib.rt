@@ -1,5 +1,6 @@
 // The rotation (document 02: seating): who leads a round, the test of a rotation, and how a record holds one.
 #![tactic(auto)]
+
 ghost use Rattle.std.specs.Prelude.{◌≡◌, ◌&&◌, ◌≤◌, take};
 ghost use Rattle.apollo.specs.Bytes.{blank};
 ghost use Rattle.apollo.specs.Rotation.{isRotation, padded};
@@ -9,6 +10,7 @@ ghost use Rattle.rotation.specs.Seen.{withReplica, allSeen};
 use apollo::Setup;
 
 // The leader of a round.
+#[tactic(auto, unfolding(apollo::specs::Setup::leader))]
 pub fn leader(s: Setup, round: u32) -> u8
     ensures { result ≡ leader s round }
 {
@@ -18,6 +20,7 @@ pub fn leader(s: Setup, round: u32) -> u8
 }
 
 // A mask of cards with one more; a number that has no bit is passed over.
+#[tactic(auto, unfolding(crate::specs::Seen::withReplica))]
 fn with_replica(m: u16, card: u8) -> u16
     ensures { result ≡ withReplica m card }
 {
@@ -29,6 +32,7 @@ fn with_replica(m: u16, card: u8) -> u16
 }
 
 // A mask has all of the n lowest bits.
+#[tactic(auto, unfolding(crate::specs::Seen::allSeen))]
 fn all_seen(m: u16, n: usize) -> bool
     requires { n ≤ 15 }
     ensures { result ≡ allSeen n m }

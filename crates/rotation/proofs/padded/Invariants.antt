@@ -1,0 +1,10 @@
+-- `rotation::padded` meets its contract. The loop's invariant: the first i seats are there, the others are zero. Assumes nothing.
+use Rattle.std.proofs.Common.{◌-◌, ◌≤◌}
+use Rattle.rotation.proofs.Fill.{Filled}
+use Rattle.rotation.proofs.padded.Given as goal
+
+abbrev pub invariant-loop-i : goal.invariant-loop-i
+invariant-loop-i l = (l.i ≤ 15) × Filled l.rotation l.seats l.i
+
+abbrev pub decreases-loop-i : goal.decreases-loop-i
+decreases-loop-i l = 15 - l.i
