@@ -5,7 +5,7 @@ use mathlib.Core.Option.{Option, none, some}
 use mathlib.Core.List.{List, ◌∷◌}
 use Prim.Native.Nat.{ℕ, ◌+◌, ◌-◌, ◌*◌, ◌≤◌, ◌<◌}
 use native.Mathlib.Omega.{arith}
-use lib.Dec.{eqb, ltb}
+use lib.Dec.{eqb}
 use lib.ListN.{take, drop}
 use borrow.Author.Tests.{eq-eqb, ne_eqb, eqb-true}
 use Rattle.sha256.specs.Fips.{sha256}
@@ -13,30 +13,13 @@ use Rattle.apollo.specs.Size.{frameSize}
 use Rattle.apollo.specs.Bytes.{part}
 use Rattle.apollo.specs.declared.Setup.{Setup}
 use Rattle.apollo.specs.declared.Verdict.{Verdict}
-use Rattle.apollo.specs.Frame.{round, linked, frames}
+use Rattle.apollo.specs.Frame.{frames}
 use Rattle.apollo.specs.Judging.{verdict, noRefusal}
-use Rattle.apollo.specs.BlockRun.{childOf, faulty, judgedNext, judgedRun}
+use Rattle.apollo.specs.BlockRun.{faulty, judgedNext, judgedRun}
 use Rattle.apollo.proofs.Frames.{frames-split}
 use Rattle.frame.proofs.Frames.{rest, rest-next, rest_end, frame-part}
 
-module _ (p x : List ℕ) (b : Bool) (d : b ≡ linked p x) where
-  pub no-child : b ≡ false → false ≡ childOf p x
-  unfolding childOf
-  no-child e = rw (← d, e)
-
-  pub child : (q r : ℕ) → b ≡ true → q ≡ round p → r ≡ round x → ltb q r ≡ childOf p x
-  unfolding childOf
-  child q r t e f = rw (← d, t, e, f)
-
 module _ (s : Setup) (x : List ℕ) (k : ℕ) (d : k ≡ faulty sha256 s x) where
-  pub next-faulty : (p : Option (List ℕ)) → (k ≡ 0 → ⊥) → k ≡ judgedNext sha256 s p x
-  unfolding judgedNext
-  next-faulty p n = rw (← d, ne_eqb k 0 n)
-
-  pub next-child : (p : List ℕ) (b : Bool) → k ≡ 0 → b ≡ childOf p x → cond b 0 9 ≡ judgedNext sha256 s (some p) x
-  unfolding judgedNext
-  next-child p b e f = rw (← d, eq-eqb k 0 e, f)
-
   -- behind nothing 9 does not come
   pub next-any : k ≡ judgedNext sha256 s none x
   unfolding judgedNext

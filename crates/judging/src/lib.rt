@@ -1,6 +1,7 @@
 // Several frames judged in place, lowest first: each by itself, 7 and 8, or as a run of blocks, 7, 8 and 9. Their checks are made four at a
 // time: up to three more than a refusal needs. Every function takes slices of any content.
 #![tactic(auto)]
+
 ghost use Rattle.std.specs.Prelude.{◌≡◌, ◌*◌, ◌≤◌, length};
 ghost use Rattle.std.proofs.Math.Option.{some};
 ghost use Rattle.sha256.specs.Fips.{sha256};
@@ -52,6 +53,7 @@ pub fn judge_each(form: Form, s: Setup, frames: &[u8]) -> Verdict
 }
 
 // Frame x is the child of frame p.
+#[tactic(auto, unfolding(apollo::specs::BlockRun::childOf))]
 fn is_child(p: &[u8], x: &[u8]) -> bool
     ensures { result ≡ BlockRun.childOf p.now x.now }
 {
@@ -62,6 +64,7 @@ fn is_child(p: &[u8], x: &[u8]) -> bool
 }
 
 // 7, 8 and 9 of frame x behind frame p. `checked`: the check of x is right.
+#[tactic(auto, unfolding(apollo::specs::BlockRun::judgedNext))]
 fn judge_next(s: Setup, p: &[u8], x: &[u8], checked: bool) -> u8
     requires { checked ≡ Frame.checked sha256 x.now }
     ensures { result ≡ judgedNext sha256 s (some p.now) x.now }

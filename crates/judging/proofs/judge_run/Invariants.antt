@@ -1,0 +1,24 @@
+-- `judging::judge_run`: judging the frames that are left, behind the one before them, gives what judging those behind the first does, and the
+-- checks of the group that is begun are known.
+use Rattle.std.proofs.Common.{◌≡◌, ◌*◌, ◌≤◌, ◌-◌}
+use Rattle.std.proofs.Math.Option.{some}
+use Rattle.sha256.specs.Fips.{sha256}
+use Rattle.apollo.specs.Size.{frameSize}
+use Rattle.apollo.specs.Bytes.{part}
+use Rattle.apollo.specs.BlockRun.{judgedRun}
+use Rattle.frame.proofs.Frames.{rest}
+use Rattle.frame_checks.specs.Ahead.{Held}
+use Rattle.judging.proofs.judge_run.Given as goal
+
+abbrev pub invariant-loop-next : goal.invariant-loop-next
+invariant-loop-next l = record {
+  from : 1 ≤ l.next;
+  in_range : l.next ≤ l.n;
+  held : Held l.frames l.next l.known;
+  answer :
+      judgedRun sha256 l.s l.next (some (part l.frames (frameSize * (l.next - 1)) frameSize)) (rest l.frames l.n l.next)
+      ≡ judgedRun sha256 l.s 1 (some (part l.frames 0 frameSize)) (rest l.frames l.n 1);
+}
+
+abbrev pub decreases-loop-next : goal.decreases-loop-next
+decreases-loop-next l = l.n - l.next
