@@ -4,10 +4,10 @@ use mathlib.Core.Bool.{true, false}
 use mathlib.Core.List.{List}
 use Prim.Native.Nat.{ℕ, zero, suc, ◌+◌, ◌-◌, ◌*◌, ◌≤◌, ◌<◌}
 use native.Mathlib.Omega.{arith}
-use lib.Dec.{eqb, eqb-suc-zero}
+use lib.Dec.{eqb-suc-zero}
 use Rattle.apollo.specs.Size.{frameSize}
 use Rattle.apollo.specs.Bytes.{part, zeros, number4}
-use Rattle.apollo.specs.Frame.{kind, height}
+use Rattle.apollo.specs.Frame.{height}
 use Rattle.apollo.specs.Log.{genesis, slot, filled, highest, slotsRead}
 
 -- the genesis is not filled, and its height is 0
@@ -26,12 +26,6 @@ slot-part log zero h = absurd (omega arith)
 slot-part log (suc k) h =
     let e : suc k - 1 ≡ k = omega arith in
     rw e
-
-pub filled-read : (log x : List ℕ) (r k : ℕ) → x ≡ slot log r → k ≡ kind x → eqb k 1 ≡ filled (slot log r)
-filled-read log x r k e d = rw (← e, d)
-
-pub height-read : (log x : List ℕ) (r h : ℕ) → x ≡ slot log r → h ≡ height x → h ≡ height (slot log r)
-height-read log x r h e d = rw (← e) d
 
 -- highest, from slot r downwards
 pub highest-here : (log : List ℕ) (r : ℕ) → 0 < r → true ≡ filled (slot log r) → r ≡ highest log r

@@ -32,10 +32,6 @@ nothing_above log r h =
     rw (z, take_all (frameSize * r) log h) (sym (append-nil log))
 
 module _ (log x : List ℕ) (r : ℕ) where
-  pub slot-size : 1 ≤ r → frameSize * r ≤ length log → length x ≡ frameSize
-      → length x ≡ length (take (frameSize * r - (frameSize * r - frameSize)) (drop (frameSize * r - frameSize) log))
-  slot-size g h l = simp (length-take, length-drop) (omega arith)
-
   pub stored : (y : List ℕ) → 1 ≤ r → y ≡ x → put_mid (frameSize * r - frameSize) (frameSize * r - (frameSize * r - frameSize)) log y ≡ store log r x
   unfolding store
   stored y g f =

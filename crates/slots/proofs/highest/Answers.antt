@@ -1,0 +1,22 @@
+-- `slots::highest` meets its contract. By the slot read, the highest if it is filled.
+use Rattle.std.proofs.Common.{◌+◌, ◌∙◌, arith}
+use Rattle.slots.proofs.Search.{highest-here, highest-below, highest-none, read_found, read_none}
+use Rattle.slots.proofs.highest.Goals as goal
+
+pub returns-then-is_filled : goal.returns-then-is_filled
+returns-then-is_filled c =
+    let found = highest-here _ _ c.loop-round-test.true c.if-is_filled.ensures ∙ c.loop-round.invariant.none_above in
+    (found, read_found _ _ _ (c.loop-round.slots_read + 1) c.loop-round-test.true (omega arith) found)
+
+pub loop-round-preserved : goal.loop-round-preserved
+loop-round-preserved c =
+    record {
+      read = omega arith;
+      none_above =
+          highest-below _ _ c.loop-round-test.true c.if-is_filled.ensures ∙ c.loop-round.invariant.none_above;
+    }
+
+pub returns : goal.returns
+returns c =
+    let none = highest-none _ _ c.loop-round-test.false ∙ c.loop-round.invariant.none_above in
+    (none, read_none _ _ _ _ c.loop-round-test.false c.loop-round.invariant.read none)
