@@ -4,7 +4,7 @@ use mathlib.Core.Bool.{Bool, false}
 use mathlib.Core.List.{List, [], ◌∷◌}
 use Prim.Native.Nat.{ℕ, zero, suc, ◌+◌, ◌-◌, ◌*◌, ◌%◌, ◌≤◌, ◌<◌}
 use native.Mathlib.Omega.{arith}
-use lib.ListN.{length, get_or, take, drop, length-take, length-drop}
+use lib.ListN.{length, get_or, take, drop}
 use borrow.Author.Tests.{le-leb, lt-leb}
 use Rattle.sha256.specs.Fips.{sha256}
 use Rattle.apollo.specs.Size.{frameSize}
@@ -60,10 +60,6 @@ module _ (b : List ℕ) (i : ℕ) where
         e
         ∙ four (lent b i a0 a1 p0 p1 (omega arith) _ refl) (lent b (i + 1) a1 a2 (omega arith) p2 (omega arith) _ refl) (lent b (i + 2) a2 a3 (omega arith) p3 (omega arith) _ refl)
         (lent b (i + 3) a3 a4 (omega arith) p4 h _ refl)
-
--- a frame that the code lends is whole
-pub whole : (b : List ℕ) (a : ℕ) → a + frameSize ≤ length b → length (take (a + frameSize - a) (drop a b)) ≡ frameSize
-whole b a h = simp (length-take, length-drop) (omega arith)
 
 -- frame i's check among those of its group
 pub own : (b : List ℕ) (i : ℕ) → get_or (checksFrom b (i - i % 4)) (i % 4) false ≡ checkedAt b i

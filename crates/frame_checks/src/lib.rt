@@ -1,5 +1,6 @@
 // The checks of frames, made ahead of their turn: in four lanes where three frames or more are left, one by one where one or two are.
 #![tactic(auto)]
+
 ghost use Rattle.std.specs.Prelude.{◌≡◌, [], ◌∷◌, ◌+◌, ◌-◌, ◌*◌, ◌%◌, ◌≤◌, length};
 ghost use Rattle.sha256.specs.Fips.{sha256};
 ghost use Rattle.apollo.specs.Size.{frameSize};
@@ -17,6 +18,7 @@ fn has_check(x: &[u8], d: [u8; 32]) -> bool
 }
 
 // The check of x is right.
+#[tactic(auto, unfolding(apollo::specs::Frame::checked))]
 fn checked(x: &[u8]) -> bool
     ensures { result ≡ Frame.checked sha256 x.now }
 {
