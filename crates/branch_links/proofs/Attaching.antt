@@ -1,20 +1,12 @@
--- Where a frame attaches: one slot tested, and the search downward. Assumes nothing.
+-- Where a frame attaches: the search downward. Assumes nothing.
 use mathlib.Core.Path.{◌≡◌}
 use mathlib.Core.Bool.{Bool, true, false, ◌&&◌, cond}
 use mathlib.Core.Option.{none, some}
 use mathlib.Core.List.{List}
 use Prim.Native.Nat.{ℕ, zero, suc, ◌-◌, ◌≤◌, ◌<◌}
 use native.Mathlib.Omega.{arith}
-use borrow.Author.Tests.{eq-eqb, ne_eqb}
-use Rattle.apollo.specs.Frame.{kind, linked}
+use Rattle.apollo.specs.Frame.{linked}
 use Rattle.apollo.specs.Log.{genesis, slot, filled, attach}
-
-module _ (log x : List ℕ) (r : ℕ) (e : x ≡ slot log r) (k : ℕ) (d : k ≡ kind x) where
-  pub attach-unfilled : (y : List ℕ) → (k ≡ 1 → ⊥) → false ≡ (filled (slot log r) && linked (slot log r) y)
-  attach-unfilled y n = rw (← e, ← d, ne_eqb k 1 n)
-
-  pub attach-filled : (y : List ℕ) (b : Bool) → k ≡ 1 → b ≡ linked x y → b ≡ (filled (slot log r) && linked (slot log r) y)
-  attach-filled y b o q = rw (← e, ← d, eq-eqb k 1 o) q
 
 -- attach, from slot r downwards
 pub attach-here : (log x : List ℕ) (r : ℕ) → 0 < r → true ≡ (filled (slot log r) && linked (slot log r) x) → some r ≡ attach log x r

@@ -1,5 +1,6 @@
 // Where a branch attaches: the round of the slot that its first frame has as its parent.
 #![tactic(auto)]
+
 ghost use Rattle.std.specs.Prelude.{◌≡◌, ◌-◌, ◌<◌, ◌&&◌};
 ghost use Rattle.apollo.specs.Frame as Frame;
 ghost use Rattle.apollo.specs.Log as Log;
@@ -27,6 +28,7 @@ fn attaches(log: &[u8], x: &[u8], r: u32) -> bool
 }
 
 // Frame x attaches to the genesis.
+#[tactic(auto, unfolding(apollo::specs::Log::genesis, apollo::specs::Bytes::zeros))]
 fn attaches_genesis(x: &[u8]) -> bool
     ensures { result ≡ Frame.linked Log.genesis x.now }
 {
