@@ -5,31 +5,11 @@ use mathlib.Core.List.{List}
 use Prim.Native.Nat.{ℕ, ◌+◌, ◌-◌, ◌*◌, ◌≤◌, ◌<◌}
 use native.Mathlib.Omega.{arith}
 use lib.ListN.{take, drop}
-use borrow.Author.Tests.{lt-ltb, le-ltb}
 use Rattle.apollo.specs.Size.{frameSize}
-use Rattle.apollo.specs.Bytes.{same, blank}
+use Rattle.apollo.specs.Bytes.{blank}
 use Rattle.apollo.specs.Frame.{round}
-use Rattle.apollo.specs.Log.{slot}
 use Rattle.branch_rounds.specs.Keeps.{keepsFrame, keepsAll}
 use Rattle.frame.proofs.Frames.{rest, rest-next, rest_end, frame-part}
-
-pub keeps-none : (log : List ℕ) (lo : ℕ) (x : List ℕ) (c r : ℕ) → r ≡ round x → r ≤ c → r ≡ 0 → false ≡ keepsFrame log lo x c
-unfolding keepsFrame
-keeps-none log lo x c r e h z = rw (← e, le-ltb c r h, le-ltb 0 r (omega arith))
-
-module _ (log : List ℕ) (lo : ℕ) (x : List ℕ) (c r : ℕ) (b : Bool) (e : r ≡ round x) where
-  pub keeps-past : c < r → b ≡ blank log (frameSize * lo) (frameSize * c) → b ≡ keepsFrame log lo x c
-  unfolding keepsFrame
-  keeps-past h d = rw (← e, lt-ltb c r h) d
-
-  module _ (h : r ≤ c) (z : r ≡ 0 → ⊥) (d : b ≡ blank log (frameSize * lo) (frameSize * (r - 1))) where
-    pub keeps-not : b ≡ false → false ≡ keepsFrame log lo x c
-    unfolding keepsFrame
-    keeps-not n = rw (← e, le-ltb c r h, lt-ltb 0 r (omega arith), ← d, n)
-
-    pub keeps_same : (y : List ℕ) (s : Bool) → b ≡ true → y ≡ slot log r → s ≡ same y x → s ≡ keepsFrame log lo x c
-    unfolding keepsFrame
-    keeps_same y s t f g = rw (← e, le-ltb c r h, lt-ltb 0 r (omega arith), ← f, ← d, t) g
 
 -- along the frames
 module _ (log b : List ℕ) (lo n i c : ℕ) (k goal : Bool) (h : i < n)

@@ -1,6 +1,7 @@
 // The rounds that a branch spans: the skipped ones, certified or not, and the committed slots that taking it would keep. Every
 // function takes slices of any length and any numbers.
 #![tactic(auto)]
+
 ghost use Rattle.std.specs.Prelude.{◌≡◌};
 ghost use Rattle.apollo.specs.Frame.{framesOf};
 ghost use Rattle.apollo.specs.Branch as Branch;
@@ -47,6 +48,7 @@ pub fn first_uncertified(s: Setup, masks: &[u16], a: u32, frames: &[u8]) -> Gap
 }
 
 // The slots above round lo up to that of frame x and to the committed round would keep their bytes.
+#[tactic(auto, unfolding(crate::specs::Keeps::keepsFrame))]
 fn keeps_frame(log: &[u8], lo: u32, x: &[u8], committed: u32) -> bool
     ensures { result ≡ keepsFrame log.now lo x.now committed }
 {
