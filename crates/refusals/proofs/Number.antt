@@ -1,9 +1,9 @@
 -- The numbers by the code's tests. Assumes nothing.
 use mathlib.Core.Path.{◌≡◌}
-use mathlib.Core.Bool.{Bool, true, false, ◌&&◌, not}
+use mathlib.Core.Bool.{Bool, true, false, ◌&&◌}
 use mathlib.Core.List.{List}
 use Prim.Native.Nat.{ℕ, ◌+◌, ◌≤◌, ◌<◌}
-use borrow.Author.Tests.{eq-eqb, ne_eqb, lt-ltb, le-ltb, not-true, not-false}
+use borrow.Author.Tests.{eq-eqb, ne_eqb, lt-ltb, le-ltb}
 use Rattle.apollo.specs.declared.Replica.{Replica}
 use Rattle.apollo.specs.declared.Setup.{Setup}
 use Rattle.apollo.specs.declared.Verdict.{Verdict}
@@ -39,33 +39,33 @@ module _ (r : Replica) (log masks : List ℕ) (entry out : ℕ) where
     number_is : n ≡ lentNumber (setupOf r) size
     number_is = rw es at en
 
-    pub open_lent : not (o && l && m) ≡ true → 1 ≡ openNumber r size log masks entry out
+    pub open_lent : (o && l && m) ≡ false → 1 ≡ openNumber r size log masks entry out
     unfolding openNumber
-    open_lent t = rw (← eo, ← el, ← em, not-true (o && l && m) t)
+    open_lent t = rw (← eo, ← el, ← em, t)
 
-    module _ (t : not (o && l && m) ≡ false) where
+    module _ (t : (o && l && m) ≡ true) where
       pub open-setup : (n ≡ 0 → ⊥) → n ≡ openNumber r size log masks entry out
       unfolding openNumber
-      open-setup h = rw (← eo, ← el, ← em, ← number_is, not-false (o && l && m) t, ne_eqb n 0 h)
+      open-setup h = rw (← eo, ← el, ← em, ← number_is, t, ne_eqb n 0 h)
 
       pub open-room : (k : ℕ) → n ≡ 0 → k ≡ roomNumber entry out → k ≡ openNumber r size log masks entry out
       unfolding openNumber
-      open-room k z e = rw (← eo, ← el, ← em, ← number_is, not-false (o && l && m) t, eq-eqb n 0 z) e
+      open-room k z e = rw (← eo, ← el, ← em, ← number_is, t, eq-eqb n 0 z) e
 
   -- 2 and 3
   module _ (a l b : Bool) (el : l ≡ validLog r log) (eb : b ≡ validMasks r masks) where
-    pub guard-record : not (a && l && b) ≡ true → 2 ≡ guardNumber a r log masks entry out
+    pub guard-record : (a && l && b) ≡ false → 2 ≡ guardNumber a r log masks entry out
     unfolding guardNumber
-    guard-record t = rw (← el, ← eb, not-true (a && l && b) t)
+    guard-record t = rw (← el, ← eb, t)
 
-    pub guard-over : not (a && l && b) ≡ false → r.round.0 ≡ r.last_round.0 + 1 → 3 ≡ guardNumber a r log masks entry out
+    pub guard-over : (a && l && b) ≡ true → r.round.0 ≡ r.last_round.0 + 1 → 3 ≡ guardNumber a r log masks entry out
     unfolding guardNumber
-    guard-over t e = rw (← el, ← eb, not-false (a && l && b) t, eq-eqb r.round.0 (r.last_round.0 + 1) e)
+    guard-over t e = rw (← el, ← eb, t, eq-eqb r.round.0 (r.last_round.0 + 1) e)
 
-    pub guard-room : (n : ℕ) → not (a && l && b) ≡ false → (r.round.0 ≡ r.last_round.0 + 1 → ⊥) → n ≡ roomNumber entry out
+    pub guard-room : (n : ℕ) → (a && l && b) ≡ true → (r.round.0 ≡ r.last_round.0 + 1 → ⊥) → n ≡ roomNumber entry out
         → n ≡ guardNumber a r log masks entry out
     unfolding guardNumber
-    guard-room n t h e = rw (← el, ← eb, not-false (a && l && b) t, ne_eqb r.round.0 (r.last_round.0 + 1) h) e
+    guard-room n t h e = rw (← el, ← eb, t, ne_eqb r.round.0 (r.last_round.0 + 1) h) e
 
   -- by the record's own test
   pub guard-of : {n : ℕ} {a : Bool} → a ≡ validRecord r → n ≡ guardNumber a r log masks entry out → n ≡ guard_of r log masks entry out
