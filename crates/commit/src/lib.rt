@@ -1,5 +1,6 @@
 // What a replica commits.
 #![tactic(auto)]
+
 ghost use Rattle.std.specs.Prelude.{◌≡◌};
 ghost use Rattle.apollo.specs.Enter.{commitLimit, commit};
 

@@ -8,7 +8,7 @@ use native.Mathlib.Numerals.{add-one}
 use native.Mathlib.Omega.{arith}
 use lib.Dec.{ltb}
 use lib.ListN.{length, take, drop, length-take, length-drop, length-append}
-use lib.Seq.{take_all, take-length, take-append-le, take_at, drop-append-add, drop-drop}
+use lib.Seq.{take-length, take-append-le, take_at, drop-append-add, drop-drop}
 use Rattle.apollo.specs.Size.{frameSize}
 use Rattle.apollo.specs.Frame.{height}
 use Rattle.apollo.specs.Log.{slot, filled, store, chain}
@@ -35,7 +35,7 @@ lent-slot : (log : List ℕ) (r : ℕ) → lent log r ≡ slot log (suc r)
 unfolding slot
 lent-slot log r = frame-part log (frameSize * r)
 
-pub lent-size : (log : List ℕ) (r : ℕ) → frameSize * (r + 1) ≤ length log → length (lent log r) ≡ frameSize
+lent-size : (log : List ℕ) (r : ℕ) → frameSize * (r + 1) ≤ length log → length (lent log r) ≡ frameSize
 lent-size log r g = simp (length-take, length-drop) (omega arith)
 
 module _ (log : List ℕ) (h : ℕ) where
@@ -161,12 +161,7 @@ module _ (log : List ℕ) (h : ℕ) where
         by s true t p q = rw (p, q) (copied-one t g s)
         by s false t p q = rw (p, q) (copied-over t)
 
-    -- all are copied, or all that fit
-    pub copied_all : (t : ℕ) → t ≡ r → (k ≡ min (length (up_to t)) (length o / frameSize)) × (out ≡ flatten (take k (up_to t)) ++ drop (frameSize * k) o)
-    copied_all t e =
-        let z : length (up_to r) ≡ k = sym c.count in
-        rw e (omega (arith, c.fits), rw (take_all k (up_to r) (omega arith)) c.bytes)
-
+    -- all that fit are copied
     pub copied-full : (t : ℕ) → r ≤ t → length o / frameSize ≤ k
         → (k ≡ min (length (up_to t)) (length o / frameSize)) × (out ≡ flatten (take k (up_to t)) ++ drop (frameSize * k) o)
     copied-full t g f =

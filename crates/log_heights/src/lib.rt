@@ -1,5 +1,6 @@
 // Slots of a log by height: the lowest readable, and the chain frames above a height.
 #![tactic(auto)]
+
 ghost use Rattle.std.specs.Prelude.{◌≡◌, ◌+◌, ◌*◌, ◌/◌, ◌≤◌, ◌<◌, min, cond, length, take, drop};
 ghost use mathlib.Core.List.{◌++◌, flatten};
 ghost use Rattle.apollo.specs.Size.{frameSize};

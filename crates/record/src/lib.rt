@@ -1,5 +1,6 @@
 // The record of a replica: made, with other fields, the set-up in it, and whether it leads R.
 #![tactic(auto)]
+
 ghost use Rattle.std.specs.Prelude.{◌≡◌, ◌<◌};
 ghost use Rattle.apollo.specs.Setup.{setupOf};
 ghost use Rattle.apollo.specs.Replica.{withRound, withTimer, with_tip, withCommitted, withMark, fresh, zeroReplica, leads};

@@ -1,5 +1,6 @@
 // The tests of a record, for any numbers in it: the ranges of the fields and of what is lent beside them.
 #![tactic(auto)]
+
 ghost use Rattle.std.specs.Prelude.{◌≡◌};
 ghost use Rattle.apollo.specs.Replica.{validOwn, validRounds, validMarks, validRecord, validLog, validMasks};
 

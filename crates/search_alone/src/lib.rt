@@ -1,5 +1,6 @@
 // The search of a commit by itself, for the tests and the benchmark to link. It is no part of the interface for hosts.
 #![tactic(auto)]
+
 ghost use Rattle.std.specs.Prelude.{◌≡◌};
 ghost use Rattle.apollo.specs.Log as Log;
 

@@ -1,5 +1,6 @@
 // A set-up judged by itself, f, T and the rotation: no own number, no timeout, no record, no log.
 #![tactic(auto)]
+
 ghost use Rattle.std.specs.Prelude.{◌≡◌, ◌&&◌};
 ghost use Rattle.apollo.specs.Bytes.{within};
 ghost use Rattle.setup_ranges.specs.Number.{lentNumber};
