@@ -1,6 +1,7 @@
 // SHA-256 of four messages at once: each stands in a lane of its own, and the same step is made in all lanes. The definitions of the
 // standard are those of compression and sha256; specs/Lane.antt says where a lane's words stand.
 #![tactic(auto)]
+
 ghost use Rattle.std.specs.Prelude.{◌≡◌, ℕ, ◌+◌, ◌≤◌, ◌<◌, ◌%◌, List, length, get_or};
 ghost use Rattle.compression.specs.Fips as Fips;
 ghost use Rattle.compression.specs.Window.{Window, Turned};
