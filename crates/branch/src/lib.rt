@@ -1,6 +1,7 @@
 // The judgement of a branch that is handed in: refusals 6 to 13, each with its place. Every public function takes any
 // record and slices of any length and content.
 #![tactic(auto)]
+
 ghost use Rattle.std.specs.Prelude.{◌≡◌, ◌*◌, ◌≤◌, length, ltb};
 ghost use Rattle.apollo.specs.Size.{frameSize};
 ghost use Rattle.apollo.specs.Frame as Frame;
@@ -48,6 +49,7 @@ fn gap_place(gap: Gap) -> u32
 }
 
 // 13 and 12 of a branch on round a.
+#[tactic(auto, using(crate::proofs::Judge::placed_at), unfolding(crate::specs::Judge::judgedOn))]
 fn judge_on(r: Replica, log: &[u8], masks: &[u16], frames: &[u8], a: u32) -> Judged
     ensures { result ≡ Judge.judgedOn r log.now masks.now frames.now a }
 {
@@ -66,6 +68,7 @@ fn judge_on(r: Replica, log: &[u8], masks: &[u16], frames: &[u8], a: u32) -> Jud
 }
 
 // 11, 13 and 12.
+#[tactic(auto, unfolding(crate::specs::Judge::judgedAt))]
 fn judge_attached(r: Replica, log: &[u8], masks: &[u16], frames: &[u8]) -> Judged
     ensures { result ≡ Judge.judgedFirst r log.now masks.now frames.now }
 {
@@ -77,6 +80,7 @@ fn judge_attached(r: Replica, log: &[u8], masks: &[u16], frames: &[u8]) -> Judge
 }
 
 // 7, 8, 9 and 10 of whole frames, and what follows them.
+#[tactic(auto, unfolding(crate::specs::Judge::judgedWhole))]
 fn judge_whole(r: Replica, log: &[u8], masks: &[u16], frames: &[u8]) -> Judged
     requires { length frames.now ≤ frameSize * r.last_round.0 }
     ensures { result ≡ Judge.judgedWhole r log.now masks.now frames.now }
@@ -92,6 +96,7 @@ fn judge_whole(r: Replica, log: &[u8], masks: &[u16], frames: &[u8]) -> Judged
 }
 
 // A branch judged in place.
+#[tactic(auto, unfolding(crate::specs::Judge::judgedBranch))]
 pub fn judge_branch(r: Replica, log: &[u8], masks: &[u16], frames: &[u8]) -> Judged
     ensures { result ≡ Judge.judgedBranch r log.now masks.now frames.now }
 {
