@@ -16,14 +16,6 @@ use Rattle.apollo.specs.Judging.{verdict, noRefusal, judgedEach}
 use Rattle.apollo.specs.Blame.{oneSet, anyFresh}
 use Rattle.blame_set.specs.Set.{judgedTogether, judgedFrames, judgedSet}
 
--- a frame joins a set of round r
-module _ (x : List ℕ) (r q : ℕ) (e : q ≡ round x) (before : ℕ) where
-  pub other-round : (q ≡ r → ⊥) → false ≡ (eqb (round x) r && not (bit (signer x) before))
-  other-round n = rw (← e, ne_eqb q r n)
-
-  pub same-round : (c : Bool) → q ≡ r → c ≡ bit (signer x) before → not c ≡ (eqb (round x) r && not (bit (signer x) before))
-  same-round c h d = rw (← e, eq-eqb q r h, d)
-
 module _ (r : Replica) (masks b : List ℕ) where
   -- 16, 14 and 10
   module _ (x : List ℕ) (ex : x ≡ firstFrame b) (q : ℕ) (eq : q ≡ round x) (c : Bool) (d : c ≡ oneSet q 0 (framesOf b)) where
