@@ -62,10 +62,6 @@ lane-kept w i l x g e =
     at : (m : ℕ) → m < 4 → (m ≡ l → ⊥) → (j : ℕ) → j < 16 → get_or (lane (set w (4 * i + l) x) m) j 0 ≡ get_or (lane w m) j 0
     at m h n j d = rw (lane-at _ m j d, get_or-set_other w (4 * i + l) (4 * j + m) x 0 (omega arith), lane-at w m j d)
 
-pub kept_trans : {l : ℕ} {w w' w'' : List ℕ} → Kept l w w' → Kept l w' w'' → Kept l w w''
-kept_trans p q =
-    record { wide = q.wide; same = λ m h n. q.same m h n ∙ p.same m h n }
-
 -- word t of the schedule takes its place in lane l
 pub lane-extend : (w : List ℕ) (i l x : ℕ) → i < 16 → l < 4 → length w ≡ 64
     → x
