@@ -22,7 +22,7 @@ fn main() {
         let archive = folder.join(format!("lib{name}.a"));
         assert!(
             archive.is_file(),
-            "no {}: make it by `rt staticlib {name}`",
+            "no {}: make it by `tools/archives {name}`",
             archive.display()
         );
         println!("cargo:rerun-if-changed={}", archive.display());

@@ -74,8 +74,8 @@ fn frames() -> [u8; 2048] {
 }
 
 // A line for the first 480 bytes of each of four frames, by the four lanes.
-fn show_frames(rt: &impl Print, b: &[u8]) {
-    let four = lanes_alone::apollo_digest4(b);
+fn show_frames(rt: &impl Print, b: [u8; 2048]) {
+    let four = lanes::digest4(&b[..480], &b[512..992], &b[1024..1504], &b[1536..2016]);
     let d0 = four.d0;
     let d1 = four.d1;
     let d2 = four.d2;
@@ -103,5 +103,5 @@ fn main(rt: HostRuntime) {
     show(&rt, b"", "bits-", 0);
     show_letters(&rt);
     show_beginnings(&rt, &pattern());
-    show_frames(&rt, &frames());
+    show_frames(&rt, frames());
 }

@@ -1,5 +1,4 @@
-// The digests of four frames by themselves, for the program digests, and for the tests and the benchmark to link. It is no part of the
-// interface for hosts.
+// The digests of four frames by themselves, for the tests and the benchmark to link. It is no part of the interface for hosts.
 #![tactic(auto)]
 
 ghost use Rattle.std.specs.Prelude.{◌≡◌};
