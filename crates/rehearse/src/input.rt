@@ -1,4 +1,5 @@
 // A line of the input, byte by byte.
+use std::io::Read;
 use text::Reader;
 
 // The first four bytes of a line, and how many there are; 5 for more. The fourth may be the carriage return of `\r\n`.
@@ -71,13 +72,17 @@ pub fn target(l: Line) -> usize {
     }
 }
 
-// Reads the next line. Its length in bytes bounds no run: the turns are counted down from a number that none uses up.
-pub fn read_line(input: Input, buf: &mut [u8; 4096]) -> Input {
+// Reads the next line. Its length in bytes bounds no run: the turns are counted, up to a number that none uses up.
+pub fn read_line(
+    from: &mut impl Read,
+    rt: &impl Eprint,
+    input: Input,
+    buf: &mut [u8; 4096],
+) -> Input {
     let mut reader = input.reader;
     let mut line = empty_line();
-    let mut turns = u64::MAX;
-    while turns > 0 {
-        reader = text::next(reader, buf);
+    for _ in 0..u64::MAX {
+        reader = text::next(from, rt, reader, buf);
         if reader.is_over | (reader.byte == b'\n') {
             return Input {
                 line,
@@ -86,7 +91,6 @@ pub fn read_line(input: Input, buf: &mut [u8; 4096]) -> Input {
             };
         }
         line = longer(line, reader.byte);
-        turns -= 1;
     }
     input
 }

@@ -2,6 +2,7 @@
 // replica i, `d i` hands replica i the oldest frame of its queue. Each prints the replica, the answer's number, R, the tip's
 // round and the committed round. A line that is neither is told on standard error and passed over.
 #![tactic(auto)]
+
 use apollo::size::{FRAME, OUT};
 
 mod input;
@@ -12,6 +13,7 @@ ghost use Rattle.apollo.specs.Rotation.{in_turn};
 
 use apollo::{Answer, Replica, Round, Ticks};
 use input::Input;
+use std::io;
 
 type Logs = [[u8; 3072]; 3]; // 6 slots for each replica
 
@@ -110,7 +112,7 @@ fn command(t: Table, input: Input, sent: &[u8]) -> Step {
 }
 
 // A line was read, which asks for a step or is no command. The end of the input is no line.
-fn noted(t: Table, input: Input, c: Step) -> Table {
+fn noted(rt: &impl Eprint, t: Table, input: Input, c: Step) -> Table {
     let mut next = t;
     let l = input.line;
     if input.is_over & (l.length == 0) {
@@ -118,7 +120,7 @@ fn noted(t: Table, input: Input, c: Step) -> Table {
     }
     next.lines = std::num::wrapping_add_u64(t.lines, 1);
     if 2 < input::target(l) {
-        text::no_command(next.lines);
+        text::no_command(rt, next.lines);
     }
     let i = c.i;
     if i < 3 {
@@ -134,7 +136,7 @@ fn replica_at(t: Table, i: usize) -> Replica
 }
 
 // Replica i's record is kept and what it emitted is counted. Its answer is printed, unless it was opened.
-fn settled(t: Table, c: Step, i: usize, x: Answer) -> Table
+fn settled(rt: &(impl Print + Eprint), t: Table, c: Step, i: usize, x: Answer) -> Table
     requires { i < 3 }
 {
     let mut next = t;
@@ -142,7 +144,7 @@ fn settled(t: Table, c: Step, i: usize, x: Answer) -> Table
     next.replicas[i] = r;
     next.sent = std::num::wrapping_add_u32(t.sent, x.frames as u32);
     if c.letter != b'o' {
-        next.is_over = !print::state(i, x.number, r);
+        next.is_over = !print::state(rt, i, x.number, r);
     }
     next
 }
@@ -177,7 +179,14 @@ fn answer(
 }
 
 // A step is carried out. What the replica emits is sent.
-fn act(t: Table, c: Step, logs: &mut Logs, masks: &mut Masks, sent: &mut [u8; 18432]) -> Table {
+fn act(
+    rt: &(impl Print + Eprint),
+    t: Table,
+    c: Step,
+    logs: &mut Logs,
+    masks: &mut Masks,
+    sent: &mut [u8; 18432],
+) -> Table {
     let i = c.i;
     if 2 < i {
         return t;
@@ -195,7 +204,7 @@ fn act(t: Table, c: Step, logs: &mut Logs, masks: &mut Masks, sent: &mut [u8; 18
         &mut out,
     );
     send(t, &out, sent);
-    settled(t, c, i, x)
+    settled(rt, t, c, i, x)
 }
 
 // Before the replicas are opened: records of zeros, nothing sent or read.
@@ -213,7 +222,12 @@ fn closed() -> Table {
 }
 
 // The replicas are opened in their order.
-fn open_all(logs: &mut Logs, masks: &mut Masks, sent: &mut [u8; 18432]) -> Table {
+fn open_all(
+    rt: &(impl Print + Eprint),
+    logs: &mut Logs,
+    masks: &mut Masks,
+    sent: &mut [u8; 18432],
+) -> Table {
     let mut next = closed();
     let mut i = 0;
     while i < 3 {
@@ -222,7 +236,7 @@ fn open_all(logs: &mut Logs, masks: &mut Masks, sent: &mut [u8; 18432]) -> Table
             i,
             k: 0,
         };
-        next = act(next, c, logs, masks, sent);
+        next = act(rt, next, c, logs, masks, sent);
         i += 1;
     }
     next
@@ -232,28 +246,33 @@ fn is_done(t: Table, input: Input) -> bool {
     t.is_over | input.is_over
 }
 
-// Carries out the commands of the input, a line each. Nothing says that the input ends, so the turns are counted down, from
-// a number that no run uses up.
-fn obey(t: Table, logs: &mut Logs, masks: &mut Masks, sent: &mut [u8; 18432]) {
+// Carries out the commands of the input, a line each. Nothing says that the input ends, so the turns are counted, up to a
+// number that no run uses up.
+fn obey(
+    rt: &(impl io::Input + Print + Eprint),
+    t: Table,
+    logs: &mut Logs,
+    masks: &mut Masks,
+    sent: &mut [u8; 18432],
+) {
     let mut next = t;
+    let mut from = rt.reader();
     let mut input = input::unread();
-    let mut buf = io::buffer();
-    let mut turns = u64::MAX;
-    while turns > 0 {
+    let mut buf = [0u8; 4096];
+    for _ in 0..u64::MAX {
         if is_done(next, input) {
             return;
         }
-        input = input::read_line(input, &mut buf);
+        input = input::read_line(&mut from, rt, input, &mut buf);
         let c = command(next, input, sent);
-        next = act(noted(next, input, c), c, logs, masks, sent);
-        turns -= 1;
+        next = act(rt, noted(rt, next, input, c), c, logs, masks, sent);
     }
 }
 
-fn main() {
+fn main(rt: HostRuntime) {
     let mut logs = [[0u8; 3072]; 3];
     let mut masks = [[0u16; 6]; 3];
     let mut sent = [0u8; 18432];
-    let t = open_all(&mut logs, &mut masks, &mut sent);
-    obey(t, &mut logs, &mut masks, &mut sent);
+    let t = open_all(&rt, &mut logs, &mut masks, &mut sent);
+    obey(&rt, t, &mut logs, &mut masks, &mut sent);
 }

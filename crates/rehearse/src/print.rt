@@ -2,7 +2,7 @@
 use apollo::Replica;
 
 // Prints replica, number, R, tip round, committed round. If that could not be written, it tells so and answers false.
-pub fn state(i: usize, number: u8, r: Replica) -> bool {
+pub fn state(rt: &(impl Print + Eprint), i: usize, number: u8, r: Replica) -> bool {
     let ns = [
         i as u64,
         number as u64,
@@ -12,5 +12,5 @@ pub fn state(i: usize, number: u8, r: Replica) -> bool {
     ];
     let mut line = [0u8; 64];
     let n = text::put_row(&mut line, 0, &ns, b"\n");
-    text::print(&line[0..n])
+    text::print(rt, &line[0..n])
 }
