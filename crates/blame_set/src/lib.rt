@@ -1,6 +1,7 @@
 // A set of blames that is handed in: its judgement, 6, 7, 8, 16, 14 and 10, each frame judged in place, and its bits set. A blame is
 // a set of one.
 #![tactic(auto)]
+
 ghost use Rattle.std.specs.Prelude.{◌≡◌, ◌&&◌, not, ◌*◌, ◌≤◌, ◌<◌, eqb, length};
 ghost use Rattle.apollo.specs.Size.{frameSize};
 ghost use Rattle.apollo.specs.Frame as Frame;

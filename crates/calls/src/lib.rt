@@ -1,5 +1,6 @@
 // What the calls share: the answer of a refusal, and in proofs/ the laws that every call is proved by.
 #![tactic(auto)]
+
 ghost use Rattle.std.specs.Prelude.{◌≡◌};
 ghost use Rattle.calls.specs.Refused.{refusedAnswer};
 

@@ -2,6 +2,7 @@
 // and the out buffer the length is enough. Every public function takes any record, and slices of any length and content; `guard` is told
 // whether the record, by itself, is valid.
 #![tactic(auto)]
+
 ghost use Rattle.std.specs.Prelude.{◌≡◌, ◌≤◌};
 ghost use Rattle.refusals.specs.Number.{roomNumber, openNumber, guardNumber};
 ghost use Rattle.refusals.specs.Blames.{guardedSet};

@@ -1,6 +1,7 @@
 // What a replica does without being refused: it enters a round, hears its own blame, settles a round after blames, or counts a tick
 // down.
 #![tactic(auto)]
+
 ghost use Rattle.std.specs.Prelude.{◌≡◌, ◌&&◌, List, ℕ, ◌-◌, ◌≤◌, ◌<◌, eqb};
 ghost use Rattle.sha256.specs.Fips.{sha256};
 ghost use Rattle.apollo.specs.Setup.{setupOf};

@@ -13,8 +13,8 @@ loop-i-preserved c =
     record {
       in_range = omega arith;
       left =
-      fresh-more c.args.frames.now _ c.loop-i.i c.args.masks.now _ c.loop-i.invariant.left c.loop-i-test.true _ c.is_heard.ensures
-      c.if-not-is_heard.false;
+          fresh-more c.args.frames.now _ c.loop-i.i c.args.masks.now _ c.loop-i.invariant.left c.loop-i-test.true _ c.is_heard.ensures
+          c.if-not-is_heard.false;
     }
 
 pub returns : goal.returns

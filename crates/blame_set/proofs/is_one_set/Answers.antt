@@ -16,8 +16,8 @@ loop-i-preserved c =
     record {
       in_range = omega arith;
       left =
-      set_more c.args.frames.now _ c.loop-i.i _ _ _ c.loop-i.invariant.left c.loop-i-test.true _ c.joins.ensures _
-      c.if-not-joins.false c.joined-before.ensures;
+          set_more c.args.frames.now _ c.loop-i.i _ _ _ c.loop-i.invariant.left c.loop-i-test.true _ c.joins.ensures _
+          c.if-not-joins.false c.joined-before.ensures;
       bits = (bits-rest c.args.frames.now _ c.loop-i.i c.loop-i-test.true c.loop-i.invariant.bits).1;
     }
 
