@@ -3,11 +3,13 @@
 // none of these is told on standard error and passed over. The lists and what they have to print are those of the Rust
 // implementation: cd tests && cargo run --release -- emit ../crates/mixed/stdin ../crates/mixed/stdout 1 2000
 #![tactic(auto)]
+
 ghost use Rattle.std.specs.Prelude.{◌≡◌, ◌<◌, length};
 
 use apollo::{Answer, Height, Replica, Round, Ticks};
 use mixed_lines::input::{Input, Task};
 use mixed_lines::{input, print};
+use std::io;
 
 type Logs = [[u8; 4608]; 5]; // 9 slots for each replica
 
@@ -100,14 +102,14 @@ fn recorded(t: Table, l: Task, bytes: &[u8; 8704]) -> Table {
 }
 
 // A line was read. One that is none of the list is told; `n`, `w` and `g` set records.
-fn noted(t: Table, l: Task, bytes: &[u8; 8704]) -> Table {
+fn noted(rt: &impl Eprint, t: Table, l: Task, bytes: &[u8; 8704]) -> Table {
     let mut next = t;
     if l.letter == 1 {
         return next;
     }
     next.lines = std::num::wrapping_add_u64(t.lines, 1);
     if l.letter == 0 {
-        text::no_command(next.lines);
+        text::no_command(rt, next.lines);
     }
     recorded(next, l, bytes)
 }
@@ -147,40 +149,40 @@ fn replica_for(t: Table, l: Task) -> Replica {
 }
 
 // `h`
-fn digest(l: Task, bytes: &[u8; 8704]) -> bool {
+fn digest(rt: &(impl Print + Eprint), l: Task, bytes: &[u8; 8704]) -> bool {
     let s = l.sizes;
-    print::digest(slices::part(bytes, 0, s[7]))
+    print::digest(rt, slices::part(bytes, 0, s[7]))
 }
 
 // `q`: both forms of read, which have to agree.
-fn read(l: Task, r: Replica, log: &[u8]) -> bool {
+fn read(rt: &(impl Print + Eprint), l: Task, r: Replica, log: &[u8]) -> bool {
     let n = l.numbers;
     let height = Height(n[1]);
     let mut number = 0u8;
     let p = call_read::read_part(r, log, height);
     let x = call_read::read(r, log, height, &mut number);
-    print::entry(number, p.start, x.len(), log)
+    print::entry(rt, number, p.start, x.len(), log)
 }
 
 // `f`
-fn fetch(l: Task, r: Replica, log: &[u8], out: &mut [u8]) -> bool {
+fn fetch(rt: &(impl Print + Eprint), l: Task, r: Replica, log: &[u8], out: &mut [u8]) -> bool {
     let n = l.numbers;
     let height = Height(n[1]);
     let s = l.sizes;
     let x = call_fetch::fetch(r, log, height, front(out, s[4]));
-    print::fetched(x, log, slices::part(out, 0, s[4]))
+    print::fetched(rt, x, log, slices::part(out, 0, s[4]))
 }
 
 // `q` or `f`
-fn look(t: Table, l: Task, log: &[u8; 4608]) -> Table {
+fn look(rt: &(impl Print + Eprint), t: Table, l: Task, log: &[u8; 4608]) -> Table {
     let s = l.sizes;
     let r = replica_for(t, l);
     let lent = slices::part(log, 0, s[2]);
     if l.letter == b'q' {
-        return called(t, read(l, r, lent));
+        return called(t, read(rt, l, r, lent));
     }
     let mut out = blank();
-    called(t, fetch(l, r, lent, &mut out))
+    called(t, fetch(rt, l, r, lent, &mut out))
 }
 
 // `o`, where the rotation stands in place of frames.
@@ -259,13 +261,14 @@ fn kept(t: Table, l: Task, number: u8, r: Replica, is_written: bool) -> Table {
 }
 
 // `e`
-fn accuse(t: Table, l: Task, bytes: &[u8; 8704]) -> Table {
+fn accuse(rt: &(impl Print + Eprint), t: Table, l: Task, bytes: &[u8; 8704]) -> Table {
     let x = call_equivocation::equivocation(replica_for(t, l), frames_of(l, bytes));
-    kept(t, l, x.number, x.replica, print::marked(x))
+    kept(t, l, x.number, x.replica, print::marked(rt, x))
 }
 
 // `o`, `a`, `b`, `v` or `t`
 fn change(
+    rt: &(impl Print + Eprint),
     t: Table,
     l: Task,
     log: &mut [u8; 4608],
@@ -288,7 +291,7 @@ fn change(
         l,
         x.number,
         x.replica,
-        print::answer(x, s, log, masks, &out),
+        print::answer(rt, x, s, log, masks, &out),
     )
 }
 
@@ -342,14 +345,21 @@ fn set(l: Task, logs: &mut Logs, masks: &mut Masks, bytes: &[u8; 8704]) {
 }
 
 // A line that prints is carried out.
-fn call(t: Table, l: Task, logs: &mut Logs, masks: &mut Masks, bytes: &[u8; 8704]) -> Table {
+fn call(
+    rt: &(impl Print + Eprint),
+    t: Table,
+    l: Task,
+    logs: &mut Logs,
+    masks: &mut Masks,
+    bytes: &[u8; 8704],
+) -> Table {
     let i = target(l);
     let letter = l.letter;
     match letter {
-        b'h' => told(t, digest(l, bytes)),
-        b'q' | b'f' => look(t, l, &logs[i]),
-        b'e' => accuse(t, l, bytes),
-        b'o' | b'a' | b'b' | b'v' | b't' => change(t, l, &mut logs[i], &mut masks[i], bytes),
+        b'h' => told(t, digest(rt, l, bytes)),
+        b'q' | b'f' => look(rt, t, l, &logs[i]),
+        b'e' => accuse(rt, t, l, bytes),
+        b'o' | b'a' | b'b' | b'v' | b't' => change(rt, t, l, &mut logs[i], &mut masks[i], bytes),
         _ => t,
     }
 }
@@ -362,28 +372,27 @@ fn is_done(t: Table, input: Input) -> bool {
     t.is_over | input.reader.is_over
 }
 
-// Carries out the lines of the input. Nothing says that it ends, so the turns are counted down, from a number that no run
-// uses up.
-fn obey(logs: &mut Logs, masks: &mut Masks) {
+// Carries out the lines of the input. Nothing says that it ends, so the turns are counted, up to a number that no run uses
+// up.
+fn obey(rt: &(impl io::Input + Print + Eprint), logs: &mut Logs, masks: &mut Masks) {
     let mut next = new_table(0);
+    let mut from = rt.reader();
     let mut input = input::unread();
-    let mut buf = io::buffer();
+    let mut buf = [0u8; 4096];
     let mut bytes = [0u8; 8704];
-    let mut turns = u64::MAX;
-    while turns > 0 {
+    for _ in 0..u64::MAX {
         if is_done(next, input) {
             return;
         }
-        input = input::read_line(input, &mut buf, &mut bytes);
+        input = input::read_line(&mut from, rt, input, &mut buf, &mut bytes);
         let l = task_of(input);
         set(l, logs, masks, &bytes);
-        next = call(noted(next, l, &bytes), l, logs, masks, &bytes);
-        turns -= 1;
+        next = call(rt, noted(rt, next, l, &bytes), l, logs, masks, &bytes);
     }
 }
 
-fn main() {
+fn main(rt: HostRuntime) {
     let mut logs = [[0u8; 4608]; 5];
     let mut masks = [[0u16; 9]; 5];
-    obey(&mut logs, &mut masks);
+    obey(&rt, &mut logs, &mut masks);
 }
