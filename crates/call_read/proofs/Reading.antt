@@ -9,7 +9,6 @@ use lib.ListN.{length}
 use borrow.Author.Tests.{eq-eqb, ne_eqb, eqb-false, leb-true, not-false}
 use Rattle.apollo.specs.Size.{frameSize}
 use Rattle.apollo.specs.declared.Replica.{Replica}
-use Rattle.apollo.specs.declared.Part.{Part}
 use Rattle.apollo.specs.Bytes.{part}
 use Rattle.apollo.specs.Frame.{entryLength, height}
 use Rattle.apollo.specs.Log.{slot, filled}
@@ -18,10 +17,6 @@ use Rattle.apollo.specs.Read.{ReadOutcome, part_of, readable, lowest, readCall}
 use Rattle.apollo.proofs.Tests.{and_second, by_cond}
 use Rattle.apollo.proofs.Validity.{Valid, valid}
 use Rattle.call_read.specs.Answers.{no_part, entryPart}
-
-pub entry_found : (log x : List ℕ) (r l : ℕ) → x ≡ slot log r → l ≡ entryLength x
-    → ◌≡◌ {A = Part} (record { number = 0; start = frameSize * (r - 1) + 44; length = l }) (entryPart log r)
-entry_found log x r l e d = rw (d, e)
 
 module _ (r : Replica) (log : List ℕ) (h : ℕ) (v : Bool) (e : v ≡ validReplica r log) where
   pub read-invalid : v ≡ false → no_part 2 ≡ (readCall r log h).answer

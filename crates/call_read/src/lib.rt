@@ -1,5 +1,6 @@
 // The call read: the entry at a committed height. Takes any record and height, and slices of any length and content.
 #![tactic(auto)]
+
 ghost use Rattle.std.specs.Prelude.{◌≡◌, ◌+◌, ◌≤◌, ◌<◌, length};
 ghost use Rattle.apollo.specs.Bytes as Bytes;
 ghost use Rattle.apollo.specs.Calls.{readCall};
