@@ -1,5 +1,5 @@
 -- Fetch as the code answers it. Assumes nothing.
-use mathlib.Core.Path.{◌≡◌, sym, ◌∙◌}
+use mathlib.Core.Path.{◌≡◌}
 use mathlib.Core.Bool.{Bool, true, false}
 use mathlib.Core.List.{List, ◌++◌, flatten}
 use Prim.Native.Nat.{ℕ, ◌*◌, ◌≤◌, ◌<◌}
@@ -11,7 +11,6 @@ use Rattle.apollo.specs.declared.Replica.{Replica}
 use Rattle.apollo.specs.declared.Fetched.{Fetched}
 use Rattle.apollo.specs.Replica.{validReplica}
 use Rattle.apollo.specs.Fetch.{fetchable, fetchCount, fetchCall, fetched}
-use Rattle.apollo.proofs.Validity.{valid}
 use Rattle.call_fetch.specs.Answers.{noFrames}
 
 module _ (r : Replica) (log : List ℕ) (h : ℕ) (out : List ℕ) where
@@ -28,10 +27,6 @@ module _ (r : Replica) (log : List ℕ) (h : ℕ) (out : List ℕ) where
       pub fetch-short : (a : Fetched) → a ≡ noFrames 4 → length out < 1024 → Answers a out
       unfolding fetchCall
       fetch-short a i s = rw (i, ← e, t, lt-ltb (length out) 1024 s)
-
-      -- a log of T slots has all rounds up to T
-      pub last_fits : frameSize * r.last_round.0 ≤ length log
-      last_fits = omega (arith, (valid r log (sym e ∙ t)).setup.size)
 
       module _ (wide : 1024 ≤ length out) (k : ℕ) (after : List ℕ) (d : k ≡ fetchCount r log h out)
           (c : after ≡ flatten (take k (fetchable r log h)) ++ drop (frameSize * k) out) where

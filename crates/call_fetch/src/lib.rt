@@ -1,5 +1,6 @@
 // The call fetch: the chain frames above a height. Takes any record and height, and slices of any length and content.
 #![tactic(auto)]
+
 ghost use Rattle.std.specs.Prelude.{◌≡◌};
 ghost use Rattle.apollo.specs.Calls.{fetchCall, fetched};
 ghost use Rattle.call_fetch.specs.Answers.{noFrames};
