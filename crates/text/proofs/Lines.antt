@@ -1,5 +1,5 @@
 -- Laws of what is put into a line. Assumes nothing.
-use Rattle.std.proofs.Common.{◌≡◌, refl, sym, ap, ap₂, ◌∙◌, List, [], ◌∷◌, ℕ, ◌+◌, ◌≤◌, ◌<◌, min, add-one, arith, length, get_or, drop, drop-cons}
+use Rattle.std.proofs.Common.{◌≡◌, sym, ap, List, ℕ, ◌+◌, ◌≤◌, ◌<◌, min, add-one, length, get_or, drop, drop-cons}
 use Rattle.std.proofs.Math.Seq.{paste, drop-length}
 use Rattle.std.proofs.lemmas.Bool.{le-leb, lt-leb}
 use Rattle.text.specs.Row.{Line, written, put, putNumber, putFrom}

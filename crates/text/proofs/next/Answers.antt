@@ -1,8 +1,8 @@
 -- `text::next` meets its contract. By `take`, whose reader keeps its end. Assumes nothing.
-use Rattle.std.proofs.Common.{◌≡◌, ℕ, Bool, true, false, cond, ltb, min, length, List, refl, sym, ap, ◌∙◌, arith, rules}
-use Rattle.std.proofs.lemmas.Bool.{lt-ltb, le-ltb}
+use Rattle.std.proofs.Common.{◌≡◌, ℕ, Bool, true, false, cond, ltb, min, length, List, refl, sym, ap, ◌∙◌, arith}
+use Rattle.std.proofs.lemmas.Bool.{le-ltb}
 use Rattle.text.specs.declared.Reader.{Reader}
-use Rattle.text.specs.Reading.{taken, before, Next}
+use Rattle.text.specs.Reading.{taken, before}
 use Rattle.text.proofs.next.Goals as goal
 
 either : (b : Bool) (p q : Reader) (n : ℕ) → p.end ≡ n → q.end ≡ n → (cond b p q).end ≡ n

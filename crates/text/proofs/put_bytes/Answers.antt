@@ -1,7 +1,7 @@
 -- `text::put_bytes` meets its contract. By what `put` is where s fits and where not. Assumes nothing.
-use Rattle.std.proofs.Common.{◌≡◌, ◌+◌, min, length, sym, ap, ◌∙◌, add-one, arith, rules}
+use Rattle.std.proofs.Common.{◌≡◌, min, length, sym, ap, ◌∙◌, add-one, arith, rules}
 use Rattle.std.proofs.Math.Seq.{paste-suc}
-use Rattle.text.specs.Row.{written, put}
+use Rattle.text.specs.Row.{written}
 use Rattle.text.proofs.Lines.{put-fits, put-not}
 use Rattle.text.proofs.put_bytes.Goals as goal
 

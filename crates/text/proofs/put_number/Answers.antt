@@ -1,5 +1,5 @@
 -- `text::put_number` meets its contract. By the digits that std writes. Assumes nothing.
-use Rattle.std.proofs.Common.{◌≡◌, ap, ap₂, ◌∙◌, [], ◌∷◌, take, arith}
+use Rattle.std.proofs.Common.{ap, ap₂, ◌∙◌, [], ◌∷◌, take, arith}
 use Rattle.std.proofs.Math.Nat.{sub-zero}
 use Rattle.text.specs.Row.{written, put, putNumber}
 use Rattle.text.proofs.Decimal.{decimal-same}

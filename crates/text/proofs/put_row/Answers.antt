@@ -1,5 +1,5 @@
 -- `text::put_row` meets its contract. By putting the number at i, and by what is put when no number is left. Assumes nothing.
-use Rattle.std.proofs.Common.{◌≡◌, ◌+◌, drop, sym, ap, ◌∙◌, arith, rules}
+use Rattle.std.proofs.Common.{◌+◌, drop, sym, ap, ◌∙◌, arith, rules}
 use Rattle.text.specs.Row.{written, put, putFrom, putRow}
 use Rattle.text.proofs.Lines.{from_next, from_end}
 use Rattle.text.proofs.put_row.Goals as goal
