@@ -1,6 +1,7 @@
 // The data of a replica (document 01: a card) and the answers of its calls, laid out as in C. A comment beside a field is
 // document 01's word for it, where that differs.
 #![tactic(auto)]
+
 ghost use Rattle.std.specs.Prelude.{◌≡◌, ◌-◌};
 
 pub mod refusal;
