@@ -1,8 +1,9 @@
 // Text: a row of numbers put into a lent buffer, the bytes of standard input one by one, and lines written, each at once.
 #![tactic(auto)]
 
-ghost use Rattle.std.specs.Prelude.{◌≡◌, ◌≤◌, min, length};
-ghost use Rattle.text.specs.Reading.{taken, Next};
+ghost use Rattle.std.specs.Prelude.{◌≡◌, ◌≤◌, min, length, take};
+ghost use Rattle.std.specs.Io.KnownBytes.{Consumes};
+ghost use Rattle.text.specs.Reading.{taken, Next, came, to_come};
 ghost use Rattle.text.specs.Row.{written, put, putNumber, putRow};
 
 use itoa::Buffer;
@@ -95,7 +96,9 @@ fn fail(rt: &impl Eprint, what: &str, error: Error) {
 }
 
 // Reads once into the whole buffer, and answers how many bytes came.
-fn fill(from: &mut impl Read, rt: &impl Eprint, buf: &mut [u8; 4096]) -> usize {
+fn fill<R: Read>(from: &mut R, rt: &impl Eprint, buf: &mut [u8; 4096]) -> usize
+    ensures { Consumes (R.remaining from.old) (R.remaining from.new) (take result buf.new) }
+{
     match from.read(buf) {
         Ok(n) => n,
         Err(e) => {
@@ -107,8 +110,10 @@ fn fill(from: &mut impl Read, rt: &impl Eprint, buf: &mut [u8; 4096]) -> usize {
 
 // The next byte of standard input, which `from` reads. Reads where none is left in the buffer; a read that fails is told,
 // and ends the input.
-pub fn next(from: &mut impl Read, rt: &impl Eprint, r: Reader, buf: &mut [u8; 4096]) -> Reader
-    ensures { Next buf.old buf.new r result }
+pub fn next<R: Read>(from: &mut R, rt: &impl Eprint, r: Reader, buf: &mut [u8; 4096]) -> Reader
+    ensures step { Next buf.old buf.new r result }
+    ensures bytes { Consumes (to_come buf.old r (R.remaining from.old)) (to_come buf.new result (R.remaining from.new))
+        (came result) }
 {
     if r.at < r.end {
         return take(r, buf);

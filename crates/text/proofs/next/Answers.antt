@@ -3,6 +3,7 @@ use Rattle.std.proofs.Common.{◌≡◌, ℕ, Bool, true, false, cond, ltb, min,
 use Rattle.std.proofs.lemmas.Bool.{le-ltb}
 use Rattle.text.specs.declared.Reader.{Reader}
 use Rattle.text.specs.Reading.{taken, before}
+use Rattle.text.proofs.Reading.{taken-consumes, read-consumes}
 use Rattle.text.proofs.next.Goals as goal
 
 either : (b : Bool) (p q : Reader) (n : ℕ) → p.end ≡ n → q.end ≡ n → (cond b p q).end ≡ n
@@ -13,8 +14,15 @@ taken-end : (xs : List ℕ) (r : Reader) → (taken xs r).end ≡ r.end
 unfolding taken
 taken-end xs r = either (ltb r.at (min r.end (length xs))) _ _ r.end refl refl
 
-pub returns : goal.returns
-returns g c =
+pub returns-then-r-clause-bytes : goal.returns-then-r-clause-bytes
+returns-then-r-clause-bytes g c =
+    let r = c.args.r in
+    let xs = c.args.buf.now in
+    let o = g.R.Read.remaining c.args.from.now in
+    rw c.take.ensures (taken-consumes xs r o)
+
+pub returns-clause-step : goal.returns-clause-step
+returns-clause-step g c =
     let r = c.args.r in
     let n = c.fill.result in
     let ys = c.fill.new.buf in
@@ -23,3 +31,7 @@ returns g c =
       kept = λ h. absurd (omega (arith, h));
       byte = rw (le-ltb r.at r.end (omega arith)) (c.take-2.ensures ∙ ap (λ k. taken ys (before k r)) (sym e));
     }
+
+pub returns-clause-bytes : goal.returns-clause-bytes
+returns-clause-bytes g c =
+    read-consumes c.args.buf.now c.fill.new.buf c.args.r c.take-2.result c.fill.result _ _ (omega arith) c.take-2.ensures c.fill.ensures
