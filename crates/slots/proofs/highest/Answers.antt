@@ -1,7 +1,10 @@
 -- `slots::highest` meets its contract. By the slot read, the highest if it is filled.
-use Rattle.std.proofs.Common.{◌+◌, ◌∙◌, arith}
+use Rattle.std.proofs.Common.{◌+◌, refl, ◌∙◌, arith}
 use Rattle.slots.proofs.Search.{highest-here, highest-below, highest-none, read_found, read_none}
 use Rattle.slots.proofs.highest.Goals as goal
+
+pub loop-round-init : goal.loop-round-init
+loop-round-init c = record { read = omega arith; none_above = refl }
 
 pub returns-then-is_filled : goal.returns-then-is_filled
 returns-then-is_filled c =
