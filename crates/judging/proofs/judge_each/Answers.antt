@@ -1,5 +1,5 @@
 -- `judging::judge_each` meets its contract. By a law for each way that a frame's judging goes.
-use Rattle.std.proofs.Common.{arith, ap}
+use Rattle.std.proofs.Common.{arith}
 use Rattle.frame_checks.proofs.Ahead.{turn, held_next}
 use Rattle.judging.proofs.Each.{each-stop, each_more, each-end}
 use Rattle.judging.proofs.judge_each.Goals as goal
