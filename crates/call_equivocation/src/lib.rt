@@ -1,5 +1,6 @@
 // The call equivocation: two blocks that one leader signed for one round. Takes any record, and frames of any length and content.
 #![tactic(auto)]
+
 ghost use Rattle.std.specs.Prelude.{◌≡◌, length};
 ghost use Rattle.apollo.specs.Size.{pairSize};
 ghost use Rattle.apollo.specs.Frame.{firstFrame};
