@@ -9,7 +9,6 @@ use Rattle.apollo.specs.Size.{frameSize}
 use Rattle.apollo.specs.declared.Replica.{Replica}
 use Rattle.apollo.specs.declared.Answer.{Answer}
 use Rattle.apollo.specs.Bytes.{zeros}
-use Rattle.apollo.specs.Frame.{round}
 use Rattle.apollo.specs.Replica.{fresh, zeroReplica}
 use Rattle.apollo.specs.Enter.{enterRound, state}
 use Rattle.apollo.specs.Outcome.{Outcome, taken, outcome}
