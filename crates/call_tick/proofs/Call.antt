@@ -14,7 +14,7 @@ use Rattle.sha256.specs.Fips.{sha256}
 use Rattle.apollo.specs.Size.{frameSize}
 use Rattle.apollo.specs.declared.Replica.{Replica}
 use Rattle.apollo.specs.declared.Answer.{Answer}
-use Rattle.apollo.specs.Frame.{round, makeBlame}
+use Rattle.apollo.specs.Frame.{makeBlame}
 use Rattle.apollo.specs.Replica.{withTimer}
 use Rattle.apollo.specs.Enter.{State, Effect, waiting, hearing, settle, state}
 use Rattle.apollo.specs.Outcome.{Outcome, nextLeader, taken, outcome}

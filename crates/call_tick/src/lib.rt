@@ -1,5 +1,6 @@
 // The call tick. The answer and the lent buffers are those of the definition, refused or not.
 #![tactic(auto)]
+
 ghost use Rattle.std.specs.Prelude.{◌≡◌};
 ghost use Rattle.apollo.specs.Calls.{state, outcome, tickCall};
 
