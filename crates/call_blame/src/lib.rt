@@ -1,6 +1,7 @@
 // The calls blame and blames: one frame, or a set of up to 15. The answer and the lent buffers are those of the definitions, refused
 // or not.
 #![tactic(auto)]
+
 ghost use Rattle.std.specs.Prelude.{◌≡◌, ◌≤◌};
 ghost use Rattle.sha256.specs.Fips.{sha256};
 ghost use Rattle.apollo.specs.Blame.{handing};
