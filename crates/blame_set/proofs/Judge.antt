@@ -1,17 +1,15 @@
 -- The judgement of a set by the code's tests, and what holds where nothing refuses it. Assumes nothing.
 use mathlib.Core.Path.{◌≡◌}
-use mathlib.Core.Bool.{Bool, true, false, ◌&&◌, not}
+use mathlib.Core.Bool.{Bool, true, false}
 use mathlib.Core.List.{List}
 use Prim.Native.Nat.{ℕ, ◌≤◌, ◌<◌}
-use lib.Dec.{eqb}
 use borrow.Author.Tests.{eq-eqb, ne_eqb, lt-ltb, le-ltb}
 use Rattle.sha256.specs.Fips.{sha256}
 use Rattle.apollo.specs.declared.Replica.{Replica}
 use Rattle.apollo.specs.declared.Setup.{Setup}
 use Rattle.apollo.specs.declared.Verdict.{Verdict}
 use Rattle.apollo.specs.Setup.{setupOf}
-use Rattle.apollo.specs.Frame.{signer, round, framesOf, firstFrame, wholeFrames, blameForm}
-use Rattle.apollo.specs.Masks.{bit}
+use Rattle.apollo.specs.Frame.{round, framesOf, firstFrame, wholeFrames, blameForm}
 use Rattle.apollo.specs.Judging.{verdict, noRefusal, judgedEach}
 use Rattle.apollo.specs.Blame.{oneSet, anyFresh}
 use Rattle.blame_set.specs.Set.{judgedTogether, judgedFrames, judgedSet}

@@ -1,12 +1,11 @@
 -- Entering a round, and settling one after blames, by the code's tests. Assumes nothing.
-use mathlib.Core.Path.{◌≡◌, sym, ap, ◌∙◌}
+use mathlib.Core.Path.{◌≡◌, sym, ◌∙◌}
 use mathlib.Core.Bool.{Bool, true, false, ◌&&◌}
 use mathlib.Core.List.{List, ◌++◌, flatten, append-nil}
-use Prim.Native.Nat.{ℕ, ◌+◌, ◌-◌, ◌≤◌, ◌<◌}
-use native.Mathlib.Omega.{arith}
+use Prim.Native.Nat.{ℕ, ◌+◌, ◌≤◌, ◌<◌}
 use lib.Dec.{eqb}
 use lib.ListN.{drop}
-use borrow.Author.Tests.{eq-eqb, ne_eqb, le-leb, lt-leb, leb-true, eqb-true}
+use borrow.Author.Tests.{le-leb, lt-leb, leb-true}
 use Rattle.sha256.specs.Fips.{sha256}
 use Rattle.apollo.specs.Size.{frameSize}
 use Rattle.apollo.specs.declared.Replica.{Replica}
@@ -18,7 +17,6 @@ use Rattle.apollo.specs.Replica.{withRound, withTimer, leads}
 use Rattle.apollo.specs.Enter.{commit, waiting, hearing, entered, ownBlock, proposing, enterRound, settle, state}
 use Rattle.apollo.specs.Outcome.{Outcome, nextLeader, taken, outcome}
 use Rattle.apollo.proofs.Tests.{and_first}
-use Rattle.tip.specs.Ready.{Ready}
 use Rattle.rounds.specs.Rounds.{told}
 
 -- the leader that is told
