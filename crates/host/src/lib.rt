@@ -1,6 +1,7 @@
 // What a host program in C or Rust links: include/apollo.h declares it. Each function is one call of a proved one, and carries its
 // contract.
 #![tactic(auto)]
+
 ghost use Rattle.std.specs.Prelude.{◌≡◌};
 ghost use Rattle.sha256.specs.Fips as Fips;
 ghost use Rattle.apollo.specs.Calls.{state, outcome, fetched};
