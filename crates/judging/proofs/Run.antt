@@ -19,15 +19,14 @@ use Rattle.apollo.specs.BlockRun.{faulty, judgedNext, judgedRun}
 use Rattle.apollo.proofs.Frames.{frames-split}
 use Rattle.frame.proofs.Frames.{rest, rest-next, rest_end, frame-part}
 
-module _ (s : Setup) (x : List ℕ) (k : ℕ) (d : k ≡ faulty sha256 s x) where
-  -- behind nothing 9 does not come
-  pub next-any : k ≡ judgedNext sha256 s none x
-  unfolding judgedNext
-  next-any = d ∙ sym (go (eqb (faulty sha256 s x) 0) refl)
-    where
-      go : (z : Bool) → eqb (faulty sha256 s x) 0 ≡ z → cond z 0 (faulty sha256 s x) ≡ faulty sha256 s x
-      go true e = sym (eqb-true _ 0 e)
-      go false e = refl
+-- behind nothing 9 does not come
+pub next_any : (s : Setup) (x : List ℕ) → judgedNext sha256 s none x ≡ faulty sha256 s x
+unfolding judgedNext
+next_any s x = go (eqb (faulty sha256 s x) 0) refl
+  where
+    go : (z : Bool) → eqb (faulty sha256 s x) 0 ≡ z → cond z 0 (faulty sha256 s x) ≡ faulty sha256 s x
+    go true e = sym (eqb-true _ 0 e)
+    go false e = refl
 
 -- a step of judging, by what the next frame's number is
 module _ (s : Setup) (p : Option (List ℕ)) (x : List ℕ) (xs : List (List ℕ)) (i k : ℕ) (d : k ≡ judgedNext sha256 s p x) where

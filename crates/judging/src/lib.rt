@@ -81,6 +81,7 @@ fn judge_next(s: Setup, p: &[u8], x: &[u8], checked: bool) -> u8
 }
 
 // 7, 8 and 9 of the first frame, x. `checked`: its check is right.
+#[tactic(auto, using(crate::proofs::Run::next_any), unfolding(apollo::specs::Log::genesis, apollo::specs::Bytes::zeros))]
 fn judge_first(s: Setup, start: Start, x: &[u8], checked: bool) -> u8
     requires { checked ≡ Frame.checked sha256 x.now }
     ensures { result ≡ judgedNext sha256 s (start_of start) x.now }
