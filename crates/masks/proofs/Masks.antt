@@ -21,8 +21,8 @@ below-pow : (m n : ℕ) → m < 2 ^ 16 → 16 ≤ n → m < 2 ^ n
 below-pow m n h g = lt_of_lt_of_le h (pow_mono g)
 
 -- nothing is dropped from a mask reduced to 16 bits or more
-pub reduced-whole : (m n : ℕ) → m < 2 ^ 16 → 16 ≤ n → m ≡ m % 2 ^ n
-reduced-whole m n h g = sym (mod-eq_of_lt (below-pow m n h g))
+pub reduced_whole : (m n : ℕ) → m < 2 ^ 16 → 16 ≤ n → m ≡ m % 2 ^ n
+reduced_whole m n h g = sym (mod-eq_of_lt (below-pow m n h g))
 
 -- nor does a mask of 16 bits reach 2 ^ n then
 pub fits_whole : (m n : ℕ) → m < 2 ^ 16 → 16 ≤ n → true ≡ ltb m (2 ^ n)
@@ -35,8 +35,8 @@ unfolding certified
 enough s masks r m x e d = rw (d, e) (ap (leb (s.f + 1)) (ones-count (2 * s.f + 1) (mask masks r)))
 
 -- a bit of a mask, read by a shift
-pub bit-read : (i m : ℕ) → eqb (m / 2 ^ i % 2) 1 ≡ bit i m
-bit-read i m = sym (bit-shift i m)
+pub bit_read : (i m : ℕ) → eqb (m / 2 ^ i % 2) 1 ≡ bit i m
+bit_read i m = sym (bit-shift i m)
 
 -- there is no bit from 16 on
 pub bit_high : (i m : ℕ) → m < 2 ^ 16 → 16 ≤ i → false ≡ bit i m

@@ -17,6 +17,7 @@ fn mask(masks: &[u16], r: u32) -> u16
 }
 
 // A mask reduced to n bits.
+#[tactic(auto, using(crate::proofs::Masks::reduced_whole))]
 fn reduced(m: u16, n: u32) -> u32
     ensures { result ≡ m % 2 ^ n }
 {
@@ -34,6 +35,7 @@ pub fn certified(s: Setup, masks: &[u16], r: u32) -> bool
 }
 
 // Bit i of a mask.
+#[tactic(auto, using(crate::proofs::Masks::bit_read, crate::proofs::Masks::bit_high))]
 pub fn has_bit(m: u16, i: u8) -> bool
     ensures { result ≡ Masks.bit i m }
 {
@@ -49,6 +51,7 @@ pub fn with_bit(m: u16, i: u8) -> u16
 }
 
 // A mask has no bit at n or above.
+#[tactic(auto, using(crate::proofs::Masks::fits_whole))]
 pub fn fits(m: u16, n: u32) -> bool
     ensures { result ≡ ltb m (2 ^ n) }
 {

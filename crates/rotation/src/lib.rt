@@ -42,6 +42,7 @@ fn all_seen(m: u16, n: usize) -> bool
 }
 
 // The first n of 15 seats are a rotation of n cards, and the others are zero. One pass: n seats that lack no card have none twice.
+#[tactic(auto, using(crate::proofs::Pass::too_many))]
 pub fn valid_rotation(seats: [u8; 15], n: usize) -> bool
     ensures { result ≡ isRotation n (take n seats) && blank seats n 15 }
 {

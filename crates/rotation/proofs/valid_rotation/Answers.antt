@@ -1,10 +1,7 @@
 use Rattle.std.proofs.Common.{◌≡◌, ◌<◌, length, rules, arith}
-use Rattle.rotation.proofs.Pass.{low-cards, low_zeros, high-cards, high-zeros, too_many, passed}
+use Rattle.rotation.proofs.Pass.{low-cards, low_zeros, high-cards, high-zeros, passed}
 use Rattle.rotation.proofs.valid_rotation.Goals as goal
 use Rattle.rotation.proofs.valid_rotation.Goals.{then-i-n, else-i-n}
-
-pub returns-then-n-gt15 : goal.returns-then-n-gt15
-returns-then-n-gt15 c = too_many c.args.n c.args.seats (search rules) c.if-n-gt15.true
 
 pub loop-i-preserved : goal.loop-i-preserved
 loop-i-preserved c =
