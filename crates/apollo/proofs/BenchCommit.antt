@@ -10,8 +10,8 @@ use Rattle.apollo.specs.Rotation.{in_turn, padded}
 use Rattle.apollo.specs.Setup.{leader, setup}
 use Rattle.apollo.specs.Log.{genesis, slot, filled, highest}
 use Rattle.apollo.specs.Masks.{bit, count, mask, certified}
-use Rattle.apollo.specs.Enter.{commitLimit, commit}
-use Rattle.apollo.specs.BenchSheet.{turn, chainRounds, committedRound, committedHeight}
+use Rattle.apollo.specs.Enter.{commit_limit, commit}
+use Rattle.apollo.specs.BenchSheet.{turn, chain_rounds, committed_round, committed_height}
 
 pub leaders : (T : ℕ)
     → (leader (setup 1 T (turn 1)) 1 ≡ 0) × (leader (setup 1 T (turn 1)) 3 ≡ 2) × (leader (setup 1 T (turn 1)) 4 ≡ 0)
@@ -74,50 +74,50 @@ three-last false true false false e = (cc, refl)
 three-last false false false false e = (cc, refl)
 
 -- of a chain 1, 3 below R = 5 slot 3 is filled and slot 4 is not
-pub third-filled : (log : List ℕ) → chainRounds log 4 ≡ 1 ∷ 3 ∷ [] → (filled (slot log 3) ≡ true) × (filled (slot log 4) ≡ false)
-unfolding chainRounds four
+pub third-filled : (log : List ℕ) → chain_rounds log 4 ≡ 1 ∷ 3 ∷ [] → (filled (slot log 3) ≡ true) × (filled (slot log 4) ≡ false)
+unfolding chain_rounds four
 third-filled log e = three-last (filled (slot log 1)) (filled (slot log 2)) (filled (slot log 3)) (filled (slot log 4)) e
 
 -- of a chain 1, 2, 3 the slots 1 and 2 are filled
-pub slots_filled : (log : List ℕ) → chainRounds log 3 ≡ 1 ∷ 2 ∷ 3 ∷ []
+pub slots_filled : (log : List ℕ) → chain_rounds log 3 ≡ 1 ∷ 2 ∷ 3 ∷ []
     → (filled (slot log 1) ≡ true) × (filled (slot log 2) ≡ true)
-unfolding chainRounds three
+unfolding chain_rounds three
 slots_filled log e = all_three (filled (slot log 1)) (filled (slot log 2)) (filled (slot log 3)) e
 
-pub chain-1-2 : (r : Replica) (log : List ℕ) → r.f ≡ 1 → r.round.0 ≡ 3 → chainRounds log 2 ≡ 1 ∷ 2 ∷ []
-    → committedRound r log ≡ 1
-unfolding chainRounds commit commitLimit highest two
+pub chain-1-2 : (r : Replica) (log : List ℕ) → r.f ≡ 1 → r.round.0 ≡ 3 → chain_rounds log 2 ≡ 1 ∷ 2 ∷ []
+    → committed_round r log ≡ 1
+unfolding chain_rounds commit commit_limit highest two
 chain-1-2 r log f t e = simp (t, f) (one-two (filled (slot log 1)) (filled (slot log 2)) e)
 
 pub chain-1 : (r : Replica) (log : List ℕ) → r.f ≡ 1 → r.round.0 ≡ 2
-    → (committedRound r log ≡ 0) × (committedHeight r log ≡ 0)
-unfolding commit commitLimit highest slot genesis number4 zeros
+    → (committed_round r log ≡ 0) × (committed_height r log ≡ 0)
+unfolding commit commit_limit highest slot genesis number4 zeros
 chain-1 r log f t = (simp (t, f), simp (t, f))
 
-pub chain-1-3 : (r : Replica) (log : List ℕ) → r.f ≡ 1 → r.round.0 ≡ 4 → chainRounds log 3 ≡ 1 ∷ 3 ∷ []
-    → committedRound r log ≡ 1
-unfolding chainRounds commit commitLimit highest three
+pub chain-1-3 : (r : Replica) (log : List ℕ) → r.f ≡ 1 → r.round.0 ≡ 4 → chain_rounds log 3 ≡ 1 ∷ 3 ∷ []
+    → committed_round r log ≡ 1
+unfolding chain_rounds commit commit_limit highest three
 chain-1-3 r log f t e = simp (t, f) (one-three (filled (slot log 1)) (filled (slot log 2)) (filled (slot log 3)) e)
 
 -- with R = 5, and with R = 6 and round 4 skipped
-pub commits-3 : (r : Replica) (log : List ℕ) → r.f ≡ 1 → r.round.0 ≡ 5 → filled (slot log 3) ≡ true → committedRound r log ≡ 3
-unfolding commit commitLimit highest
+pub commits-3 : (r : Replica) (log : List ℕ) → r.f ≡ 1 → r.round.0 ≡ 5 → filled (slot log 3) ≡ true → committed_round r log ≡ 3
+unfolding commit commit_limit highest
 commits-3 r log f t e = simp (t, f, e)
 
 pub commits-3-led : (r : Replica) (log : List ℕ) → r.f ≡ 1 → r.round.0 ≡ 6 → filled (slot log 3) ≡ true
-    → filled (slot log 4) ≡ false → committedRound r log ≡ 3
-unfolding commit commitLimit highest
+    → filled (slot log 4) ≡ false → committed_round r log ≡ 3
+unfolding commit commit_limit highest
 commits-3-led r log f t e g = simp (t, f, e, g)
 
-pub chain-1-2-3 : (r : Replica) (log : List ℕ) → r.f ≡ 2 → r.round.0 ≡ 4 → chainRounds log 3 ≡ 1 ∷ 2 ∷ 3 ∷ []
-    → committedRound r log ≡ 1
-unfolding commit commitLimit highest
+pub chain-1-2-3 : (r : Replica) (log : List ℕ) → r.f ≡ 2 → r.round.0 ≡ 4 → chain_rounds log 3 ≡ 1 ∷ 2 ∷ 3 ∷ []
+    → committed_round r log ≡ 1
+unfolding commit commit_limit highest
 chain-1-2-3 r log f t e = simp (t, f, (slots_filled log e).0)
 
 -- item 10: the same with f = 1
-pub committed-2 : (r : Replica) (log : List ℕ) → r.f ≡ 1 → r.round.0 ≡ 4 → chainRounds log 3 ≡ 1 ∷ 2 ∷ 3 ∷ []
-    → committedRound r log ≡ 2
-unfolding commit commitLimit highest
+pub committed-2 : (r : Replica) (log : List ℕ) → r.f ≡ 1 → r.round.0 ≡ 4 → chain_rounds log 3 ≡ 1 ∷ 2 ∷ 3 ∷ []
+    → committed_round r log ≡ 2
+unfolding commit commit_limit highest
 committed-2 r log f t e = simp (t, f, (slots_filled log e).1)
 
 pub mask-3 : (s : Setup) (masks : List ℕ) (r : ℕ) → s.f ≡ 1 → mask masks r ≡ 3 → certified s masks r ≡ true

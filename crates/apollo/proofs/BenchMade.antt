@@ -11,21 +11,21 @@ use lib.ListN.{length, get_or, length-take, length-drop}
 use lib.Dec.{eqb}
 use borrow.Author.Tests.{le-ltb, eq-eqb, ne_eqb, eqb-true, eqb-false}
 use Rattle.sha256.specs.Fips.{sha256}
-use Rattle.apollo.specs.Size.{frameSize}
+use Rattle.apollo.specs.Size.{frame_size}
 use Rattle.apollo.specs.declared.Replica.{Replica}
 use Rattle.apollo.specs.Bytes.{number4, zeros, same}
 use Rattle.apollo.specs.Rotation.{in_turn, padded}
-use Rattle.apollo.specs.Setup.{replicas, leader, setup, setupOf, validLimits}
-use Rattle.apollo.specs.Frame.{kind, signer, round, height, parent, digest, linked, sealed, blameHead, makeBlock, makeBlame}
-use Rattle.apollo.specs.Log.{genesis, slot, filled, store, clearAbove, attach, highest}
-use Rattle.apollo.specs.Masks.{bit, mask, addBlame}
-use Rattle.apollo.specs.Replica.{fresh, leads, validOwn, withCommitted}
-use Rattle.apollo.specs.Enter.{State, Effect, commitLimit, commit, tipped, hearing, holding, entered, ownBlock, proposing, enterRound, settle}
+use Rattle.apollo.specs.Setup.{replicas, leader, setup, setup_of, valid_limits}
+use Rattle.apollo.specs.Frame.{kind, signer, round, height, parent, digest, linked, sealed, blame_head, make_block, make_blame}
+use Rattle.apollo.specs.Log.{genesis, slot, filled, store, clear_above, attach, highest}
+use Rattle.apollo.specs.Masks.{bit, mask, add_blame}
+use Rattle.apollo.specs.Replica.{fresh, leads, valid_own, with_committed}
+use Rattle.apollo.specs.Enter.{State, Effect, commit_limit, commit, tipped, hearing, holding, entered, own_block, proposing, enter_round, settle}
 use Rattle.apollo.specs.Outcome.{taken, state_of}
 use Rattle.apollo.specs.BlockRun.{last_of, block}
-use Rattle.apollo.specs.Branch.{firstUncertified, storeAll, grown, adopting, placed}
-use Rattle.apollo.specs.Single.{oneBlame}
-use Rattle.apollo.specs.Calls.{openCall, branchCall, blameCall}
+use Rattle.apollo.specs.Branch.{first_uncertified, store_all, grown, adopting, placed}
+use Rattle.apollo.specs.Single.{one_blame}
+use Rattle.apollo.specs.Calls.{open_call, branch_call, blame_call}
 use Rattle.apollo.specs.BenchSheet.{turn, Openable, Callable}
 use Rattle.apollo.proofs.Single.{blame-one}
 use Rattle.apollo.proofs.Tests.{both, cond-true, cond-false, same_of}
@@ -39,43 +39,43 @@ use Rattle.apollo.proofs.BenchOpen.{open-fits}
 use Rattle.apollo.proofs.BenchBranches.{adopts, skips-none, grown-low}
 
 -- a blame of replica j for a round up to R, its bit not yet set, on any state
-pub hears-at : {s : State} {out : List ℕ} → Callable s out → (entry : List ℕ) → length entry ≤ 400 → (j r : ℕ) → j < replicas (setupOf s.replica)
+pub hears-at : {s : State} {out : List ℕ} → Callable s out → (entry : List ℕ) → length entry ≤ 400 → (j r : ℕ) → j < replicas (setup_of s.replica)
     → 1 ≤ r → r ≤ s.replica.round.0 → bit j (mask s.masks r) ≡ false
-    → blameCall s (makeBlame sha256 j r) entry out ≡ taken (settle sha256 entry (hearing s r j) r) out
-unfolding oneBlame
+    → blame_call s (make_blame sha256 j r) entry out ≡ taken (settle sha256 entry (hearing s r j) r) out
+unfolding one_blame
 hears-at {s} {out} c entry l j r signs one low fresh-bit =
     let v : Valid s.replica s.log = valid s.replica s.log c.valid in
-    let y : List ℕ = makeBlame sha256 j r in
+    let y : List ℕ = make_blame sha256 j r in
     let high : r ≤ s.replica.last_round.0 = omega (arith, c.running) in
     let short : r < 65536 = omega (arith, v.setup.last-most) in
     let at : round y ≡ r = ap (λ (z : List ℕ). round z) (sym (append-nil y)) ∙ blame-round j r [] short in
-    let by : signer y ≡ j = unfold makeBlame sealed blameHead in refl in
+    let by : signer y ≡ j = unfold make_blame sealed blame_head in refl in
     blame-one s y entry out ∙ passes c entry l _
-    ∙ cond-false _ _ (ap not (eq-eqb (length y) frameSize (blame-length j r)))
+    ∙ cond-false _ _ (ap not (eq-eqb (length y) frame_size (blame-length j r)))
     ∙ cond-false _ _ (ap not (blame-checked j r))
-    ∙ cond-false _ _ (ap not (blame-form (setupOf s.replica) j r signs one high short))
+    ∙ cond-false _ _ (ap not (blame-form (setup_of s.replica) j r signs one high short))
     ∙ cond-false _ _ (le-ltb s.replica.round.0 (round y) (omega arith))
     ∙ cond-false _ _ (ap₂ (λ k q. bit k (mask s.masks q)) by at ∙ fresh-bit)
     ∙ ap (λ m. taken m out) (ap₂ (λ q k. settle sha256 entry (hearing s q k) q) at by)
 
 -- an empty block of replica i for round r at height h on frame p, for f = 1 and T = 6
 pub child : (i r h : ℕ) (p : List ℕ) → List ℕ
-child i r h p = makeBlock sha256 i r h (digest p) []
+child i r h p = make_block sha256 i r h (digest p) []
 
 pub record Child (r h : ℕ) (p x : List ℕ) : Type 0 where
-  pub whole : length x ≡ frameSize
+  pub whole : length x ≡ frame_size
   pub good : block (setup 1 6 (turn 1)) x ≡ true
   pub at : round x ≡ r
   pub high : height x ≡ h
   pub full : filled x ≡ true
   pub on : linked p x ≡ true
 
-pub children : (i r h : ℕ) (p : List ℕ) → length p ≡ frameSize → i ≡ leader (setup 1 6 (turn 1)) r → 1 ≤ r → r ≤ 6 → 1 ≤ h → h ≤ r → height p + 1 ≡ h
+pub children : (i r h : ℕ) (p : List ℕ) → length p ≡ frame_size → i ≡ leader (setup 1 6 (turn 1)) r → 1 ≤ r → r ≤ 6 → 1 ≤ h → h ≤ r → height p + 1 ≡ h
     → Child r h p (child i r h p)
 unfolding child linked
 children i r h p whole led one last low high next =
     let wide : length (digest p) ≡ 32 = simp (length-take, length-drop, whole) refl in
-    let x : List ℕ = makeBlock sha256 i r h (digest p) [] in
+    let x : List ℕ = make_block sha256 i r h (digest p) [] in
     let e : height x ≡ h = block-height i r h (digest p) [] wide (omega arith) (omega arith) in
     record {
       whole = block-length i r h (digest p) [] wide (omega arith);
@@ -99,9 +99,9 @@ unrelated p x ne =
     go true false = refl
     go false b = refl
 
-genesis-length : length genesis ≡ frameSize
+genesis-length : length genesis ≡ frame_size
 unfolding genesis
-genesis-length = length-zeros frameSize
+genesis-length = length-zeros frame_size
 
 genesis-height : height genesis ≡ 0
 unfolding genesis number4 zeros
@@ -114,7 +114,7 @@ blk (suc k) = child (k % 3) (k + 1) (k + 1) (blk k)
 
 -- its length and its height
 abbrev pub Sized : ℕ → Type 0
-Sized k = (length (blk k) ≡ frameSize) × (height (blk k) ≡ k)
+Sized k = (length (blk k) ≡ frame_size) × (height (blk k) ≡ k)
 
 linked-from : (k : ℕ) → k < 6 → Sized k → Child (k + 1) (k + 1) (blk k) (blk (suc k))
 unfolding blk leader
@@ -185,14 +185,14 @@ module _ (log : List ℕ) (n : ℕ) (holds : Holds log n) (most : n ≤ 6) where
 
   -- committed as commit sets it, whatever was committed
   pub renewed : (id k : ℕ) → commit (up_to id n k) log ≡ record_of id n
-  unfolding commit commitLimit
+  unfolding commit commit_limit
   renewed id k =
       let e : n + 1 - 1 - 1 ≡ n - 1 = omega arith in
       let a : highest log (n + 1 - 1 - 1) ≡ n - 1 = ap (highest log) e ∙ highest-is (n - 1) (omega arith) in
       let b : height (slot log (highest log (n + 1 - 1 - 1))) ≡ n - 1 =
       ap (λ q. height (slot log q)) a ∙ ap (λ (x : List ℕ). height x) (holds.slots (n - 1) (omega arith))
       ∙ (sized (n - 1) (omega arith)).1 in
-      ap₂ (withCommitted (up_to id n k)) a b
+      ap₂ (with_committed (up_to id n k)) a b
 
   -- so entering commits
   enters : (id k : ℕ) (masks : List ℕ) → entered (entering id n k log masks) ≡ state id n log masks
@@ -236,8 +236,8 @@ module _ (log : List ℕ) (n : ℕ) (holds : Holds log n) (most : n ≤ 6) where
 
 -- what entering leaves, by whether the replica leads
 entered-waits : (id n k : ℕ) (log masks : List ℕ) → n ≤ 6 → Holds log n → leads (record_of id n) ≡ false
-    → (enterRound sha256 [] (entering id n k log masks)).state ≡ state id n log masks
-unfolding enterRound leads
+    → (enter_round sha256 [] (entering id n k log masks)).state ≡ state id n log masks
+unfolding enter_round leads
 entered-waits id n k log masks l h e = ap (λ (m : Effect). m.state) (cond-false _ _ e) ∙ enters log n h l id k masks
 
 -- a state that calls made, with the blocks 1 to n in its log
@@ -263,11 +263,11 @@ store-holds log n l h =
         store_other log (n + 1) (blk (n + 1)) k (omega arith) (omega arith) (next n l).whole ne ∙ h.slots k (omega arith)
 
 entered-leads : (id n k : ℕ) (log masks : List ℕ) → n < 6 → Holds log n → id ≡ n % 3 → leads (record_of id n) ≡ true
-    → Made (enterRound sha256 [] (entering id n k log masks)).state id (n + 1) masks
-unfolding enterRound proposing ownBlock holding tipped leads
+    → Made (enter_round sha256 [] (entering id n k log masks)).state id (n + 1) masks
+unfolding enter_round proposing own_block holding tipped leads
 entered-leads id n k log masks l h i e =
-    let own : makeBlock sha256 id (n + 1) (n + 1) (digest (slot log n)) [] ≡ blk (n + 1) =
-    ap₂ (λ j (p : List ℕ). makeBlock sha256 j (n + 1) (n + 1) (digest p) []) i (h.slots n (omega arith))
+    let own : make_block sha256 id (n + 1) (n + 1) (digest (slot log n)) [] ≡ blk (n + 1) =
+    ap₂ (λ j (p : List ℕ). make_block sha256 j (n + 1) (n + 1) (digest p) []) i (h.slots n (omega arith))
     ∙ (unfold blk child in ap blk (sym (add-one n))) in
     record {
       log = store log (n + 1) (blk (n + 1));
@@ -284,17 +284,17 @@ unfolding slot blk
 no_blocks = record { size = length-zeros 3072; slots = λ k l. let z : k ≡ 0 = omega arith in rw z refl }
 
 unfoldable pub opening : (id : ℕ) → State
-opening id = state_of (openCall id 1 2 6 (turn 1) (zeros 3072) (zeros 6) [] out)
+opening id = state_of (open_call id 1 2 6 (turn 1) (zeros 3072) (zeros 6) [] out)
 
-opened : (id : ℕ) → validOwn (fresh id 1 2 6 (turn 1)) ≡ true
-    → opening id ≡ (enterRound sha256 [] (state id 0 (zeros 3072) (zeros 6))).state
+opened : (id : ℕ) → valid_own (fresh id 1 2 6 (turn 1)) ≡ true
+    → opening id ≡ (enter_round sha256 [] (state id 0 (zeros 3072) (zeros 6))).state
 unfolding opening out taken fresh
 opened id own = ap state_of (open-fits id 1 2 6 (turn 1) (zeros 3072) (zeros 6) [] (zeros 1024) openable (omega arith))
   where
     openable : Openable id 1 2 6 (turn 1) (zeros 3072) (zeros 6) (zeros 1024)
     openable =
         record {
-          setup = setup-none 1 6 (turn 1) (unfold validLimits in refl) (turn-rotation 3);
+          setup = setup-none 1 6 (turn 1) (unfold valid_limits in refl) (turn-rotation 3);
           own = own;
           slots = unfold zeros in refl;
           lent = unfold zeros in refl;
@@ -303,16 +303,16 @@ opened id own = ap state_of (open-fits id 1 2 6 (turn 1) (zeros 3072) (zeros 6) 
 
 pub opening-0 : Made (opening 0) 0 1 (zeros 6)
 opening-0 =
-    let m : Made (enterRound sha256 [] (state 0 0 (zeros 3072) (zeros 6))).state 0 1 (zeros 6) =
+    let m : Made (enter_round sha256 [] (state 0 0 (zeros 3072) (zeros 6))).state 0 1 (zeros 6) =
     entered-leads 0 0 0 (zeros 3072) (zeros 6) (omega arith) no_blocks refl (unfold leads leader padded in_turn zeros in refl) in
-    record { log = m.log; is = opened 0 (unfold validOwn fresh in refl) ∙ m.is; holds = m.holds }
+    record { log = m.log; is = opened 0 (unfold valid_own fresh in refl) ∙ m.is; holds = m.holds }
 
 pub opening-1 : Made (opening 1) 1 0 (zeros 6)
 opening-1 =
     record {
       log = zeros 3072;
       is =
-          opened 1 (unfold validOwn fresh in refl)
+          opened 1 (unfold valid_own fresh in refl)
           ∙ entered-waits 1 0 0 (zeros 3072) (zeros 6) (omega arith) no_blocks (unfold leads leader padded in_turn zeros in refl);
       holds = no_blocks;
     }
@@ -352,27 +352,27 @@ module _ (id n : ℕ) (log masks : List ℕ) (l : n < 5) (h : Holds log n) (c : 
           })
 
   new-holds : Holds new (n + 1)
-  unfolding grown storeAll
+  unfolding grown store_all
   new-holds =
       let size : length log ≡ 3072 = h.size in
-      let below : Holds (clearAbove log n) n =
+      let below : Holds (clear_above log n) n =
       record {
         size = length-clear log n (omega arith) ∙ size;
         slots = λ k m. clear-low log n k (omega arith) m ∙ h.slots k m;
       } in
-      subst (λ r. Holds (store (clearAbove log n) r x) (n + 1)) (sym at_x) (store-holds (clearAbove log n) n (omega arith) below)
+      subst (λ r. Holds (store (clear_above log n) r x) (n + 1)) (sym at_x) (store-holds (clear_above log n) n (omega arith) below)
 
-  taken-x : branchCall (state id n log masks) x [] out ≡ taken (enterRound sha256 [] (entering id (n + 1) (n - 1) new masks)) out
+  taken-x : branch_call (state id n log masks) x [] out ≡ taken (enter_round sha256 [] (entering id (n + 1) (n - 1) new masks)) out
   unfolding adopting last_of flatten holding tipped
   taken-x =
       let e : round x ≡ n + 1 = at_x in
-      ap (λ (b : List ℕ). branchCall (state id n log masks) b [] out) (sym (append-nil x))
+      ap (λ (b : List ℕ). branch_call (state id n log masks) b [] out) (sym (append-nil x))
       ∙ fresh-branch c [] (omega arith) x [] (omega arith) (blocks-one _ x child-x.good) (omega arith)
       ∙ ap (placed sha256 [] out (state id n log masks) x []) attached
       ∙ adopts [] out (state id n log masks) x [] n
-      (skips-none (setup 1 6 (turn 1)) masks x n [] e ∙ (unfold firstUncertified in refl))
+      (skips-none (setup 1 6 (turn 1)) masks x n [] e ∙ (unfold first_uncertified in refl))
       (take-slots new log (n - 1) (λ q a b. grown-low log x n (omega arith) (omega (arith, h.size)) child-x.whole q (omega arith)))
-      ∙ ap (λ s. taken (enterRound sha256 [] s) out) (ap₂ (holding (state id n log masks) new) e child-x.high)
+      ∙ ap (λ s. taken (enter_round sha256 [] s) out) (ap₂ (holding (state id n log masks) new) e child-x.high)
 
 -- the same of a state that calls made: a call on it leaves such a state
 module _ (s : State) (id n : ℕ) (masks : List ℕ) (made : Made s id n masks) (i : id < 3) (l : n < 5) (lent : length masks ≡ 6)
@@ -386,16 +386,16 @@ module _ (s : State) (id n : ℕ) (masks : List ℕ) (made : Made s id n masks) 
   abbrev there : State
   there = entering id (n + 1) (n - 1) (new id n made.log masks l made.holds here-callable) masks
 
-  branch-left : state_of (branchCall s (blk (n + 1)) [] out) ≡ (enterRound sha256 [] there).state
+  branch-left : state_of (branch_call s (blk (n + 1)) [] out) ≡ (enter_round sha256 [] there).state
   unfolding taken
   branch-left =
-      ap (λ u. state_of (branchCall u (blk (n + 1)) [] out)) made.is
+      ap (λ u. state_of (branch_call u (blk (n + 1)) [] out)) made.is
       ∙ ap state_of (taken-x id n made.log masks l made.holds here-callable)
 
   taken-holds : Holds there.log (n + 1)
   taken-holds = new-holds id n made.log masks l made.holds here-callable
 
-  pub branch-waits : leads (record_of id (n + 1)) ≡ false → Made (state_of (branchCall s (blk (n + 1)) [] out)) id (n + 1) masks
+  pub branch-waits : leads (record_of id (n + 1)) ≡ false → Made (state_of (branch_call s (blk (n + 1)) [] out)) id (n + 1) masks
   branch-waits e =
       record {
         log = there.log;
@@ -404,16 +404,16 @@ module _ (s : State) (id n : ℕ) (masks : List ℕ) (made : Made s id n masks) 
       }
 
   pub branch_leads : id ≡ (n + 1) % 3 → leads (record_of id (n + 1)) ≡ true
-      → Made (state_of (branchCall s (blk (n + 1)) [] out)) id (n + 1 + 1) masks
+      → Made (state_of (branch_call s (blk (n + 1)) [] out)) id (n + 1 + 1) masks
   branch_leads led e =
-      let m : Made (enterRound sha256 [] there).state id (n + 1 + 1) masks =
+      let m : Made (enter_round sha256 [] there).state id (n + 1 + 1) masks =
       entered-leads id (n + 1) (n - 1) there.log masks (omega arith) taken-holds led e in
       record { log = m.log; is = branch-left ∙ m.is; holds = m.holds }
 
   -- a blame of replica j for a round below R, its bit not yet set
   module _ (j r : ℕ) (signs : j < 3) (one : 1 ≤ r) (past : r ≤ n) (fresh-bit : bit j (mask masks r) ≡ false) where
     abbrev y : List ℕ
-    y = makeBlame sha256 j r
+    y = make_blame sha256 j r
 
     settled : settle sha256 [] (hearing here r j) r ≡ record { state = hearing here r j; emitted = [] }
     unfolding settle hearing
@@ -421,15 +421,15 @@ module _ (s : State) (id n : ℕ) (masks : List ℕ) (made : Made s id n masks) 
         let e : eqb r (n + 1) ≡ false = ne_eqb r (n + 1) (λ z. omega arith) in
         rw e refl
 
-    heard-y : blameCall here y [] out ≡ taken (record { state = hearing here r j; emitted = [] }) out
+    heard-y : blame_call here y [] out ≡ taken (record { state = hearing here r j; emitted = [] }) out
     heard-y =
         hears-at here-callable [] (omega arith) j r signs one (omega arith) fresh-bit ∙ ap (λ m. taken m out) settled
 
-    pub hears : Made (state_of (blameCall s y [] out)) id n (addBlame masks r j)
+    pub hears : Made (state_of (blame_call s y [] out)) id n (add_blame masks r j)
     unfolding taken hearing
     hears =
         record {
           log = made.log;
-          is = ap (λ u. state_of (blameCall u y [] out)) made.is ∙ ap state_of heard-y;
+          is = ap (λ u. state_of (blame_call u y [] out)) made.is ∙ ap state_of heard-y;
           holds = made.holds;
         }

@@ -8,20 +8,20 @@ use native.Mathlib.Omega.{arith}
 use lib.ListN.{length, take}
 use lib.Dec.{eqb, ltb}
 use Rattle.sha256.specs.Fips.{sha256}
-use Rattle.apollo.specs.Size.{frameSize}
+use Rattle.apollo.specs.Size.{frame_size}
 use Rattle.apollo.specs.Bytes.{same}
-use Rattle.apollo.specs.Setup.{setupOf}
-use Rattle.apollo.specs.Frame.{round, frames, framesOf, wholeFrames, blameForm}
+use Rattle.apollo.specs.Setup.{setup_of}
+use Rattle.apollo.specs.Frame.{round, frames, frames_of, whole_frames, blame_form}
 use Rattle.apollo.specs.Log.{attach}
 use Rattle.apollo.specs.Enter.{State}
 use Rattle.apollo.specs.declared.Verdict.{Verdict}
-use Rattle.apollo.specs.Judging.{judgedEach}
+use Rattle.apollo.specs.Judging.{judged_each}
 use Rattle.apollo.specs.Outcome.{refused, taken}
-use Rattle.apollo.specs.BlockRun.{last_of, blocks, judgedRun}
-use Rattle.apollo.specs.Branch.{firstUncertified, grown, placed, branched, branchWith}
-use Rattle.apollo.specs.Blame.{oneSet, anyFresh, heard, handing}
-use Rattle.apollo.specs.Tick.{tickWith}
-use Rattle.apollo.specs.Calls.{branchCall, tickCall}
+use Rattle.apollo.specs.BlockRun.{last_of, blocks, judged_run}
+use Rattle.apollo.specs.Branch.{first_uncertified, grown, placed, branched, branch_with}
+use Rattle.apollo.specs.Blame.{one_set, any_fresh, heard, handing}
+use Rattle.apollo.specs.Tick.{tick_with}
+use Rattle.apollo.specs.Calls.{branch_call, tick_call}
 use Rattle.apollo.specs.BenchSheet.{Callable, number}
 use Rattle.apollo.proofs.Tests.{by_cond}
 use Rattle.apollo.proofs.Fault.{each_number}
@@ -34,19 +34,19 @@ placed-number : (P : ℕ → Type 0) → P 0 → P 11 → P 12 → P 13 → (ent
 unfolding placed refused taken
 placed-number P p0 p11 p12 p13 entry out s x xs none = p11
 placed-number P p0 p11 p12 p13 entry out s x xs (some a) =
-    let c : ℕ = frameSize * s.replica.committed_round.0 in
-    by_cond (λ o. P (number o)) (eqb (firstUncertified (setupOf s.replica) s.masks a (x ∷ xs)) 0)
+    let c : ℕ = frame_size * s.replica.committed_round.0 in
+    by_cond (λ o. P (number o)) (eqb (first_uncertified (setup_of s.replica) s.masks a (x ∷ xs)) 0)
     (λ _. by_cond (λ o. P (number o)) (same (take c (grown s.log a (x ∷ xs))) (take c s.log)) (λ _. p0) (λ _. p12))
     (λ _. p13)
 
 module _ {s : State} {out : List ℕ} (c : Callable s out) (entry : List ℕ) (l : length entry ≤ 400) (x : List ℕ)
     (xs : List (List ℕ)) (three : s.replica.round.0 ≡ 3) (fit : length (x ∷ xs) ≤ s.replica.last_round.0)
-    (good : blocks (setupOf s.replica) none (x ∷ xs) ≡ true) where
-  pub ends-in-2 : round (last_of x xs) ≡ 2 → number (branchCall s (flatten (x ∷ xs)) entry out) ≡ 10
+    (good : blocks (setup_of s.replica) none (x ∷ xs) ≡ true) where
+  pub ends-in-2 : round (last_of x xs) ≡ 2 → number (branch_call s (flatten (x ∷ xs)) entry out) ≡ 10
   unfolding refused
   ends-in-2 e = ap number (stale-branch c entry l x xs fit good (omega arith))
 
-  pub ends-in-3 : round (last_of x xs) ≡ 3 → ¬ (number (branchCall s (flatten (x ∷ xs)) entry out) ≡ 10)
+  pub ends-in-3 : round (last_of x xs) ≡ 3 → ¬ (number (branch_call s (flatten (x ∷ xs)) entry out) ≡ 10)
   ends-in-3 e =
       rw (fresh-branch c entry l x xs fit good (omega arith))
       (placed-number (λ k. ¬ (k ≡ 10)) (λ z. omega arith) (λ z. omega arith) (λ z. omega arith) (λ z. omega arith) entry out s x
@@ -59,54 +59,54 @@ branched-not-5 : (entry out : List ℕ) (s : State) (xs : List (List ℕ)) → N
 unfolding branched refused Not5
 branched-not-5 entry out s [] = λ e. omega arith
 branched-not-5 entry out s (x ∷ xs) =
-    let all : Verdict = judgedRun sha256 (setupOf s.replica) 0 none (x ∷ xs) in
+    let all : Verdict = judged_run sha256 (setup_of s.replica) 0 none (x ∷ xs) in
     by_cond (λ o. Not5 (number o)) (eqb all.number 0)
     (λ _. by_cond (λ o. Not5 (number o)) (ltb (round (last_of x xs)) s.replica.round.0) (λ _ e. omega arith)
     (λ _. placed-number Not5 (λ e. omega arith) (λ e. omega arith) (λ e. omega arith) (λ e. omega arith) entry out s x xs
     (attach s.log x (round x - 1))))
-    (λ _. run-number Not5 (λ e. omega arith) (λ e. omega arith) (λ e. omega arith) (λ e. omega arith) (setupOf s.replica) 0 none
+    (λ _. run-number Not5 (λ e. omega arith) (λ e. omega arith) (λ e. omega arith) (λ e. omega arith) (setup_of s.replica) 0 none
     (x ∷ xs))
 
 heard-not-5 : (entry out : List ℕ) (s : State) (xs : List (List ℕ)) → Not5 (number (heard sha256 entry out s xs))
 unfolding heard refused taken Not5
 heard-not-5 entry out s [] = λ e. omega arith
 heard-not-5 entry out s (x ∷ xs) =
-    by_cond (λ o. Not5 (number o)) (eqb (judgedEach sha256 (blameForm (setupOf s.replica)) 0 (x ∷ xs)).number 0)
-    (λ _. by_cond (λ o. Not5 (number o)) (oneSet (round x) 0 (x ∷ xs))
+    by_cond (λ o. Not5 (number o)) (eqb (judged_each sha256 (blame_form (setup_of s.replica)) 0 (x ∷ xs)).number 0)
+    (λ _. by_cond (λ o. Not5 (number o)) (one_set (round x) 0 (x ∷ xs))
     (λ _. by_cond (λ o. Not5 (number o)) (ltb s.replica.round.0 (round x)) (λ _ e. omega arith)
-    (λ _. by_cond (λ o. Not5 (number o)) (anyFresh s.masks (x ∷ xs)) (λ _ e. omega arith) (λ _ e. omega arith)))
+    (λ _. by_cond (λ o. Not5 (number o)) (any_fresh s.masks (x ∷ xs)) (λ _ e. omega arith) (λ _ e. omega arith)))
     (λ _ e. omega arith))
-    (λ _. each_number Not5 (λ e. omega arith) (λ e. omega arith) (λ e. omega arith) sha256 (blameForm (setupOf s.replica)) 0 (x ∷ xs))
+    (λ _. each_number Not5 (λ e. omega arith) (λ e. omega arith) (λ e. omega arith) sha256 (blame_form (setup_of s.replica)) 0 (x ∷ xs))
 
 module _ {s : State} {out : List ℕ} (c : Callable s out) (bytes entry : List ℕ) where
   module _ (l : length entry ≡ 400) where
-    pub branch-400 : ¬ (number (branchCall s bytes entry out) ≡ 5)
-    unfolding branchWith refused Not5
+    pub branch-400 : ¬ (number (branch_call s bytes entry out) ≡ 5)
+    unfolding branch_with refused Not5
     branch-400 =
         rw (passes c entry (omega arith) _)
-        (by_cond (λ o. Not5 (number o)) (wholeFrames s.replica.last_round.0 bytes)
-        (λ _. branched-not-5 entry out s (frames (length bytes / frameSize) bytes)) (λ _ e. omega arith))
+        (by_cond (λ o. Not5 (number o)) (whole_frames s.replica.last_round.0 bytes)
+        (λ _. branched-not-5 entry out s (frames (length bytes / frame_size) bytes)) (λ _ e. omega arith))
 
     -- a blame, and blames
     pub hand-400 : (most : ℕ) → ¬ (number (handing sha256 most s bytes entry out) ≡ 5)
     unfolding handing refused Not5
     hand-400 most =
         rw (passes c entry (omega arith) _)
-        (by_cond (λ o. Not5 (number o)) (wholeFrames most bytes) (λ _. heard-not-5 entry out s (framesOf bytes)) (λ _ e. omega arith))
+        (by_cond (λ o. Not5 (number o)) (whole_frames most bytes) (λ _. heard-not-5 entry out s (frames_of bytes)) (λ _ e. omega arith))
 
-    pub tick-400 : number (tickCall s entry out) ≡ 0
-    unfolding tickWith taken
+    pub tick-400 : number (tick_call s entry out) ≡ 0
+    unfolding tick_with taken
     tick-400 = ap number (passes c entry (omega arith) _)
 
   module _ (l : length entry ≡ 401) where
-    pub branch-401 : number (branchCall s bytes entry out) ≡ 5
-    unfolding branchWith refused
+    pub branch-401 : number (branch_call s bytes entry out) ≡ 5
+    unfolding branch_with refused
     branch-401 = ap number (too_long c entry (omega arith) _)
 
     pub hand-401 : (most : ℕ) → number (handing sha256 most s bytes entry out) ≡ 5
     unfolding handing refused
     hand-401 most = ap number (too_long c entry (omega arith) _)
 
-    pub tick-401 : number (tickCall s entry out) ≡ 5
-    unfolding tickWith refused
+    pub tick-401 : number (tick_call s entry out) ≡ 5
+    unfolding tick_with refused
     tick-401 = ap number (too_long c entry (omega arith) _)

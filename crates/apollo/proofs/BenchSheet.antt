@@ -8,8 +8,8 @@ use Rattle.apollo.proofs.BenchTicks.{first-blames, second-blames, tick-commits}
 use Rattle.apollo.proofs.BenchOpen.{open-400, open-401, open-emits, then-over}
 use Rattle.apollo.proofs.BenchBranches.{uncertified-9, number-9, replica-1, replica-0, committed-10, undone-10, uncertified-10, held-10}
 
-pub benchSheet : BenchSheet
-benchSheet =
+pub bench_sheet : BenchSheet
+bench_sheet =
     record {
       item-1 = leaders;
       item-2 = λ r log f. (chain-1-2 r log f, λ t e. chain-1 r log f t);

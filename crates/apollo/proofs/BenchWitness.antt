@@ -13,16 +13,16 @@ use Rattle.sha256.specs.Fips.{sha256}
 use Rattle.apollo.specs.Bytes.{zeros}
 use Rattle.apollo.specs.declared.Setup.{Setup}
 use Rattle.apollo.specs.Rotation.{in_turn, padded}
-use Rattle.apollo.specs.Setup.{setupOf, leader, setup}
-use Rattle.apollo.specs.Frame.{round, height, linked, makeBlame}
+use Rattle.apollo.specs.Setup.{setup_of, leader, setup}
+use Rattle.apollo.specs.Frame.{round, height, linked, make_blame}
 use Rattle.apollo.specs.Log.{slot, filled}
-use Rattle.apollo.specs.Masks.{bit, setBit, mask, addBlame}
+use Rattle.apollo.specs.Masks.{bit, set_bit, mask, add_blame}
 use Rattle.apollo.specs.Replica.{leads}
 use Rattle.apollo.specs.Enter.{State}
 use Rattle.apollo.specs.Outcome.{state_of}
-use Rattle.apollo.specs.BlockRun.{childOf, block}
-use Rattle.apollo.specs.Calls.{branchCall, blameCall}
-use Rattle.apollo.specs.BenchSheet.{turn, chainRounds, ParentIn, Item9, Item10, Held}
+use Rattle.apollo.specs.BlockRun.{child_of, block}
+use Rattle.apollo.specs.Calls.{branch_call, blame_call}
+use Rattle.apollo.specs.BenchSheet.{turn, chain_rounds, ParentIn, Item9, Item10, Held}
 use Rattle.apollo.proofs.Tests.{both}
 use Rattle.apollo.proofs.BlockRun.{blocks-of, blocks-none}
 use Rattle.apollo.proofs.Slots.{length-zeros}
@@ -52,13 +52,13 @@ aside i r led low most =
 -- Item 9, at replicas 0 and 1. Each has opened and holds blocks 1 and 2, its own and the other's; it hears one blame for round 2, and
 -- a second; then the block for round 3 on block 1 comes.
 unfoldable pub held-0 : State
-held-0 = state_of (branchCall (opening 0) (blk 2) [] out)
+held-0 = state_of (branch_call (opening 0) (blk 2) [] out)
 
 unfoldable pub held-1 : State
-held-1 = state_of (branchCall (opening 1) (blk 1) [] out)
+held-1 = state_of (branch_call (opening 1) (blk 1) [] out)
 
 unfoldable pub blamed : State → (i r : ℕ) → State
-blamed s i r = state_of (blameCall s (makeBlame sha256 i r) [] out)
+blamed s i r = state_of (blame_call s (make_blame sha256 i r) [] out)
 
 unfoldable pub twice : State → (r : ℕ) → State
 twice s r = blamed (blamed s 0 r) 1 r
@@ -106,21 +106,21 @@ met-9 s id m masks made i lent e =
 -- a replica with blocks 1 to n hears the blames of replicas 0 and 1 for round r
 module _ (s : State) (id n : ℕ) (masks : List ℕ) (made : Made s id n masks) (i : id < 3) (l : n < 5) (lent : length masks ≡ 6)
     (waits : leads (record_of id n) ≡ false) (r : ℕ) (one : 1 ≤ r) (past : r ≤ n) where
-  blamed-made : bit 0 (mask masks r) ≡ false → Made (blamed s 0 r) id n (addBlame masks r 0)
+  blamed-made : bit 0 (mask masks r) ≡ false → Made (blamed s 0 r) id n (add_blame masks r 0)
   unfolding blamed
   blamed-made z = hears s id n masks made i l lent waits 0 r (omega arith) one past z
 
-  twice-made : bit 0 (mask masks r) ≡ false → bit 1 (mask (addBlame masks r 0) r) ≡ false
-      → Made (twice s r) id n (addBlame (addBlame masks r 0) r 1)
+  twice-made : bit 0 (mask masks r) ≡ false → bit 1 (mask (add_blame masks r 0) r) ≡ false
+      → Made (twice s r) id n (add_blame (add_blame masks r 0) r 1)
   unfolding twice blamed
   twice-made z u =
-      hears (blamed s 0 r) id n (addBlame masks r 0) (blamed-made z) i l (simp length-set lent) waits 1 r (omega arith) one past u
+      hears (blamed s 0 r) id n (add_blame masks r 0) (blamed-made z) i l (simp length-set lent) waits 1 r (omega arith) one past u
 
 abbrev Both9 : (held : State) (id : ℕ) → Type 0
 Both9 held id = Met9 (blamed held 0 2) id 1 × Met9 (twice held 2) id 3
 
 both-9 : (held : State) (id : ℕ) → Made held id 2 (zeros 6) → id < 2 → Both9 held id
-unfolding zeros bit setBit leads leader padded in_turn
+unfolding zeros bit set_bit leads leader padded in_turn
 both-9 held id made i =
     let led : leads (record_of id 2) ≡ false = ne_eqb 2 id (λ z. omega arith) in (
       met-9 (blamed held 0 2) id 1 _
@@ -134,7 +134,7 @@ item-9-met = (both-9 held-0 0 made-0 (omega arith), both-9 held-1 1 made-1 (omeg
 
 -- Item 10, at replica 1, which then took block 3: with no blame heard, and with two for each of rounds 2 and 3.
 unfoldable pub held-3 : State
-held-3 = state_of (branchCall held-1 (blk 3) [] out)
+held-3 = state_of (branch_call held-1 (blk 3) [] out)
 
 made-3 : Made held-3 1 3 (zeros 6)
 unfolding held-3 leads leader padded in_turn zeros
@@ -145,22 +145,22 @@ pub record Met10 (s : State) (m : ℕ) : Type 0 where
   pub aside : List ℕ
   pub above : List ℕ
   pub item : Item10 s out
-  pub good : block (setupOf s.replica) aside ≡ true
+  pub good : block (setup_of s.replica) aside ≡ true
   pub four : round aside ≡ 4
   pub parent : ParentIn s.log aside 1
-  pub held : Held (setupOf s.replica) s.log
-  pub above_good : block (setupOf s.replica) above ≡ true
+  pub held : Held (setup_of s.replica) s.log
+  pub above_good : block (setup_of s.replica) above ≡ true
   pub above-child : linked (slot s.log 3) above ≡ true
   pub above-four : round above ≡ 4
   pub masks-are : (mask s.masks 2 ≡ m) × (mask s.masks 3 ≡ m)
 
-child-of : (p x : List ℕ) {r h : ℕ} → Child r h p x → round p < round x → childOf p x ≡ true
-unfolding childOf
+child-of : (p x : List ℕ) {r h : ℕ} → Child r h p x → round p < round x → child_of p x ≡ true
+unfolding child_of
 child-of p x c l = both (linked p x) (ltb (round p) (round x)) c.on (lt-ltb (round p) (round x) l)
 
 module _ (log : List ℕ) (h : Holds log 3) where
-  chained : chainRounds log 3 ≡ 1 ∷ 2 ∷ 3 ∷ []
-  unfolding chainRounds
+  chained : chain_rounds log 3 ≡ 1 ∷ 2 ∷ 3 ∷ []
+  unfolding chain_rounds
   chained =
       let f1 : filled (slot log 1) ≡ true = slot-full log 3 h (omega arith) 1 (omega arith) (omega arith) in
       let f2 : filled (slot log 2) ≡ true = slot-full log 3 h (omega arith) 2 (omega arith) (omega arith) in
@@ -220,7 +220,7 @@ met-10 s m masks made lent two three =
     })
 
 pub item-10-met : Met10 held-3 0 × Met10 (twice (twice held-3 2) 3) 3
-unfolding zeros bit setBit leads leader padded in_turn
+unfolding zeros bit set_bit leads leader padded in_turn
 item-10-met =
     let two : Made (twice held-3 2) 1 3 (0 ∷ 3 ∷ 0 ∷ 0 ∷ 0 ∷ 0 ∷ []) =
     twice-made held-3 1 3 (zeros 6) made-3 (omega arith) (omega arith) refl refl 2 (omega arith) (omega arith) refl refl in

@@ -10,29 +10,29 @@ use lib.Seq.{drop_at, take_at}
 use lib.Dec.{eqb, ltb}
 use borrow.Author.Tests.{ltb-true, eqb-true, eqb-false, eq-eqb}
 use Rattle.sha256.specs.Fips.{sha256}
-use Rattle.apollo.specs.Size.{frameSize}
+use Rattle.apollo.specs.Size.{frame_size}
 use Rattle.apollo.specs.declared.Setup.{Setup}
 use Rattle.apollo.specs.declared.Verdict.{Verdict}
-use Rattle.apollo.specs.Frame.{round, frames, blockForm, linked, checked}
-use Rattle.apollo.specs.Judging.{noRefusal, fault}
-use Rattle.apollo.specs.BlockRun.{childOf, follows, block, blocks, faulty, judgedNext, judgedRun}
+use Rattle.apollo.specs.Frame.{round, frames, block_form, linked, checked}
+use Rattle.apollo.specs.Judging.{no_refusal, fault}
+use Rattle.apollo.specs.BlockRun.{child_of, follows, block, blocks, faulty, judged_next, judged_run}
 use Rattle.apollo.proofs.Tests.{and-true, both, by_cond, cond-false}
 use Rattle.apollo.proofs.Frames.{Whole}
 use Rattle.apollo.proofs.Fault.{fault-none, fault-number}
 
 -- a block frame is whole, and passes 7 and 8
-pub block_of : (s : Setup) (x : List ℕ) → length x ≡ frameSize → checked sha256 x ≡ true → blockForm s x ≡ true → block s x ≡ true
+pub block_of : (s : Setup) (x : List ℕ) → length x ≡ frame_size → checked sha256 x ≡ true → block_form s x ≡ true → block s x ≡ true
 unfolding block
 block_of s x l c f =
-    both (eqb (length x) frameSize) _ (eq-eqb (length x) frameSize l) (both (checked sha256 x) (blockForm s x) c f)
+    both (eqb (length x) frame_size) _ (eq-eqb (length x) frame_size l) (both (checked sha256 x) (block_form s x) c f)
 
-pub block-parts : (s : Setup) (x : List ℕ) → block s x ≡ true → (checked sha256 x ≡ true) × (blockForm s x ≡ true)
+pub block-parts : (s : Setup) (x : List ℕ) → block s x ≡ true → (checked sha256 x ≡ true) × (block_form s x ≡ true)
 unfolding block
-block-parts s x e = and-true (checked sha256 x) (blockForm s x) (and-true (eqb (length x) frameSize) (checked sha256 x && blockForm s x) e).1
+block-parts s x e = and-true (checked sha256 x) (block_form s x) (and-true (eqb (length x) frame_size) (checked sha256 x && block_form s x) e).1
 
-pub block-length : (s : Setup) (x : List ℕ) → block s x ≡ true → length x ≡ frameSize
+pub block-length : (s : Setup) (x : List ℕ) → block s x ≡ true → length x ≡ frame_size
 unfolding block
-block-length s x e = eqb-true (length x) frameSize (and-true (eqb (length x) frameSize) (checked sha256 x && blockForm s x) e).0
+block-length s x e = eqb-true (length x) frame_size (and-true (eqb (length x) frame_size) (checked sha256 x && block_form s x) e).0
 
 faultless : (s : Setup) (x : List ℕ) → block s x ≡ true → faulty sha256 s x ≡ 0
 unfolding fault
@@ -41,8 +41,8 @@ faultless s x e =
     cond-false _ _ (ap not q.0) ∙ cond-false _ _ (ap not q.1)
 
 -- a child: its link, and its round
-pub child-parts : (p x : List ℕ) → childOf p x ≡ true → (linked p x ≡ true) × (round p < round x)
-unfolding childOf
+pub child-parts : (p x : List ℕ) → child_of p x ≡ true → (linked p x ≡ true) × (round p < round x)
+unfolding child_of
 child-parts p x e =
     let q = and-true (linked p x) (ltb (round p) (round x)) e in
     (q.0, ltb-true (round p) (round x) q.1)
@@ -91,8 +91,8 @@ blocks-whole s p (x ∷ xs) e =
 
 -- a good run is refused nothing
 pub judged-blocks : (s : Setup) (k : ℕ) (p : Option (List ℕ)) (xs : List (List ℕ)) → blocks s p xs ≡ true
-    → judgedRun sha256 s k p xs ≡ noRefusal
-unfolding judgedRun judgedNext
+    → judged_run sha256 s k p xs ≡ no_refusal
+unfolding judged_run judged_next
 judged-blocks s k p [] e = refl
 judged-blocks s k p (x ∷ xs) e =
     let q = blocks-parts s p x xs e in
@@ -100,50 +100,50 @@ judged-blocks s k p (x ∷ xs) e =
     rw (f, q.1) (judged-blocks s (k + 1) (some x) xs q.2)
 
 -- and whole frames that are refused nothing are a good run
-next-block : (s : Setup) (p : Option (List ℕ)) (x : List ℕ) → length x ≡ frameSize → judgedNext sha256 s p x ≡ 0
+next-block : (s : Setup) (p : Option (List ℕ)) (x : List ℕ) → length x ≡ frame_size → judged_next sha256 s p x ≡ 0
     → (block s x ≡ true) × (follows p x ≡ true)
-unfolding judgedNext
+unfolding judged_next
 next-block s p x l e =
     by_cond (λ n. n ≡ 0 → Next) (eqb (faulty sha256 s x) 0)
     (λ g. by_cond (λ n. n ≡ 0 → Next) (follows p x)
-    (λ f v. let q = fault-none sha256 (blockForm s) x (eqb-true _ _ g) in (block_of s x l q.0 q.1, f))
+    (λ f v. let q = fault-none sha256 (block_form s) x (eqb-true _ _ g) in (block_of s x l q.0 q.1, f))
     (λ f v. absurd (omega (arith, v))))
     (λ g v. absurd (eqb-false _ _ g v)) e
   where
     Next : Type 0
     Next = (block s x ≡ true) × (follows p x ≡ true)
 
-pub blocks-judged : (s : Setup) (k : ℕ) (p : Option (List ℕ)) (xs : List (List ℕ)) → (judgedRun sha256 s k p xs).number ≡ 0
+pub blocks-judged : (s : Setup) (k : ℕ) (p : Option (List ℕ)) (xs : List (List ℕ)) → (judged_run sha256 s k p xs).number ≡ 0
     → Whole xs → blocks s p xs ≡ true
-unfolding judgedRun
+unfolding judged_run
 blocks-judged s k p [] e w = blocks-none s p
 blocks-judged s k p (x ∷ xs) e w =
-    by_cond (λ (v : Verdict). v.number ≡ 0 → blocks s p (x ∷ xs) ≡ true) (eqb (judgedNext sha256 s p x) 0)
+    by_cond (λ (v : Verdict). v.number ≡ 0 → blocks s p (x ∷ xs) ≡ true) (eqb (judged_next sha256 s p x) 0)
     (λ g v. let q = next-block s p x w.0 (eqb-true _ _ g) in
     blocks-of s p x xs q.0 q.1 (blocks-judged s (k + 1) (some x) xs v w.1))
     (λ g v. absurd (eqb-false _ _ g v)) e
 
 -- the frames of a run are answered 0, 7, 8 or 9
 pub run-number : (P : ℕ → Type 0) → P 0 → P 7 → P 8 → P 9 → (s : Setup) (k : ℕ) (p : Option (List ℕ)) (xs : List (List ℕ))
-    → P (judgedRun sha256 s k p xs).number
-unfolding judgedRun judgedNext
+    → P (judged_run sha256 s k p xs).number
+unfolding judged_run judged_next
 run-number P p0 p7 p8 p9 s k p [] = p0
 run-number P p0 p7 p8 p9 s k p (x ∷ xs) =
-    let ih : P (judgedRun sha256 s (k + 1) (some x) xs).number = run-number P p0 p7 p8 p9 s (k + 1) (some x) xs in
-    let next : P (judgedNext sha256 s p x) =
+    let ih : P (judged_run sha256 s (k + 1) (some x) xs).number = run-number P p0 p7 p8 p9 s (k + 1) (some x) xs in
+    let next : P (judged_next sha256 s p x) =
     by_cond P (eqb (faulty sha256 s x) 0) (λ _. by_cond P (follows p x) (λ _. p0) (λ _. p9))
-    (λ _. fault-number P p0 p7 p8 sha256 (blockForm s) x) in
-    by_cond (λ (v : Verdict). P v.number) (eqb (judgedNext sha256 s p x) 0) (λ _. ih) (λ _. next)
+    (λ _. fault-number P p0 p7 p8 sha256 (block_form s) x) in
+    by_cond (λ (v : Verdict). P v.number) (eqb (judged_next sha256 s p x) 0) (λ _. ih) (λ _. next)
 
 -- a run read back from its bytes
 pub run_length : (s : Setup) (p : Option (List ℕ)) (xs : List (List ℕ)) → blocks s p xs ≡ true
-    → length (flatten xs) ≡ frameSize * length xs
+    → length (flatten xs) ≡ frame_size * length xs
 unfolding flatten
 run_length s p [] e = refl
 run_length s p (x ∷ xs) e =
     let q = blocks-parts s p x xs e in
-    let l : length x ≡ frameSize = block-length s x q.0 in
-    let h : length (flatten xs) ≡ frameSize * length xs = run_length s (some x) xs q.2 in
+    let l : length x ≡ frame_size = block-length s x q.0 in
+    let h : length (flatten xs) ≡ frame_size * length xs = run_length s (some x) xs q.2 in
     length-append x (flatten xs) ∙ (omega arith)
 
 pub run-frames : (s : Setup) (p : Option (List ℕ)) (xs : List (List ℕ)) → blocks s p xs ≡ true
@@ -152,8 +152,8 @@ unfolding frames flatten
 run-frames s p [] e = refl
 run-frames s p (x ∷ xs) e =
     let q = blocks-parts s p x xs e in
-    let l : length x ≡ frameSize = block-length s x q.0 in
-    let t : take frameSize (x ++ flatten xs) ≡ x = take_at x (flatten xs) frameSize l in
-    let d : drop frameSize (x ++ flatten xs) ≡ flatten xs = drop_at x (flatten xs) frameSize l in
+    let l : length x ≡ frame_size = block-length s x q.0 in
+    let t : take frame_size (x ++ flatten xs) ≡ x = take_at x (flatten xs) frame_size l in
+    let d : drop frame_size (x ++ flatten xs) ≡ flatten xs = drop_at x (flatten xs) frame_size l in
     let ih : frames (length xs) (flatten xs) ≡ xs = run-frames s (some x) xs q.2 in
     rw (t, d, ih)

@@ -9,42 +9,42 @@ use borrow.Author.Tests.{eqb-true, eqb-false, eq-eqb, ne_eqb, not-true, not-fals
 use Rattle.apollo.specs.declared.Replica.{Replica}
 use Rattle.apollo.specs.declared.Verdict.{Verdict}
 use Rattle.apollo.specs.declared.Marked.{Marked}
-use Rattle.apollo.specs.Setup.{setupOf, leader}
-use Rattle.apollo.specs.Frame.{round, blockForm, firstFrame}
-use Rattle.apollo.specs.Replica.{withMark, validRecord}
-use Rattle.apollo.specs.Judging.{judgedEach}
-use Rattle.apollo.specs.Equivocation.{marked, isPair, second, conflicting, accusing, equivocationWith}
+use Rattle.apollo.specs.Setup.{setup_of, leader}
+use Rattle.apollo.specs.Frame.{round, block_form, first_frame}
+use Rattle.apollo.specs.Replica.{with_mark, valid_record}
+use Rattle.apollo.specs.Judging.{judged_each}
+use Rattle.apollo.specs.Equivocation.{marked, is_pair, second, conflicting, accusing, equivocation_with}
 use Rattle.apollo.proofs.Tests.{by_cond}
 
 module _ (hash : List ℕ → List ℕ) (r : Replica) (bytes : List ℕ) where
   -- 7 and 8 of the two frames
   abbrev pub judged : Verdict
-  judged = judgedEach hash (blockForm (setupOf r)) 0 (firstFrame bytes ∷ second bytes ∷ [])
+  judged = judged_each hash (block_form (setup_of r)) 0 (first_frame bytes ∷ second bytes ∷ [])
 
   -- 2; 6; 7 or 8; 18; taken
   pub data Case : Marked → Type 0 where
-    invalid-record : validRecord r ≡ false → Case (marked 2 0 r)
-    not-pair : validRecord r ≡ true → isPair bytes ≡ false → Case (marked 6 0 r)
-    faulty-frame : validRecord r ≡ true → isPair bytes ≡ true → judged.number ≢ 0 → Case (marked judged.number judged.place r)
-    not-conflicting : validRecord r ≡ true → isPair bytes ≡ true → judged.number ≡ 0 → conflicting (firstFrame bytes) (second bytes) ≡ false
+    invalid-record : valid_record r ≡ false → Case (marked 2 0 r)
+    not-pair : valid_record r ≡ true → is_pair bytes ≡ false → Case (marked 6 0 r)
+    faulty-frame : valid_record r ≡ true → is_pair bytes ≡ true → judged.number ≢ 0 → Case (marked judged.number judged.place r)
+    not-conflicting : valid_record r ≡ true → is_pair bytes ≡ true → judged.number ≡ 0 → conflicting (first_frame bytes) (second bytes) ≡ false
         → Case (marked 18 0 r)
-    leader-marked : validRecord r ≡ true → isPair bytes ≡ true → judged.number ≡ 0 → conflicting (firstFrame bytes) (second bytes) ≡ true
-        → Case (marked 0 0 (withMark r (leader (setupOf r) (round (firstFrame bytes)))))
+    leader-marked : valid_record r ≡ true → is_pair bytes ≡ true → judged.number ≡ 0 → conflicting (first_frame bytes) (second bytes) ≡ true
+        → Case (marked 0 0 (with_mark r (leader (setup_of r) (round (first_frame bytes)))))
 
   -- the answer is one of these
-  pub by-case : Case (equivocationWith hash r bytes)
-  unfolding equivocationWith accusing
+  pub by-case : Case (equivocation_with hash r bytes)
+  unfolding equivocation_with accusing
   by-case =
-      by_cond Case (not (validRecord r)) (λ e. invalid-record (not-true _ e))
-      (λ v. by_cond Case (isPair bytes)
+      by_cond Case (not (valid_record r)) (λ e. invalid-record (not-true _ e))
+      (λ v. by_cond Case (is_pair bytes)
       (λ p. by_cond Case (eqb judged.number 0)
-      (λ j. by_cond Case (conflicting (firstFrame bytes) (second bytes)) (leader-marked (not-false _ v) p (eqb-true _ _ j))
+      (λ j. by_cond Case (conflicting (first_frame bytes) (second bytes)) (leader-marked (not-false _ v) p (eqb-true _ _ j))
       (not-conflicting (not-false _ v) p (eqb-true _ _ j)))
       (λ j. faulty-frame (not-false _ v) p (eqb-false _ _ j))) (not-pair (not-false _ v)))
 
   -- and whichever holds is the answer
-  pub case-is : (a : Marked) → Case a → a ≡ equivocationWith hash r bytes
-  unfolding equivocationWith accusing
+  pub case-is : (a : Marked) → Case a → a ≡ equivocation_with hash r bytes
+  unfolding equivocation_with accusing
   case-is a (invalid-record v) = rw v
   case-is a (not-pair v p) = rw (v, p)
   case-is a (faulty-frame v p j) = rw (v, p, ne_eqb judged.number 0 j)

@@ -8,7 +8,7 @@ use lib.Dec.{eqb}
 use borrow.Author.Tests.{not-false}
 use Rattle.apollo.specs.declared.Verdict.{Verdict}
 use Rattle.apollo.specs.Frame.{checked}
-use Rattle.apollo.specs.Judging.{fault, judgedEach}
+use Rattle.apollo.specs.Judging.{fault, judged_each}
 use Rattle.apollo.proofs.Tests.{by_cond}
 
 module _ (hash : List ℕ → List ℕ) (form : List ℕ → Bool) (x : List ℕ) where
@@ -30,9 +30,9 @@ module _ (P : ℕ → Type 0) (p0 : P 0) (p7 : P 7) (p8 : P 8) (hash : List ℕ 
   fault-number x = by_cond P (not (checked hash x)) (λ _. p7) (λ _. by_cond P (not (form x)) (λ _. p8) (λ _. p0))
 
   -- of frames, each by itself
-  pub each_number : (k : ℕ) (xs : List (List ℕ)) → P (judgedEach hash form k xs).number
-  unfolding judgedEach
+  pub each_number : (k : ℕ) (xs : List (List ℕ)) → P (judged_each hash form k xs).number
+  unfolding judged_each
   each_number k [] = p0
   each_number k (x ∷ xs) =
-      let ih : P (judgedEach hash form (k + 1) xs).number = each_number (k + 1) xs in
+      let ih : P (judged_each hash form (k + 1) xs).number = each_number (k + 1) xs in
       by_cond (λ (v : Verdict). P v.number) (eqb (fault hash form x) 0) (λ _. ih) (λ _. fault-number x)

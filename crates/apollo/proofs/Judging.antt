@@ -10,16 +10,16 @@ use lib.ListN.{length}
 use lib.Dec.{eqb, ltb}
 use borrow.Author.Tests.{lt-ltb, le-ltb, eqb-true, eqb-false, eq-eqb, ne_eqb}
 use Rattle.sha256.specs.Fips.{sha256}
-use Rattle.apollo.specs.Size.{frameSize}
-use Rattle.apollo.specs.Setup.{setupOf}
+use Rattle.apollo.specs.Size.{frame_size}
+use Rattle.apollo.specs.Setup.{setup_of}
 use Rattle.apollo.specs.Frame.{round, frames, linked}
 use Rattle.apollo.specs.Log.{slot, filled, attach}
-use Rattle.apollo.specs.Replica.{validReplica, validMasks}
+use Rattle.apollo.specs.Replica.{valid_replica, valid_masks}
 use Rattle.apollo.specs.Enter.{State}
 use Rattle.apollo.specs.declared.Verdict.{Verdict}
 use Rattle.apollo.specs.Outcome.{Outcome, refused, guarded}
-use Rattle.apollo.specs.BlockRun.{last_of, blocks, judgedRun}
-use Rattle.apollo.specs.Branch.{placed, branched, branchWith}
+use Rattle.apollo.specs.BlockRun.{last_of, blocks, judged_run}
+use Rattle.apollo.specs.Branch.{placed, branched, branch_with}
 use Rattle.apollo.specs.BenchSheet.{Callable, ParentIn}
 use Rattle.apollo.proofs.Tests.{and-true, both, cond-true, cond-false}
 use Rattle.apollo.proofs.Frames.{whole_of}
@@ -33,8 +33,8 @@ module _ {s : State} {out : List ℕ} (c : Callable s out) (entry : List ℕ) wh
       let R : ℕ = s.replica.round.0 in
       let T : ℕ = s.replica.last_round.0 in
       let running : R ≤ T = c.running in
-      let valid : not (validReplica s.replica s.log && validMasks s.replica s.masks) ≡ false =
-      ap not (both (validReplica s.replica s.log) (validMasks s.replica s.masks) c.valid c.lent) in
+      let valid : not (valid_replica s.replica s.log && valid_masks s.replica s.masks) ≡ false =
+      ap not (both (valid_replica s.replica s.log) (valid_masks s.replica s.masks) c.valid c.lent) in
       cond-false _ _ valid ∙ cond-false _ _ (ne_eqb R (T + 1) (λ e. omega arith))
       ∙ cond-false _ _ (le-ltb (length out) 1024 c.room)
 
@@ -47,36 +47,36 @@ module _ {s : State} {out : List ℕ} (c : Callable s out) (entry : List ℕ) wh
 
 module _ {s : State} {out : List ℕ} (c : Callable s out) (entry : List ℕ) (l : length entry ≤ 400) (x : List ℕ)
     (xs : List (List ℕ)) (fit : length (x ∷ xs) ≤ s.replica.last_round.0)
-    (good : blocks (setupOf s.replica) none (x ∷ xs) ≡ true) where
-  reads : branchWith sha256 s (flatten (x ∷ xs)) entry out ≡ branched sha256 entry out s (x ∷ xs)
-  unfolding branchWith
+    (good : blocks (setup_of s.replica) none (x ∷ xs) ≡ true) where
+  reads : branch_with sha256 s (flatten (x ∷ xs)) entry out ≡ branched sha256 entry out s (x ∷ xs)
+  unfolding branch_with
   reads =
       let T : ℕ = s.replica.last_round.0 in
       let k : ℕ = length (x ∷ xs) in
       let b : List ℕ = flatten (x ∷ xs) in
-      let size : length b ≡ frameSize * k = run_length (setupOf s.replica) none (x ∷ xs) good in
+      let size : length b ≡ frame_size * k = run_length (setup_of s.replica) none (x ∷ xs) good in
       let one : 1 ≤ k = omega arith in
-      let n : length b / frameSize ≡ k = omega arith in
-      let rest : length b % frameSize ≡ 0 = omega arith in
+      let n : length b / frame_size ≡ k = omega arith in
+      let rest : length b % frame_size ≡ 0 = omega arith in
       passes c entry l _
       ∙ cond-true _ _ (whole_of T b (record { even = rest; some = omega arith; few = omega arith }))
-      ∙ ap (branched sha256 entry out s) (ap (λ i. frames i b) n ∙ run-frames (setupOf s.replica) none (x ∷ xs) good)
+      ∙ ap (branched sha256 entry out s) (ap (λ i. frames i b) n ∙ run-frames (setup_of s.replica) none (x ∷ xs) good)
 
-  verdict : eqb (judgedRun sha256 (setupOf s.replica) 0 none (x ∷ xs)).number 0 ≡ true
+  verdict : eqb (judged_run sha256 (setup_of s.replica) 0 none (x ∷ xs)).number 0 ≡ true
   verdict =
-      eq-eqb (judgedRun sha256 (setupOf s.replica) 0 none (x ∷ xs)).number 0
-      (ap (λ (v : Verdict). v.number) (judged-blocks (setupOf s.replica) 0 none (x ∷ xs) good))
+      eq-eqb (judged_run sha256 (setup_of s.replica) 0 none (x ∷ xs)).number 0
+      (ap (λ (v : Verdict). v.number) (judged-blocks (setup_of s.replica) 0 none (x ∷ xs) good))
 
   -- a branch of good frames is stale if it ends below R
   pub stale-branch : round (last_of x xs) < s.replica.round.0
-      → branchWith sha256 s (flatten (x ∷ xs)) entry out ≡ refused s out 10 0
+      → branch_with sha256 s (flatten (x ∷ xs)) entry out ≡ refused s out 10 0
   unfolding branched
   stale-branch low =
       reads ∙ cond-true _ _ verdict ∙ cond-true _ _ (lt-ltb (round (last_of x xs)) s.replica.round.0 low)
 
   -- and else comes to where it attaches
   pub fresh-branch : s.replica.round.0 ≤ round (last_of x xs)
-      → branchWith sha256 s (flatten (x ∷ xs)) entry out
+      → branch_with sha256 s (flatten (x ∷ xs)) entry out
       ≡ placed sha256 entry out s x xs (attach s.log x (round x - 1))
   unfolding branched
   fresh-branch high =

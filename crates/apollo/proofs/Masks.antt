@@ -12,7 +12,7 @@ use lib.Bits.{bit_or, or_step, or_zero_r}
 use lib.Count.{ones, ones_in, ones_step}
 use lib.Dec.{eqb}
 use borrow.Author.Tests.{eqb-true, eqb-false, eq-eqb}
-use Rattle.apollo.specs.Masks.{bit, setBit, count}
+use Rattle.apollo.specs.Masks.{bit, set_bit, count}
 
 -- a count taken from the other end
 count-shift : (n : ℕ) (p : ℕ → Bool) → count (suc n) p ≡ cond (p 0) 1 0 + count n (λ i. p (suc i))
@@ -43,8 +43,8 @@ ones-count (suc n) m =
     omega arith
 
 -- setting bit i is the or with 2 ^ i
-pub or_set : (i m : ℕ) → bit_or m (2 ^ i) ≡ setBit i m
-unfolding setBit
+pub or_set : (i m : ℕ) → bit_or m (2 ^ i) ≡ set_bit i m
+unfolding set_bit
 or_set zero m =
     let s : bit_or m 1 ≡ bit_or (m / 2) 0 * 2 + max (m % 2) 1 = or_step m 1 in
     let z : bit_or (m / 2) 0 ≡ m / 2 = or_zero_r (m / 2) in
@@ -54,7 +54,7 @@ or_set (suc i) m =
     let p : 2 ^ suc i ≡ 2 ^ i * 2 = pow-suc 2 i in
     let h : 2 ^ suc i / 2 ≡ 2 ^ i = omega arith in
     let a : bit_or (m / 2) (2 ^ suc i / 2) ≡ bit_or (m / 2) (2 ^ i) = ap (bit_or (m / 2)) h in
-    let ih : bit_or (m / 2) (2 ^ i) ≡ setBit i (m / 2) = or_set i (m / 2) in
+    let ih : bit_or (m / 2) (2 ^ i) ≡ set_bit i (m / 2) = or_set i (m / 2) in
     omega arith
 
 -- bit i is the lowest bit of the mask shifted down by i
@@ -72,37 +72,37 @@ bit-zero zero = refl
 bit-zero (suc i) = bit-zero i
 
 -- after a bit is set: that bit, and the others
-pub bit-set-same : (i m : ℕ) → bit i (setBit i m) ≡ true
-unfolding bit setBit
+pub bit-set-same : (i m : ℕ) → bit i (set_bit i m) ≡ true
+unfolding bit set_bit
 bit-set-same zero m = let e : (m / 2 * 2 + 1) % 2 ≡ 1 = omega arith in eq-eqb _ _ e
 bit-set-same (suc i) m =
-    let e : (setBit i (m / 2) * 2 + m % 2) / 2 ≡ setBit i (m / 2) = omega arith in
+    let e : (set_bit i (m / 2) * 2 + m % 2) / 2 ≡ set_bit i (m / 2) = omega arith in
     ap (bit i) e ∙ bit-set-same i (m / 2)
 
-pub bit-set-other : (j i m : ℕ) → j ≢ i → bit j (setBit i m) ≡ bit j m
-unfolding bit setBit
+pub bit-set-other : (j i m : ℕ) → j ≢ i → bit j (set_bit i m) ≡ bit j m
+unfolding bit set_bit
 bit-set-other zero zero m ne = absurd (ne refl)
 bit-set-other (suc j) zero m ne = let e : (m / 2 * 2 + 1) / 2 ≡ m / 2 = omega arith in ap (bit j) e
-bit-set-other zero (suc i) m ne = let e : (setBit i (m / 2) * 2 + m % 2) % 2 ≡ m % 2 = omega arith in ap (λ k. eqb k 1) e
+bit-set-other zero (suc i) m ne = let e : (set_bit i (m / 2) * 2 + m % 2) % 2 ≡ m % 2 = omega arith in ap (λ k. eqb k 1) e
 bit-set-other (suc j) (suc i) m ne =
-    let e : (setBit i (m / 2) * 2 + m % 2) / 2 ≡ setBit i (m / 2) = omega arith in
+    let e : (set_bit i (m / 2) * 2 + m % 2) / 2 ≡ set_bit i (m / 2) = omega arith in
     ap (bit j) e ∙ bit-set-other j i (m / 2) (λ e. ne (ap suc e))
 
 -- a mask below 2 ^ n stays so
-pub set_below : (n i m : ℕ) → i < n → m < 2 ^ n → setBit i m < 2 ^ n
-unfolding setBit
+pub set_below : (n i m : ℕ) → i < n → m < 2 ^ n → set_bit i m < 2 ^ n
+unfolding set_bit
 set_below zero i m l h = absurd (omega arith)
 set_below (suc n) zero m l h =
     let p : 2 ^ suc n ≡ 2 ^ n * 2 = pow-suc 2 n in
     omega arith
 set_below (suc n) (suc i) m l h =
     let p : 2 ^ suc n ≡ 2 ^ n * 2 = pow-suc 2 n in
-    let b : setBit i (m / 2) < 2 ^ n = set_below n i (m / 2) (omega arith) (omega arith) in
+    let b : set_bit i (m / 2) < 2 ^ n = set_below n i (m / 2) (omega arith) (omega arith) in
     omega arith
 
-pub bit_kept : (i k m : ℕ) → bit k m ≡ true → bit k (setBit i m) ≡ true
+pub bit_kept : (i k m : ℕ) → bit k m ≡ true → bit k (set_bit i m) ≡ true
 bit_kept i k m e = go (eqb k i) refl
   where
-    go : (z : Bool) → eqb k i ≡ z → bit k (setBit i m) ≡ true
-    go true z = ap (λ j. bit j (setBit i m)) (eqb-true _ _ z) ∙ bit-set-same i m
+    go : (z : Bool) → eqb k i ≡ z → bit k (set_bit i m) ≡ true
+    go true z = ap (λ j. bit j (set_bit i m)) (eqb-true _ _ z) ∙ bit-set-same i m
     go false z = bit-set-other k i m (eqb-false _ _ z) ∙ e

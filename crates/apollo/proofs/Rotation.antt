@@ -13,8 +13,8 @@ use lib.Seq.{take-append-add, get_or-take, take_at, drop_at, get_or_at}
 use borrow.Author.Tests.{eqb-true, eqb-false, eq-eqb, ltb-true, ltb-false, lt-ltb, le-ltb}
 use Rattle.apollo.specs.declared.Setup.{Setup}
 use Rattle.apollo.specs.Bytes.{zeros, blank}
-use Rattle.apollo.specs.Rotation.{seats, eachOnce, isRotation, in_turn, padded}
-use Rattle.apollo.specs.Setup.{replicas, leader, validRotation}
+use Rattle.apollo.specs.Rotation.{seats, each_once, is_rotation, in_turn, padded}
+use Rattle.apollo.specs.Setup.{replicas, leader, valid_rotation}
 use Rattle.apollo.proofs.Tests.{and_first, and_second, and-end, both, same_of}
 use Rattle.apollo.proofs.Slots.{part-zeros}
 
@@ -82,33 +82,33 @@ seats-two c (x ∷ xs) zero (suc k) m l e d = rw (eq-eqb x c e) (omega (arith, s
 seats-two c (x ∷ xs) (suc j) (suc k) m l e d = omega (arith, seats-two c xs j k (omega arith) (omega arith) e d)
 
 -- each card once
-once-at : (n : ℕ) (xs : List ℕ) → eachOnce n xs ≡ true → (c : ℕ) → c < n → seats c xs ≡ 1
-unfolding eachOnce
+once-at : (n : ℕ) (xs : List ℕ) → each_once n xs ≡ true → (c : ℕ) → c < n → seats c xs ≡ 1
+unfolding each_once
 once-at zero xs e c l = absurd (omega arith)
 once-at (suc n) xs e c l = go (once-at n xs (and_second (eqb (seats n xs) 1) _ e) c) (eqb c n) refl
   where
     go : (c < n → seats c xs ≡ 1) → (b : Bool) → eqb c n ≡ b → seats c xs ≡ 1
-    go lower true d = ap (λ k. seats k xs) (eqb-true c n d) ∙ eqb-true _ _ (and_first _ (eachOnce n xs) e)
+    go lower true d = ap (λ k. seats k xs) (eqb-true c n d) ∙ eqb-true _ _ (and_first _ (each_once n xs) e)
     go lower false d = let ne : c ≢ n = eqb-false c n d in lower (omega arith)
 
-once-low : (n : ℕ) (xs : List ℕ) → eachOnce n xs ≡ true → low n xs ≡ n
-unfolding eachOnce
+once-low : (n : ℕ) (xs : List ℕ) → each_once n xs ≡ true → low n xs ≡ n
+unfolding each_once
 once-low zero xs e = low-zero xs
 once-low (suc n) xs e =
     omega (
       arith,
       low-suc n xs,
-      eqb-true (seats n xs) 1 (and_first _ (eachOnce n xs) e),
+      eqb-true (seats n xs) 1 (and_first _ (each_once n xs) e),
       once-low n xs (and_second (eqb (seats n xs) 1) _ e),
     )
 
-module _ (n : ℕ) (xs : List ℕ) (e : isRotation n xs ≡ true) where
+module _ (n : ℕ) (xs : List ℕ) (e : is_rotation n xs ≡ true) where
   pub rotation-length : length xs ≡ n
-  unfolding isRotation
-  rotation-length = eqb-true _ _ (and_first _ (eachOnce n xs) e)
+  unfolding is_rotation
+  rotation-length = eqb-true _ _ (and_first _ (each_once n xs) e)
 
-  each : eachOnce n xs ≡ true
-  unfolding isRotation
+  each : each_once n xs ≡ true
+  unfolding is_rotation
   each = and_second (eqb (length xs) n) _ e
 
   -- a seat has a card's number
@@ -129,22 +129,22 @@ low-least : (n : ℕ) (xs : List ℕ) → ((c : ℕ) → c < n → 1 ≤ seats c
 low-least zero xs h = omega arith
 low-least (suc n) xs h = omega (arith, low-suc n xs, h n (omega arith), low-least n xs (λ c l. h c (omega arith)))
 
-once-of : (n : ℕ) (xs : List ℕ) → ((c : ℕ) → c < n → 1 ≤ seats c xs) → low n xs ≤ n → eachOnce n xs ≡ true
-unfolding eachOnce
+once-of : (n : ℕ) (xs : List ℕ) → ((c : ℕ) → c < n → 1 ≤ seats c xs) → low n xs ≤ n → each_once n xs ≡ true
+unfolding each_once
 once-of zero xs h l = refl
 once-of (suc n) xs h l =
     let k : (c : ℕ) → c < n → 1 ≤ seats c xs = λ c m. h c (omega arith) in
-    both (eqb (seats n xs) 1) (eachOnce n xs)
+    both (eqb (seats n xs) 1) (each_once n xs)
     (eq-eqb (seats n xs) 1 (omega (arith, low-suc n xs, low-least n xs k, h n (omega arith), l)))
     (once-of n xs k (omega (arith, low-suc n xs, h n (omega arith), l)))
 
 -- n seats that lack no card of n are a rotation
-pub none-lacks : (n : ℕ) (xs : List ℕ) → length xs ≡ n → ((c : ℕ) → c < n → 1 ≤ seats c xs) → isRotation n xs ≡ true
-unfolding isRotation
-none-lacks n xs e h = both (eqb (length xs) n) (eachOnce n xs) (eq-eqb (length xs) n e) (once-of n xs h (omega (arith, low-le n xs)))
+pub none-lacks : (n : ℕ) (xs : List ℕ) → length xs ≡ n → ((c : ℕ) → c < n → 1 ≤ seats c xs) → is_rotation n xs ≡ true
+unfolding is_rotation
+none-lacks n xs e h = both (eqb (length xs) n) (each_once n xs) (eq-eqb (length xs) n e) (once-of n xs h (omega (arith, low-le n xs)))
 
 -- and a rotation lacks none
-pub lacks-none : (n : ℕ) (xs : List ℕ) → isRotation n xs ≡ true → (c : ℕ) → c < n → 1 ≤ seats c xs
+pub lacks-none : (n : ℕ) (xs : List ℕ) → is_rotation n xs ≡ true → (c : ℕ) → c < n → 1 ≤ seats c xs
 lacks-none n xs e c l = omega (arith, once-at n xs (each n xs e) c l)
 
 -- the old turn
@@ -169,7 +169,7 @@ unfolding in_turn
 turn-length zero = refl
 turn-length (suc n) = omega (arith, length-append (in_turn n) (n ∷ []), turn-length n)
 
-pub turn-rotation : (n : ℕ) → isRotation n (in_turn n) ≡ true
+pub turn-rotation : (n : ℕ) → is_rotation n (in_turn n) ≡ true
 turn-rotation n = none-lacks n (in_turn n) (turn-length n) (λ c. turn_one c n)
 
 turn_at : (n k : ℕ) → k < n → get_or (in_turn n) k 0 ≡ k
@@ -212,35 +212,35 @@ module _ (n : ℕ) (xs : List ℕ) (e : length xs ≡ n) (l : n ≤ 15) where
 
 -- The rotation that an open was lent, by what the record then holds: "n long", and each card once.
 pub padded-same : (s : Setup) (xs : List ℕ) → replicas s ≤ 15 → s.rotation ≡ padded xs
-    → eqb (length xs) (replicas s) && validRotation s ≡ isRotation (replicas s) xs
-unfolding validRotation isRotation
+    → eqb (length xs) (replicas s) && valid_rotation s ≡ is_rotation (replicas s) xs
+unfolding valid_rotation is_rotation
 padded-same s xs l q = rw q (go (eqb (length xs) (replicas s)) refl)
   where
     n : ℕ
     n = replicas s
 
     go : (b : Bool) → eqb (length xs) n ≡ b
-        → b && ((eqb (length (take n (padded xs))) n && eachOnce n (take n (padded xs))) && blank (padded xs) n 15) ≡ b && eachOnce n xs
+        → b && ((eqb (length (take n (padded xs))) n && each_once n (take n (padded xs))) && blank (padded xs) n 15) ≡ b && each_once n xs
     go true e =
         let d : length xs ≡ n = eqb-true (length xs) n e in
-        rw (padded-front n xs d l, padded-blank n xs d l, e) (and-end (eachOnce n xs))
+        rw (padded-front n xs d l, padded-blank n xs d l, e) (and-end (each_once n xs))
     go false e = refl
 
 -- and one that a record holds
-pub padded-valid : (s : Setup) (xs : List ℕ) → isRotation (replicas s) xs ≡ true → replicas s ≤ 15 → s.rotation ≡ padded xs
-    → validRotation s ≡ true
-unfolding validRotation
+pub padded-valid : (s : Setup) (xs : List ℕ) → is_rotation (replicas s) xs ≡ true → replicas s ≤ 15 → s.rotation ≡ padded xs
+    → valid_rotation s ≡ true
+unfolding valid_rotation
 padded-valid s xs e l q =
     let n : length xs ≡ replicas s = rotation-length (replicas s) xs e in
     rw q
-    (both (isRotation (replicas s) (take (replicas s) (padded xs))) _
-    (ap (isRotation (replicas s)) (padded-front (replicas s) xs n l) ∙ e) (padded-blank (replicas s) xs n l))
+    (both (is_rotation (replicas s) (take (replicas s) (padded xs))) _
+    (ap (is_rotation (replicas s)) (padded-front (replicas s) xs n l) ∙ e) (padded-blank (replicas s) xs n l))
 
 -- the seats of a valid rotation, as those of n cards
-module _ (s : Setup) (v : validRotation s ≡ true) where
-  pub seated : isRotation (replicas s) (take (replicas s) s.rotation) ≡ true
-  unfolding validRotation
-  seated = and_first (isRotation (replicas s) (take (replicas s) s.rotation)) (blank s.rotation (replicas s) 15) v
+module _ (s : Setup) (v : valid_rotation s ≡ true) where
+  pub seated : is_rotation (replicas s) (take (replicas s) s.rotation) ≡ true
+  unfolding valid_rotation
+  seated = and_first (is_rotation (replicas s) (take (replicas s) s.rotation)) (blank s.rotation (replicas s) 15) v
 
   pub seat : (k : ℕ) → k < replicas s → get_or (take (replicas s) s.rotation) k 0 ≡ get_or s.rotation k 0
   seat k l = get_or-take (replicas s) s.rotation k 0 l

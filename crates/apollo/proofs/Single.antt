@@ -8,17 +8,17 @@ use lib.ListN.{length}
 use lib.Dec.{eqb}
 use borrow.Author.Tests.{eqb-true, eqb-false, eq-eqb}
 use Rattle.sha256.specs.Fips.{sha256}
-use Rattle.apollo.specs.Size.{frameSize}
+use Rattle.apollo.specs.Size.{frame_size}
 use Rattle.apollo.specs.declared.Verdict.{Verdict}
-use Rattle.apollo.specs.Setup.{setupOf}
-use Rattle.apollo.specs.Frame.{signer, round, framesOf, wholeFrames, blameForm, checked}
+use Rattle.apollo.specs.Setup.{setup_of}
+use Rattle.apollo.specs.Frame.{signer, round, frames_of, whole_frames, blame_form, checked}
 use Rattle.apollo.specs.Masks.{bit, mask}
 use Rattle.apollo.specs.Enter.{State, hearing}
-use Rattle.apollo.specs.Judging.{verdict, noRefusal, fault, judgedEach}
+use Rattle.apollo.specs.Judging.{verdict, no_refusal, fault, judged_each}
 use Rattle.apollo.specs.Outcome.{Outcome, refused, guarded}
-use Rattle.apollo.specs.Blame.{oneSet, anyFresh, addBlames, hearingAll, heard, handing}
-use Rattle.apollo.specs.Calls.{blameCall, blamesCall}
-use Rattle.apollo.specs.Single.{oneBlame, SetOfOne}
+use Rattle.apollo.specs.Blame.{one_set, any_fresh, add_blames, hearing_all, heard, handing}
+use Rattle.apollo.specs.Calls.{blame_call, blames_call}
+use Rattle.apollo.specs.Single.{one_blame, SetOfOne}
 use Rattle.apollo.proofs.Tests.{both, cond-true}
 use Rattle.apollo.proofs.Frames.{WholeFrames, whole-true, whole-one, frames-one}
 
@@ -29,8 +29,8 @@ bit-none zero = refl
 bit-none (suc i) = bit-none i
 
 -- one frame is of its own round, and no signer is twice
-one_set : (x : List ℕ) → oneSet (round x) 0 (x ∷ []) ≡ true
-unfolding oneSet
+one_set : (x : List ℕ) → one_set (round x) 0 (x ∷ []) ≡ true
+unfolding one_set
 one_set x =
     both (eqb (round x) (round x) && not (bit (signer x) 0)) true
     (both (eqb (round x) (round x)) (not (bit (signer x) 0)) (eq-eqb (round x) (round x) refl) (ap not (bit-none (signer x)))) refl
@@ -38,7 +38,7 @@ one_set x =
 module _ (s : State) (out : List ℕ) where
   -- 7 and 8 of one frame, by its two tests
   judged-one : (a b : Bool) (o : Outcome) (v : Verdict) (k : ℕ) → k ≡ cond (not a) 7 (cond (not b) 8 0)
-      → v ≡ cond (eqb k 0) noRefusal (verdict k 0)
+      → v ≡ cond (eqb k 0) no_refusal (verdict k 0)
       → cond (eqb v.number 0) o (refused s out v.number v.place)
       ≡ cond (not a) (refused s out 7 0) (cond (not b) (refused s out 8 0) o)
   judged-one true true o v k e d = rw (d, e)
@@ -51,35 +51,35 @@ module _ (s : State) (out : List ℕ) where
   fresh-one false o p = refl
 
 module _ (s : State) (x entry out : List ℕ) where
-  heard-one : length x ≡ frameSize → heard sha256 entry out s (x ∷ []) ≡ oneBlame s x entry out
-  unfolding heard judgedEach fault anyFresh hearingAll addBlames hearing oneBlame
+  heard-one : length x ≡ frame_size → heard sha256 entry out s (x ∷ []) ≡ one_blame s x entry out
+  unfolding heard judged_each fault any_fresh hearing_all add_blames hearing one_blame
   heard-one l =
       let a : Bool = checked sha256 x in
-      let b : Bool = blameForm (setupOf s.replica) x in
+      let b : Bool = blame_form (setup_of s.replica) x in
       let k : ℕ = cond (not a) 7 (cond (not b) 8 0) in
-      judged-one s out a b _ (cond (eqb k 0) noRefusal (verdict k 0)) k refl refl
-      ∙ rw (one_set x, fresh-one s out (bit (signer x) (mask s.masks (round x))), eq-eqb (length x) frameSize l)
+      judged-one s out a b _ (cond (eqb k 0) no_refusal (verdict k 0)) k refl refl
+      ∙ rw (one_set x, fresh-one s out (bit (signer x) (mask s.masks (round x))), eq-eqb (length x) frame_size l)
 
-  pub blame-one : blameCall s x entry out ≡ guarded s entry out (oneBlame s x entry out)
+  pub blame-one : blame_call s x entry out ≡ guarded s entry out (one_blame s x entry out)
   unfolding handing
-  blame-one = ap (guarded s entry out) (go (eqb (length x) frameSize) refl)
+  blame-one = ap (guarded s entry out) (go (eqb (length x) frame_size) refl)
     where
-      go : (z : Bool) → eqb (length x) frameSize ≡ z
-          → cond (wholeFrames 1 x) (heard sha256 entry out s (framesOf x)) (refused s out 6 0) ≡ oneBlame s x entry out
+      go : (z : Bool) → eqb (length x) frame_size ≡ z
+          → cond (whole_frames 1 x) (heard sha256 entry out s (frames_of x)) (refused s out 6 0) ≡ one_blame s x entry out
       go true e =
-          let l : length x ≡ frameSize = eqb-true (length x) frameSize e in
+          let l : length x ≡ frame_size = eqb-true (length x) frame_size e in
           cond-true _ _ (whole-one 1 x (omega arith) l) ∙ ap (heard sha256 entry out s) (frames-one x l) ∙ heard-one l
-      go false e = cut (wholeFrames 1 x) refl
+      go false e = cut (whole_frames 1 x) refl
         where
-          cut : (w : Bool) → wholeFrames 1 x ≡ w
-              → cond w (heard sha256 entry out s (framesOf x)) (refused s out 6 0) ≡ oneBlame s x entry out
+          cut : (w : Bool) → whole_frames 1 x ≡ w
+              → cond w (heard sha256 entry out s (frames_of x)) (refused s out 6 0) ≡ one_blame s x entry out
           cut true h =
               let w : WholeFrames 1 x = whole-true 1 x h in
-              let l : length x ≡ frameSize = omega (arith, w.even, w.some, w.few) in
-              absurd (eqb-false (length x) frameSize e l)
-          cut false h = unfold oneBlame in sym (cond-true _ _ (ap not e))
+              let l : length x ≡ frame_size = omega (arith, w.even, w.some, w.few) in
+              absurd (eqb-false (length x) frame_size e l)
+          cut false h = unfold one_blame in sym (cond-true _ _ (ap not e))
 
-  pub blames-one : length x ≡ frameSize → blamesCall s x entry out ≡ blameCall s x entry out
+  pub blames-one : length x ≡ frame_size → blames_call s x entry out ≡ blame_call s x entry out
   unfolding handing
   blames-one l =
       ap (guarded s entry out)

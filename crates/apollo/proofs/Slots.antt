@@ -8,9 +8,9 @@ use lib.ListN.{length, take, drop, length-append, length-take, length-drop, leng
 use lib.Seq.{drop-append-le, take-append-le, drop-append-add, drop_at, take_at, drop-drop, take-add}
 use lib.Dec.{leb}
 use borrow.Author.Tests.{leb-true, leb-false}
-use Rattle.apollo.specs.Size.{frameSize}
+use Rattle.apollo.specs.Size.{frame_size}
 use Rattle.apollo.specs.Bytes.{part, zeros}
-use Rattle.apollo.specs.Log.{genesis, slot, store, clearAbove}
+use Rattle.apollo.specs.Log.{genesis, slot, store, clear_above}
 
 pub length-zeros : (n : ℕ) → length (zeros n) ≡ n
 unfolding zeros
@@ -42,78 +42,78 @@ part-zeros m k n h =
     ap (λ ys. take n (drop k ys)) (sym s) ∙ ap (take n) (drop_at (zeros k) _ k (length-zeros k))
     ∙ take_at (zeros n) _ n (length-zeros n)
 
-pub slot-length : (log : List ℕ) (q : ℕ) → frameSize * q ≤ length log → length (slot log q) ≡ frameSize
+pub slot-length : (log : List ℕ) (q : ℕ) → frame_size * q ≤ length log → length (slot log q) ≡ frame_size
 unfolding slot genesis
-slot-length log zero fit = length-zeros frameSize
+slot-length log zero fit = length-zeros frame_size
 slot-length log (suc k) fit = simp (length-take, length-drop) (omega arith)
 
-pub length-store : (log : List ℕ) (r : ℕ) (x : List ℕ) → 1 ≤ r → frameSize * r ≤ length log → length x ≡ frameSize
+pub length-store : (log : List ℕ) (r : ℕ) (x : List ℕ) → 1 ≤ r → frame_size * r ≤ length log → length x ≡ frame_size
     → length (store log r x) ≡ length log
 unfolding store
 length-store log r x one fit e = simp (length-append, length-take, length-drop, e) (omega arith)
 
-pub store_same : (log : List ℕ) (r : ℕ) (x : List ℕ) → 1 ≤ r → frameSize * r ≤ length log → length x ≡ frameSize → slot (store log r x) r ≡ x
+pub store_same : (log : List ℕ) (r : ℕ) (x : List ℕ) → 1 ≤ r → frame_size * r ≤ length log → length x ≡ frame_size → slot (store log r x) r ≡ x
 unfolding store slot
 store_same log zero x one fit e = absurd (omega arith)
 store_same log (suc k) x one fit e =
-    ap (take frameSize) (drop_at (take (frameSize * (suc k - 1)) log) _ (frameSize * k) (simp length-take (omega arith))) ∙ take_at x _ frameSize e
+    ap (take frame_size) (drop_at (take (frame_size * (suc k - 1)) log) _ (frame_size * k) (simp length-take (omega arith))) ∙ take_at x _ frame_size e
 
-store_low : (log : List ℕ) (r : ℕ) (x : List ℕ) (k : ℕ) → k + frameSize ≤ frameSize * (r - 1) → frameSize * r ≤ length log
-    → part (store log r x) k frameSize ≡ part log k frameSize
+store_low : (log : List ℕ) (r : ℕ) (x : List ℕ) (k : ℕ) → k + frame_size ≤ frame_size * (r - 1) → frame_size * r ≤ length log
+    → part (store log r x) k frame_size ≡ part log k frame_size
 unfolding store
 store_low log r x k lt fit =
-    part_left (take (frameSize * (r - 1)) log) _ k frameSize (simp length-take (omega arith))
-    ∙ part-take log (frameSize * (r - 1)) k frameSize lt (omega arith)
+    part_left (take (frame_size * (r - 1)) log) _ k frame_size (simp length-take (omega arith))
+    ∙ part-take log (frame_size * (r - 1)) k frame_size lt (omega arith)
 
-store-high : (log : List ℕ) (r : ℕ) (x : List ℕ) (k : ℕ) → 1 ≤ r → frameSize * r ≤ k → frameSize * r ≤ length log → length x ≡ frameSize
-    → part (store log r x) k frameSize ≡ part log k frameSize
+store-high : (log : List ℕ) (r : ℕ) (x : List ℕ) (k : ℕ) → 1 ≤ r → frame_size * r ≤ k → frame_size * r ≤ length log → length x ≡ frame_size
+    → part (store log r x) k frame_size ≡ part log k frame_size
 unfolding store
 store-high log r x k one lt fit e =
-    let end : frameSize * r + (k - frameSize * r) ≡ k = omega arith in
-    part_right (take (frameSize * (r - 1)) log) _ k frameSize (k - frameSize * (r - 1)) (simp length-take (omega arith))
-    ∙ part_right x (drop (frameSize * r) log) (k - frameSize * (r - 1)) frameSize (k - frameSize * r) (rw e (omega arith))
-    ∙ part-drop log (frameSize * r) (k - frameSize * r) frameSize ∙ ap (λ j. part log j frameSize) end
+    let end : frame_size * r + (k - frame_size * r) ≡ k = omega arith in
+    part_right (take (frame_size * (r - 1)) log) _ k frame_size (k - frame_size * (r - 1)) (simp length-take (omega arith))
+    ∙ part_right x (drop (frame_size * r) log) (k - frame_size * (r - 1)) frame_size (k - frame_size * r) (rw e (omega arith))
+    ∙ part-drop log (frame_size * r) (k - frame_size * r) frame_size ∙ ap (λ j. part log j frame_size) end
 
-pub store_other : (log : List ℕ) (r : ℕ) (x : List ℕ) (q : ℕ) → 1 ≤ r → frameSize * r ≤ length log → length x ≡ frameSize → ¬ (q ≡ r)
+pub store_other : (log : List ℕ) (r : ℕ) (x : List ℕ) (q : ℕ) → 1 ≤ r → frame_size * r ≤ length log → length x ≡ frame_size → ¬ (q ≡ r)
     → slot (store log r x) q ≡ slot log q
 unfolding slot
 store_other log r x zero one fit e ne = refl
 store_other log r x (suc k) one fit e ne = go (leb (suc k) r) refl
   where
-    go : (b : Bool) → leb (suc k) r ≡ b → part (store log r x) (frameSize * k) frameSize ≡ part log (frameSize * k) frameSize
-    go true t = let l : suc k ≤ r = leb-true (suc k) r t in store_low log r x (frameSize * k) (omega arith) fit
-    go false t = let l : r < suc k = leb-false (suc k) r t in store-high log r x (frameSize * k) one (omega arith) fit e
+    go : (b : Bool) → leb (suc k) r ≡ b → part (store log r x) (frame_size * k) frame_size ≡ part log (frame_size * k) frame_size
+    go true t = let l : suc k ≤ r = leb-true (suc k) r t in store_low log r x (frame_size * k) (omega arith) fit
+    go false t = let l : r < suc k = leb-false (suc k) r t in store-high log r x (frame_size * k) one (omega arith) fit e
 
-pub length-clear : (log : List ℕ) (r : ℕ) → frameSize * r ≤ length log → length (clearAbove log r) ≡ length log
-unfolding clearAbove
+pub length-clear : (log : List ℕ) (r : ℕ) → frame_size * r ≤ length log → length (clear_above log r) ≡ length log
+unfolding clear_above
 length-clear log r fit = simp (length-append, length-take, length-zeros) (omega arith)
 
-pub clear-low : (log : List ℕ) (r q : ℕ) → frameSize * r ≤ length log → q ≤ r → slot (clearAbove log r) q ≡ slot log q
-unfolding slot clearAbove
+pub clear-low : (log : List ℕ) (r q : ℕ) → frame_size * r ≤ length log → q ≤ r → slot (clear_above log r) q ≡ slot log q
+unfolding slot clear_above
 clear-low log r zero fit l = refl
 clear-low log r (suc k) fit l =
-    part_left (take (frameSize * r) log) _ (frameSize * k) frameSize (simp length-take (omega arith))
-    ∙ part-take log (frameSize * r) (frameSize * k) frameSize (omega arith) fit
+    part_left (take (frame_size * r) log) _ (frame_size * k) frame_size (simp length-take (omega arith))
+    ∙ part-take log (frame_size * r) (frame_size * k) frame_size (omega arith) fit
 
-pub clear-high : (log : List ℕ) (r q : ℕ) → r < q → frameSize * q ≤ length log → slot (clearAbove log r) q ≡ genesis
-unfolding slot clearAbove genesis
+pub clear-high : (log : List ℕ) (r q : ℕ) → r < q → frame_size * q ≤ length log → slot (clear_above log r) q ≡ genesis
+unfolding slot clear_above genesis
 clear-high log r zero l fit = absurd (omega arith)
 clear-high log r (suc k) l fit =
-    part_right (take (frameSize * r) log) _ (frameSize * k) frameSize (frameSize * k - frameSize * r) (simp length-take (omega arith))
-    ∙ part-zeros (length log - frameSize * r) (frameSize * k - frameSize * r) frameSize (omega arith)
+    part_right (take (frame_size * r) log) _ (frame_size * k) frame_size (frame_size * k - frame_size * r) (simp length-take (omega arith))
+    ∙ part-zeros (length log - frame_size * r) (frame_size * k - frame_size * r) frame_size (omega arith)
 
 -- equal slots make equal beginnings, and the other way round
-pub take-slots : (a b : List ℕ) (c : ℕ) → ((q : ℕ) → 1 ≤ q → q ≤ c → slot a q ≡ slot b q) → take (frameSize * c) a ≡ take (frameSize * c) b
+pub take-slots : (a b : List ℕ) (c : ℕ) → ((q : ℕ) → 1 ≤ q → q ≤ c → slot a q ≡ slot b q) → take (frame_size * c) a ≡ take (frame_size * c) b
 unfolding slot
 take-slots a b zero h = refl
 take-slots a b (suc c) h =
-    let e : frameSize * suc c ≡ frameSize * c + frameSize = omega arith in
-    let ih : take (frameSize * c) a ≡ take (frameSize * c) b = take-slots a b c (λ q l m. h q l (omega arith)) in
-    let s : take frameSize (drop (frameSize * c) a) ≡ take frameSize (drop (frameSize * c) b) = h (suc c) (omega arith) (omega arith) in
-    rw e (take-add (frameSize * c) frameSize a ∙ ap (λ ys. ys ++ take frameSize (drop (frameSize * c) a)) ih ∙ ap (λ ys. take (frameSize * c) b ++ ys) s
-    ∙ sym (take-add (frameSize * c) frameSize b))
+    let e : frame_size * suc c ≡ frame_size * c + frame_size = omega arith in
+    let ih : take (frame_size * c) a ≡ take (frame_size * c) b = take-slots a b c (λ q l m. h q l (omega arith)) in
+    let s : take frame_size (drop (frame_size * c) a) ≡ take frame_size (drop (frame_size * c) b) = h (suc c) (omega arith) (omega arith) in
+    rw e (take-add (frame_size * c) frame_size a ∙ ap (λ ys. ys ++ take frame_size (drop (frame_size * c) a)) ih ∙ ap (λ ys. take (frame_size * c) b ++ ys) s
+    ∙ sym (take-add (frame_size * c) frame_size b))
 
-pub slot-take : (log : List ℕ) (c q : ℕ) → q ≤ c → frameSize * c ≤ length log → slot (take (frameSize * c) log) q ≡ slot log q
+pub slot-take : (log : List ℕ) (c q : ℕ) → q ≤ c → frame_size * c ≤ length log → slot (take (frame_size * c) log) q ≡ slot log q
 unfolding slot
 slot-take log c zero l fit = refl
-slot-take log c (suc k) l fit = part-take log (frameSize * c) (frameSize * k) frameSize (omega arith) fit
+slot-take log c (suc k) l fit = part-take log (frame_size * c) (frame_size * k) frame_size (omega arith) fit

@@ -7,13 +7,13 @@ use lib.ListN.{length}
 use native.Mathlib.Omega.{arith}
 use lib.Dec.{leb, ltb}
 use borrow.Author.Tests.{ltb-true, leb-true, eqb-true, lt-ltb, le-leb, eq-eqb, not-true, not-false}
-use Rattle.apollo.specs.Size.{frameSize}
+use Rattle.apollo.specs.Size.{frame_size}
 use Rattle.apollo.specs.declared.Replica.{Replica}
 use Rattle.apollo.specs.declared.Setup.{Setup}
 use Rattle.apollo.specs.Bytes.{within}
-use Rattle.apollo.specs.Setup.{setup, setupOf, replicas, validRotation, validLimits, validSetup, setupNumber}
-use Rattle.apollo.specs.Rotation.{isRotation}
-use Rattle.apollo.specs.Replica.{leads, validOwn, validRounds, validMarks, validRecord, validLog, validReplica}
+use Rattle.apollo.specs.Setup.{setup, setup_of, replicas, valid_rotation, valid_limits, valid_setup, setup_number}
+use Rattle.apollo.specs.Rotation.{is_rotation}
+use Rattle.apollo.specs.Replica.{leads, valid_own, valid_rounds, valid_marks, valid_record, valid_log, valid_replica}
 use Rattle.apollo.proofs.Tests.{and-true, both, by_cond, within-true, within_of}
 
 -- f and T are in range
@@ -32,12 +32,12 @@ pub record ValidOpening (r : Replica) (log : List ℕ) : Type 0 where
   pub timeout-most : r.timeout.0 ≤ 60000
   pub last-least : 1 ≤ r.last_round.0
   pub last-most : r.last_round.0 ≤ 4096
-  pub size : length log ≡ frameSize * r.last_round.0
+  pub size : length log ≡ frame_size * r.last_round.0
 
 -- the other fields are
 pub record Valid (r : Replica) (log : List ℕ) : Type 0 where
   pub setup : ValidOpening r log
-  pub rotation : validRotation (setupOf r) ≡ true
+  pub rotation : valid_rotation (setup_of r) ≡ true
   pub round-least : 1 ≤ r.round.0
   pub round-most : r.round.0 ≤ r.last_round.0 + 1
   pub timer-most : r.timer.0 ≤ r.timeout.0
@@ -46,41 +46,41 @@ pub record Valid (r : Replica) (log : List ℕ) : Type 0 where
   pub committed-most : r.committed_round.0 ≤ r.tip_round.0
   pub committed-height-most : r.committed_height.0 ≤ r.tip_height.0
   pub committed-height : r.committed_height.0 ≤ r.committed_round.0
-  pub marks : r.equivocators < 2 ^ replicas (setupOf r)
+  pub marks : r.equivocators < 2 ^ replicas (setup_of r)
   pub waits : leads r ≡ false
 
-pub limits : (s : Setup) → validLimits s ≡ true → Limits s
-unfolding validLimits
+pub limits : (s : Setup) → valid_limits s ≡ true → Limits s
+unfolding valid_limits
 limits s e =
     let a = and-true (within 1 s.f 7) (within 1 s.last_round.0 4096) e in
     let f = within-true 1 s.f 7 a.0 in
     let l = within-true 1 s.last_round.0 4096 a.1 in
     record { f-least = f.0; f-most = f.1; last-least = l.0; last-most = l.1 }
 
-pub valid-opening : (r : Replica) (log : List ℕ) → validLimits (setupOf r) ≡ true → validOwn r ≡ true → validLog r log ≡ true
+pub valid-opening : (r : Replica) (log : List ℕ) → valid_limits (setup_of r) ≡ true → valid_own r ≡ true → valid_log r log ≡ true
     → ValidOpening r log
-unfolding validOwn
+unfolding valid_own
 valid-opening r log e o s =
-    let c = and-true (ltb r.id (replicas (setupOf r))) (within 1 r.timeout.0 60000) o in
-    let l : Limits (setupOf r) = limits (setupOf r) e in
+    let c = and-true (ltb r.id (replicas (setup_of r))) (within 1 r.timeout.0 60000) o in
+    let l : Limits (setup_of r) = limits (setup_of r) e in
     let t : (1 ≤ r.timeout.0) × (r.timeout.0 ≤ 60000) = within-true 1 r.timeout.0 60000 c.1 in
     record {
-      id_below = ltb-true r.id (replicas (setupOf r)) c.0;
+      id_below = ltb-true r.id (replicas (setup_of r)) c.0;
       f-least = l.f-least;
       f-most = l.f-most;
       timeout-least = t.0;
       timeout-most = t.1;
       last-least = l.last-least;
       last-most = l.last-most;
-      size = eqb-true (length log) (frameSize * r.last_round.0) s;
+      size = eqb-true (length log) (frame_size * r.last_round.0) s;
     }
 
-opening_of : (r : Replica) (log : List ℕ) → ValidOpening r log → (validLimits (setupOf r) ≡ true) × (validOwn r ≡ true)
-unfolding validLimits validOwn
+opening_of : (r : Replica) (log : List ℕ) → ValidOpening r log → (valid_limits (setup_of r) ≡ true) × (valid_own r ≡ true)
+unfolding valid_limits valid_own
 opening_of r log s = (
   both (within 1 r.f 7) (within 1 r.last_round.0 4096) (within_of 1 r.f 7 s.f-least s.f-most)
       (within_of 1 r.last_round.0 4096 s.last-least s.last-most),
-  both (ltb r.id (replicas (setupOf r))) (within 1 r.timeout.0 60000) (lt-ltb r.id (replicas (setupOf r)) s.id_below)
+  both (ltb r.id (replicas (setup_of r))) (within 1 r.timeout.0 60000) (lt-ltb r.id (replicas (setup_of r)) s.id_below)
       (within_of 1 r.timeout.0 60000 s.timeout-least s.timeout-most),
 )
 
@@ -89,52 +89,52 @@ module _ (f last : ℕ) (rotation : List ℕ) where
   abbrev lent : Setup
   lent = setup f last rotation
 
-  pub setup-number : (P : ℕ → Type 0) → P 0 → P 1 → P 17 → P (setupNumber f last rotation)
-  unfolding setupNumber
+  pub setup-number : (P : ℕ → Type 0) → P 0 → P 1 → P 17 → P (setup_number f last rotation)
+  unfolding setup_number
   setup-number P p0 p1 p17 =
-      by_cond P (not (validLimits lent)) (λ _. p1) (λ _. by_cond P (not (isRotation (replicas lent) rotation)) (λ _. p17) (λ _. p0))
+      by_cond P (not (valid_limits lent)) (λ _. p1) (λ _. by_cond P (not (is_rotation (replicas lent) rotation)) (λ _. p17) (λ _. p0))
 
-  pub setup-good : setupNumber f last rotation ≡ 0 → (validLimits lent ≡ true) × (isRotation (replicas lent) rotation ≡ true)
-  unfolding setupNumber
+  pub setup-good : setup_number f last rotation ≡ 0 → (valid_limits lent ≡ true) × (is_rotation (replicas lent) rotation ≡ true)
+  unfolding setup_number
   setup-good e =
-      by_cond (λ n. n ≡ 0 → Good) (not (validLimits lent)) (λ l v. absurd (omega (arith, v)))
-      (λ l. by_cond (λ n. n ≡ 0 → Good) (not (isRotation (replicas lent) rotation)) (λ t v. absurd (omega (arith, v)))
+      by_cond (λ n. n ≡ 0 → Good) (not (valid_limits lent)) (λ l v. absurd (omega (arith, v)))
+      (λ l. by_cond (λ n. n ≡ 0 → Good) (not (is_rotation (replicas lent) rotation)) (λ t v. absurd (omega (arith, v)))
       (λ t v. (not-false _ l, not-false _ t))) e
     where
       Good : Type 0
-      Good = (validLimits lent ≡ true) × (isRotation (replicas lent) rotation ≡ true)
+      Good = (valid_limits lent ≡ true) × (is_rotation (replicas lent) rotation ≡ true)
 
-  pub setup-none : validLimits lent ≡ true → isRotation (replicas lent) rotation ≡ true → setupNumber f last rotation ≡ 0
-  unfolding setupNumber
+  pub setup-none : valid_limits lent ≡ true → is_rotation (replicas lent) rotation ≡ true → setup_number f last rotation ≡ 0
+  unfolding setup_number
   setup-none l t = rw (l, t)
 
 -- the parts of a record's test
 record Parts (r : Replica) : Type 0 where
-  limited : validLimits (setupOf r) ≡ true
-  rotation : validRotation (setupOf r) ≡ true
-  own : validOwn r ≡ true
-  rounds : validRounds r ≡ true
-  marks : validMarks r ≡ true
+  limited : valid_limits (setup_of r) ≡ true
+  rotation : valid_rotation (setup_of r) ≡ true
+  own : valid_own r ≡ true
+  rounds : valid_rounds r ≡ true
+  marks : valid_marks r ≡ true
   waits : leads r ≡ false
 
-parts : (r : Replica) → validRecord r ≡ true → Parts r
-unfolding validRecord validSetup
+parts : (r : Replica) → valid_record r ≡ true → Parts r
+unfolding valid_record valid_setup
 parts r e =
     let a = and-true _ (not (leads r)) e in
-    let m = and-true _ (validMarks r) a.0 in
-    let v = and-true _ (validRounds r) m.0 in
-    let o = and-true _ (validOwn r) v.0 in
-    let n = and-true (validLimits (setupOf r)) (validRotation (setupOf r)) o.0 in
+    let m = and-true _ (valid_marks r) a.0 in
+    let v = and-true _ (valid_rounds r) m.0 in
+    let o = and-true _ (valid_own r) v.0 in
+    let n = and-true (valid_limits (setup_of r)) (valid_rotation (setup_of r)) o.0 in
     record { limited = n.0; rotation = n.1; own = o.1; rounds = v.1; marks = m.1; waits = not-true (leads r) a.1 }
 
 -- a record by itself: few cards, whose rotation is valid
-pub record-turns : (r : Replica) → validRecord r ≡ true → (r.f ≤ 7) × (validRotation (setupOf r) ≡ true)
-record-turns r e = let p : Parts r = parts r e in ((limits (setupOf r) p.limited).f-most, p.rotation)
+pub record-turns : (r : Replica) → valid_record r ≡ true → (r.f ≤ 7) × (valid_rotation (setup_of r) ≡ true)
+record-turns r e = let p : Parts r = parts r e in ((limits (setup_of r) p.limited).f-most, p.rotation)
 
-pub valid : (r : Replica) (log : List ℕ) → validReplica r log ≡ true → Valid r log
-unfolding validReplica validRounds
+pub valid : (r : Replica) (log : List ℕ) → valid_replica r log ≡ true → Valid r log
+unfolding valid_replica valid_rounds
 valid r log e =
-    let z = and-true (validRecord r) (validLog r log) e in
+    let z = and-true (valid_record r) (valid_log r log) e in
     let p : Parts r = parts r z.0 in
     let b = and-true _ (leb r.committed_height.0 r.committed_round.0) p.rounds in
     let c = and-true _ (leb r.committed_height.0 r.tip_height.0) b.0 in
@@ -155,12 +155,12 @@ valid r log e =
       committed-most = leb-true r.committed_round.0 r.tip_round.0 d.1;
       committed-height-most = leb-true r.committed_height.0 r.tip_height.0 c.1;
       committed-height = leb-true r.committed_height.0 r.committed_round.0 b.1;
-      marks = ltb-true r.equivocators (2 ^ replicas (setupOf r)) p.marks;
+      marks = ltb-true r.equivocators (2 ^ replicas (setup_of r)) p.marks;
       waits = p.waits;
     }
 
-rounds-of : (r : Replica) (log : List ℕ) → Valid r log → validRounds r ≡ true
-unfolding validRounds
+rounds-of : (r : Replica) (log : List ℕ) → Valid r log → valid_rounds r ≡ true
+unfolding valid_rounds
 rounds-of r log s =
     both _ (leb r.committed_height.0 r.committed_round.0)
     (both _ (leb r.committed_height.0 r.tip_height.0)
@@ -176,16 +176,16 @@ rounds-of r log s =
     (le-leb r.committed_height.0 r.tip_height.0 s.committed-height-most))
     (le-leb r.committed_height.0 r.committed_round.0 s.committed-height)
 
-pub valid-of : (r : Replica) (log : List ℕ) → Valid r log → validReplica r log ≡ true
-unfolding validReplica validRecord validSetup
+pub valid-of : (r : Replica) (log : List ℕ) → Valid r log → valid_replica r log ≡ true
+unfolding valid_replica valid_record valid_setup
 valid-of r log s =
     let o = opening_of r log s.setup in
-    both (validRecord r) (validLog r log)
+    both (valid_record r) (valid_log r log)
     (both _ (not (leads r))
-    (both _ (ltb r.equivocators (2 ^ replicas (setupOf r)))
-    (both _ (validRounds r)
-    (both (validLimits (setupOf r) && validRotation (setupOf r)) (validOwn r)
-    (both (validLimits (setupOf r)) (validRotation (setupOf r)) o.0 s.rotation) o.1) (rounds-of r log s))
-    (lt-ltb r.equivocators (2 ^ replicas (setupOf r)) s.marks))
+    (both _ (ltb r.equivocators (2 ^ replicas (setup_of r)))
+    (both _ (valid_rounds r)
+    (both (valid_limits (setup_of r) && valid_rotation (setup_of r)) (valid_own r)
+    (both (valid_limits (setup_of r)) (valid_rotation (setup_of r)) o.0 s.rotation) o.1) (rounds-of r log s))
+    (lt-ltb r.equivocators (2 ^ replicas (setup_of r)) s.marks))
     (ap not s.waits))
-    (eq-eqb (length log) (frameSize * r.last_round.0) s.setup.size)
+    (eq-eqb (length log) (frame_size * r.last_round.0) s.setup.size)

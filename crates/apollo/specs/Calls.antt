@@ -5,32 +5,32 @@ use Rattle.apollo.specs.declared.Replica.{Replica}
 use Rattle.apollo.specs.declared.Marked.{Marked}
 use Rattle.apollo.specs.Enter.{State}
 use Rattle.apollo.specs.Outcome.{Outcome}
-use Rattle.apollo.specs.Open.{openWith}
-use Rattle.apollo.specs.Branch.{branchWith}
-use Rattle.apollo.specs.Blame.{blameWith, blamesWith}
-use Rattle.apollo.specs.Tick.{tickWith}
-use Rattle.apollo.specs.Equivocation.{equivocationWith}
+use Rattle.apollo.specs.Open.{open_with}
+use Rattle.apollo.specs.Branch.{branch_with}
+use Rattle.apollo.specs.Blame.{blame_with, blames_with}
+use Rattle.apollo.specs.Tick.{tick_with}
+use Rattle.apollo.specs.Equivocation.{equivocation_with}
 pub use Rattle.apollo.specs.Enter.{state}
 pub use Rattle.apollo.specs.Outcome.{outcome}
-pub use Rattle.apollo.specs.Read.{readCall}
-pub use Rattle.apollo.specs.Fetch.{fetchCall, fetched}
+pub use Rattle.apollo.specs.Read.{read_call}
+pub use Rattle.apollo.specs.Fetch.{fetch_call, fetched}
 
-abbrev pub openCall : (id f timeout lastRound : ℕ) (rotation log masks entry out : List ℕ) → Outcome
-openCall = openWith sha256
+abbrev pub open_call : (id f timeout last_round : ℕ) (rotation log masks entry out : List ℕ) → Outcome
+open_call = open_with sha256
 
-abbrev pub branchCall : State → (bytes entry out : List ℕ) → Outcome
-branchCall = branchWith sha256
+abbrev pub branch_call : State → (bytes entry out : List ℕ) → Outcome
+branch_call = branch_with sha256
 
-abbrev pub blameCall : State → (bytes entry out : List ℕ) → Outcome
-blameCall = blameWith sha256
+abbrev pub blame_call : State → (bytes entry out : List ℕ) → Outcome
+blame_call = blame_with sha256
 
 -- document 02, F-1
-abbrev pub blamesCall : State → (bytes entry out : List ℕ) → Outcome
-blamesCall = blamesWith sha256
+abbrev pub blames_call : State → (bytes entry out : List ℕ) → Outcome
+blames_call = blames_with sha256
 
-abbrev pub tickCall : State → (entry out : List ℕ) → Outcome
-tickCall = tickWith sha256
+abbrev pub tick_call : State → (entry out : List ℕ) → Outcome
+tick_call = tick_with sha256
 
 -- document 02, F-6
-abbrev pub equivocationCall : Replica → (bytes : List ℕ) → Marked
-equivocationCall = equivocationWith sha256
+abbrev pub equivocation_call : Replica → (bytes : List ℕ) → Marked
+equivocation_call = equivocation_with sha256

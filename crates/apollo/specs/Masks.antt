@@ -9,9 +9,9 @@ bit zero m = eqb (m % 2) 1
 bit (suc i) m = bit i (m / 2)
 
 -- the mask with bit i set
-unfoldable pub setBit : (i m : ℕ) → ℕ
-setBit zero m = m / 2 * 2 + 1
-setBit (suc i) m = setBit i (m / 2) * 2 + m % 2
+unfoldable pub set_bit : (i m : ℕ) → ℕ
+set_bit zero m = m / 2 * 2 + 1
+set_bit (suc i) m = set_bit i (m / 2) * 2 + m % 2
 
 -- how many of the numbers below n pass a test
 unfoldable pub count : (n : ℕ) (p : ℕ → Bool) → ℕ
@@ -23,8 +23,8 @@ abbrev pub mask : (masks : List ℕ) (r : ℕ) → ℕ
 mask masks r = get_or masks (r - 1) 0
 
 -- the masks with replica i's blame for round r
-abbrev pub addBlame : (masks : List ℕ) (r i : ℕ) → List ℕ
-addBlame masks r i = set masks (r - 1) (setBit i (mask masks r))
+abbrev pub add_blame : (masks : List ℕ) (r i : ℕ) → List ℕ
+add_blame masks r i = set masks (r - 1) (set_bit i (mask masks r))
 
 -- round r is certified (shown)
 unfoldable pub certified : Setup → (masks : List ℕ) (r : ℕ) → Bool

@@ -1,13 +1,13 @@
 -- Document 01, "A card" and "Refusals by number": what open, branch, blame, blames and tick answer and leave behind.
 use Rattle.std.specs.Prelude.{ℕ, ◌+◌, ◌*◌, ◌&&◌, not, cond, length, drop, eqb, leb, ltb}
 use mathlib.Core.List.{List, ◌++◌, flatten}
-use Rattle.apollo.specs.Size.{entryMost, frameSize, outLeast}
+use Rattle.apollo.specs.Size.{entry_most, frame_size, out_least}
 use Rattle.apollo.specs.declared.Replica.{Replica}
 use Rattle.apollo.specs.declared.Answer.{Answer}
-use Rattle.apollo.specs.Setup.{setupOf, leader}
-use Rattle.apollo.specs.Replica.{validReplica, validMasks}
+use Rattle.apollo.specs.Setup.{setup_of, leader}
+use Rattle.apollo.specs.Replica.{valid_replica, valid_masks}
 use Rattle.apollo.specs.Enter.{State, Effect}
-use Rattle.apollo.specs.Refusal.{badReplica, roundsOver, outTooShort, entryTooLong}
+use Rattle.apollo.specs.Refusal.{bad_replica, rounds_over, out_too_short, entry_too_long}
 
 -- the answer, and the lent buffers after the call
 pub record Outcome : Type 0 where
@@ -35,8 +35,8 @@ refused s out number place =
     }
 
 -- the leader of R, 255 when R = T + 1
-unfoldable pub nextLeader : Replica → ℕ
-nextLeader r = cond (leb r.round.0 r.last_round.0) (leader (setupOf r) r.round.0) 255
+unfoldable pub next_leader : Replica → ℕ
+next_leader r = cond (leb r.round.0 r.last_round.0) (leader (setup_of r) r.round.0) 255
 
 -- taken, with the frames emitted at the start of the out buffer
 unfoldable pub taken : Effect → (out : List ℕ) → Outcome
@@ -46,19 +46,19 @@ taken e out =
           record {
             number = 0;
             frames = length e.emitted;
-            leader = nextLeader e.state.replica;
+            leader = next_leader e.state.replica;
             place = 0;
             replica = e.state.replica;
           };
       log = e.state.log;
       masks = e.state.masks;
-      out = flatten e.emitted ++ drop (frameSize * length e.emitted) out;
+      out = flatten e.emitted ++ drop (frame_size * length e.emitted) out;
     }
 
 -- refusals 2 to 5 of branch, blame, blames and tick, before what the call answers otherwise
 unfoldable pub guarded : State → (entry out : List ℕ) → Outcome → Outcome
 guarded s entry out o =
-    cond (not (validReplica s.replica s.log && validMasks s.replica s.masks)) (refused s out badReplica 0)
-    (cond (eqb s.replica.round.0 (s.replica.last_round.0 + 1)) (refused s out roundsOver 0)
-    (cond (ltb (length out) outLeast) (refused s out outTooShort 0)
-    (cond (ltb entryMost (length entry)) (refused s out entryTooLong 0) o)))
+    cond (not (valid_replica s.replica s.log && valid_masks s.replica s.masks)) (refused s out bad_replica 0)
+    (cond (eqb s.replica.round.0 (s.replica.last_round.0 + 1)) (refused s out rounds_over 0)
+    (cond (ltb (length out) out_least) (refused s out out_too_short 0)
+    (cond (ltb entry_most (length entry)) (refused s out entry_too_long 0) o)))

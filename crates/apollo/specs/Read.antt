@@ -1,14 +1,14 @@
 -- Document 01, "Read".
 use Rattle.std.specs.Prelude.{ℕ, zero, suc, ◌+◌, ◌-◌, ◌*◌, List, Bool, ◌&&◌, not, cond, eqb, leb}
 use Rattle.std.specs.Borrow.{Bor}
-use Rattle.apollo.specs.Size.{entryMost, frameSize}
+use Rattle.apollo.specs.Size.{entry_most, frame_size}
 use Rattle.apollo.specs.declared.Replica.{Replica}
 use Rattle.apollo.specs.declared.Part.{Part}
 use Rattle.apollo.specs.Bytes.{part}
-use Rattle.apollo.specs.Frame.{entryLength, height}
+use Rattle.apollo.specs.Frame.{entry_length, height}
 use Rattle.apollo.specs.Log.{slot, filled}
-use Rattle.apollo.specs.Replica.{validReplica}
-use Rattle.apollo.specs.Refusal.{badReplica, absent}
+use Rattle.apollo.specs.Replica.{valid_replica}
+use Rattle.apollo.specs.Refusal.{bad_replica, absent}
 
 -- the answer, and the bytes of the log that it shows
 pub record ReadOutcome : Type 0 where
@@ -26,7 +26,7 @@ place_in x start = (x.ref_ptr.0, start + x.ref_ptr.1)
 
 -- slot x is filled, with height h and an entry length of at most 400
 unfoldable pub readable : (x : List ℕ) (h : ℕ) → Bool
-readable x h = filled x && eqb (height x) h && leb (entryLength x) entryMost
+readable x h = filled x && eqb (height x) h && leb (entry_length x) entry_most
 
 -- the lowest of the k rounds above lo with such a slot, 0 if none
 unfoldable pub lowest : (log : List ℕ) (h lo k : ℕ) → ℕ
@@ -34,8 +34,8 @@ lowest log h lo zero = 0
 lowest log h lo (suc k) = cond (readable (slot log (lo + 1)) h) (lo + 1) (lowest log h (lo + 1) k)
 
 -- read at height h: 2, 15, and taken
-unfoldable pub readCall : Replica → (log : List ℕ) (h : ℕ) → ReadOutcome
-readCall r log h =
+unfoldable pub read_call : Replica → (log : List ℕ) (h : ℕ) → ReadOutcome
+read_call r log h =
     let q : ℕ = lowest log h 0 r.committed_round.0 in
-    cond (not (validReplica r log)) (part_of log badReplica 0 0)
-    (cond (eqb q 0) (part_of log absent 0 0) (part_of log 0 (frameSize * (q - 1) + 44) (entryLength (slot log q))))
+    cond (not (valid_replica r log)) (part_of log bad_replica 0 0)
+    (cond (eqb q 0) (part_of log absent 0 0) (part_of log 0 (frame_size * (q - 1) + 44) (entry_length (slot log q))))

@@ -8,13 +8,13 @@ seats id [] = 0
 seats id (x ∷ xs) = cond (eqb x id) 1 0 + seats id xs
 
 -- each card below n has one seat: none is lacking, none is there twice
-unfoldable pub eachOnce : (n : ℕ) (rotation : List ℕ) → Bool
-eachOnce zero rotation = true
-eachOnce (suc n) rotation = eqb (seats n rotation) 1 && eachOnce n rotation
+unfoldable pub each_once : (n : ℕ) (rotation : List ℕ) → Bool
+each_once zero rotation = true
+each_once (suc n) rotation = eqb (seats n rotation) 1 && each_once n rotation
 
 -- n long, and each card below n once
-unfoldable pub isRotation : (n : ℕ) (rotation : List ℕ) → Bool
-isRotation n rotation = eqb (length rotation) n && eachOnce n rotation
+unfoldable pub is_rotation : (n : ℕ) (rotation : List ℕ) → Bool
+is_rotation n rotation = eqb (length rotation) n && each_once n rotation
 
 -- the old turn: 0, 1, 2 and so on
 unfoldable pub in_turn : (n : ℕ) → List ℕ

@@ -10,6 +10,6 @@ unfoldable pub differing : (x y : List ℕ) → Bool
 differing x y = filled x && filled y && not (same x y)
 
 -- round r is suspect: in it "the two books hold different blocks or one of the two mask lists shows the round"
-unfoldable pub suspect : Setup → (log masks otherLog otherMasks : List ℕ) (r : ℕ) → Bool
-suspect s log masks otherLog otherMasks r =
-    differing (slot log r) (slot otherLog r) || (certified s masks r || certified s otherMasks r)
+unfoldable pub suspect : Setup → (log masks other_log other_masks : List ℕ) (r : ℕ) → Bool
+suspect s log masks other_log other_masks r =
+    differing (slot log r) (slot other_log r) || (certified s masks r || certified s other_masks r)

@@ -1,6 +1,6 @@
 -- Document 01, "Tick".
 use Rattle.std.specs.Prelude.{ℕ, ◌-◌, List, [], ◌∷◌, cond, eqb}
-use Rattle.apollo.specs.Frame.{makeBlame}
+use Rattle.apollo.specs.Frame.{make_blame}
 use Rattle.apollo.specs.Enter.{State, Effect, waiting, hearing, settle}
 use Rattle.apollo.specs.Outcome.{Outcome, taken, guarded}
 
@@ -10,7 +10,7 @@ module _ (hash : List ℕ → List ℕ) where
   blaming entry s =
       let R : ℕ = s.replica.round.0 in
       let e : Effect = settle hash entry (hearing (waiting s R 0) R s.replica.id) R in
-      record { state = e.state; emitted = makeBlame hash s.replica.id R ∷ e.emitted }
+      record { state = e.state; emitted = make_blame hash s.replica.id R ∷ e.emitted }
 
   -- ticks left lowered by 1, nothing where they were 0
   unfoldable pub ticked : (entry : List ℕ) → State → Effect
@@ -20,5 +20,5 @@ module _ (hash : List ℕ → List ℕ) where
       (record { state = waiting s s.replica.round.0 (s.replica.timer.0 - 1); emitted = [] }))
 
   -- tick
-  unfoldable pub tickWith : State → (entry out : List ℕ) → Outcome
-  tickWith s entry out = guarded s entry out (taken (ticked entry s) out)
+  unfoldable pub tick_with : State → (entry out : List ℕ) → Outcome
+  tick_with s entry out = guarded s entry out (taken (ticked entry s) out)

@@ -8,12 +8,12 @@ use lib.Dec.{eqb}
 use lib.ListN.{take, drop}
 use borrow.Author.Tests.{eqb-true, eqb-false}
 use Rattle.sha256.specs.Fips.{sha256}
-use Rattle.apollo.specs.Size.{frameSize}
+use Rattle.apollo.specs.Size.{frame_size}
 use Rattle.apollo.specs.declared.Setup.{Setup}
 use Rattle.apollo.specs.declared.Verdict.{Verdict}
 use Rattle.apollo.specs.Bytes.{part}
-use Rattle.apollo.specs.Frame.{signer, blameForm}
-use Rattle.apollo.specs.Judging.{verdict, fault, judgedEach}
+use Rattle.apollo.specs.Frame.{signer, blame_form}
+use Rattle.apollo.specs.Judging.{verdict, fault, judged_each}
 use Rattle.frame.proofs.Frames.{rest, rest-next, frame-part}
 use Rattle.frame_forms.proofs.Facts.{BlameFields, blame-fields}
 use Rattle.apollo.proofs.Fault.{fault-none}
@@ -29,20 +29,20 @@ none-second true true u v e h = eqb-true v.number 0 e
 none-second true false u v e h = h
 none-second false z u v e h = absurd (omega arith)
 
-pub each-has-bit : (s : Setup) → s.f ≤ 7 → (i : ℕ) (xs : List (List ℕ)) → (judgedEach sha256 (blameForm s) i xs).number ≡ 0 → HaveBits xs
-unfolding judgedEach
+pub each-has-bit : (s : Setup) → s.f ≤ 7 → (i : ℕ) (xs : List (List ℕ)) → (judged_each sha256 (blame_form s) i xs).number ≡ 0 → HaveBits xs
+unfolding judged_each
 each-has-bit s l i [] e = tt
 each-has-bit s l i (x ∷ xs) e =
-    let k : ℕ = fault sha256 (blameForm s) x in
-    let p = none_first (eqb k 0) k i (judgedEach sha256 (blameForm s) (i + 1) xs) refl e in
-    let f : BlameFields s x = blame-fields s x (fault-none sha256 (blameForm s) x p.0).1 in
+    let k : ℕ = fault sha256 (blame_form s) x in
+    let p = none_first (eqb k 0) k i (judged_each sha256 (blame_form s) (i + 1) xs) refl e in
+    let f : BlameFields s x = blame-fields s x (fault-none sha256 (blame_form s) x p.0).1 in
     (omega (arith, f.by-replica), each-has-bit s l (i + 1) xs p.1)
 
 -- frame i, and those after it
 pub bits-rest : (b : List ℕ) (n i : ℕ) → i < n → HaveBits (rest b n i)
-    → (signer (part b (frameSize * i) frameSize) < 16) × HaveBits (rest b n (i + 1))
+    → (signer (part b (frame_size * i) frame_size) < 16) × HaveBits (rest b n (i + 1))
 bits-rest b n i h m = rw (rest-next b n i h) at m
 
 pub bits-lent : (b : List ℕ) (n i : ℕ) → i < n → HaveBits (rest b n i)
-    → signer (take (frameSize * i + frameSize - frameSize * i) (drop (frameSize * i) b)) < 16
-bits-lent b n i h m = rw (frame-part b (frameSize * i)) (bits-rest b n i h m).0
+    → signer (take (frame_size * i + frame_size - frame_size * i) (drop (frame_size * i) b)) < 16
+bits-lent b n i h m = rw (frame-part b (frame_size * i)) (bits-rest b n i h m).0

@@ -8,58 +8,58 @@ use Rattle.sha256.specs.Fips.{sha256}
 use Rattle.apollo.specs.declared.Replica.{Replica}
 use Rattle.apollo.specs.declared.Setup.{Setup}
 use Rattle.apollo.specs.declared.Verdict.{Verdict}
-use Rattle.apollo.specs.Setup.{setupOf}
-use Rattle.apollo.specs.Frame.{round, framesOf, firstFrame, wholeFrames, blameForm}
-use Rattle.apollo.specs.Judging.{verdict, noRefusal, judgedEach}
-use Rattle.apollo.specs.Blame.{oneSet, anyFresh}
-use Rattle.blame_set.specs.Set.{judgedTogether, judgedFrames, judgedSet}
+use Rattle.apollo.specs.Setup.{setup_of}
+use Rattle.apollo.specs.Frame.{round, frames_of, first_frame, whole_frames, blame_form}
+use Rattle.apollo.specs.Judging.{verdict, no_refusal, judged_each}
+use Rattle.apollo.specs.Blame.{one_set, any_fresh}
+use Rattle.blame_set.specs.Set.{judged_together, judged_frames, judged_set}
 
 module _ (r : Replica) (masks b : List ℕ) where
   -- 16, 14 and 10
-  module _ (x : List ℕ) (ex : x ≡ firstFrame b) (q : ℕ) (eq : q ≡ round x) (c : Bool) (d : c ≡ oneSet q 0 (framesOf b)) where
-    set_is : c ≡ oneSet (round (firstFrame b)) 0 (framesOf b)
+  module _ (x : List ℕ) (ex : x ≡ first_frame b) (q : ℕ) (eq : q ≡ round x) (c : Bool) (d : c ≡ one_set q 0 (frames_of b)) where
+    set_is : c ≡ one_set (round (first_frame b)) 0 (frames_of b)
     set_is = rw (eq, ex) at d
 
-    round_is : q ≡ round (firstFrame b)
+    round_is : q ≡ round (first_frame b)
     round_is = rw ex at eq
 
-    pub not-one : c ≡ false → verdict 16 0 ≡ judgedTogether r masks b
-    unfolding judgedTogether
+    pub not-one : c ≡ false → verdict 16 0 ≡ judged_together r masks b
+    unfolding judged_together
     not-one z = rw (← set_is, z)
 
     module _ (t : c ≡ true) where
-      pub is-early : r.round.0 < q → verdict 14 0 ≡ judgedTogether r masks b
-      unfolding judgedTogether
+      pub is-early : r.round.0 < q → verdict 14 0 ≡ judged_together r masks b
+      unfolding judged_together
       is-early h = rw (← set_is, t, ← round_is, lt-ltb r.round.0 q h)
 
-      module _ (h : q ≤ r.round.0) (f : Bool) (g : f ≡ anyFresh masks (framesOf b)) where
-        pub is-stale : f ≡ false → verdict 10 0 ≡ judgedTogether r masks b
-        unfolding judgedTogether
+      module _ (h : q ≤ r.round.0) (f : Bool) (g : f ≡ any_fresh masks (frames_of b)) where
+        pub is-stale : f ≡ false → verdict 10 0 ≡ judged_together r masks b
+        unfolding judged_together
         is-stale z = rw (← set_is, t, ← round_is, le-ltb r.round.0 q h, ← g, z)
 
-        pub is-taken : f ≡ true → noRefusal ≡ judgedTogether r masks b
-        unfolding judgedTogether
+        pub is-taken : f ≡ true → no_refusal ≡ judged_together r masks b
+        unfolding judged_together
         is-taken z = rw (← set_is, t, ← round_is, le-ltb r.round.0 q h, ← g, z)
 
   -- 7 and 8
-  module _ (s : Setup) (q : s ≡ setupOf r) (v : Verdict) (p : v ≡ judgedEach sha256 (blameForm s) 0 (framesOf b)) where
-    each-is : v ≡ judgedEach sha256 (blameForm (setupOf r)) 0 (framesOf b)
+  module _ (s : Setup) (q : s ≡ setup_of r) (v : Verdict) (p : v ≡ judged_each sha256 (blame_form s) 0 (frames_of b)) where
+    each-is : v ≡ judged_each sha256 (blame_form (setup_of r)) 0 (frames_of b)
     each-is = rw q at p
 
-    pub frames-faulty : (v.number ≡ 0 → ⊥) → v ≡ judgedFrames r masks b
-    unfolding judgedFrames
+    pub frames-faulty : (v.number ≡ 0 → ⊥) → v ≡ judged_frames r masks b
+    unfolding judged_frames
     frames-faulty n = rw (← each-is, ne_eqb v.number 0 n)
 
-    pub frames-sound : (u : Verdict) → v.number ≡ 0 → u ≡ judgedTogether r masks b → u ≡ judgedFrames r masks b
-    unfolding judgedFrames
+    pub frames-sound : (u : Verdict) → v.number ≡ 0 → u ≡ judged_together r masks b → u ≡ judged_frames r masks b
+    unfolding judged_frames
     frames-sound u z e = rw (← each-is, eq-eqb v.number 0 z) e
 
   -- 6
-  module _ (most : ℕ) (w : Bool) (e : w ≡ wholeFrames most b) where
-    pub set-cut : w ≡ false → verdict 6 0 ≡ judgedSet most r masks b
-    unfolding judgedSet
+  module _ (most : ℕ) (w : Bool) (e : w ≡ whole_frames most b) where
+    pub set-cut : w ≡ false → verdict 6 0 ≡ judged_set most r masks b
+    unfolding judged_set
     set-cut f = rw (← e, f)
 
-    pub set-whole : (u : Verdict) → w ≡ true → u ≡ judgedFrames r masks b → u ≡ judgedSet most r masks b
-    unfolding judgedSet
+    pub set-whole : (u : Verdict) → w ≡ true → u ≡ judged_frames r masks b → u ≡ judged_set most r masks b
+    unfolding judged_set
     set-whole u t d = rw (← e, t) d

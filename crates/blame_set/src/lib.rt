@@ -3,9 +3,9 @@
 #![tactic(auto)]
 
 ghost use Rattle.std.specs.Prelude.{◌≡◌, ◌&&◌, not, ◌*◌, ◌≤◌, ◌<◌, eqb, length};
-ghost use Rattle.apollo.specs.Size.{frameSize};
+ghost use Rattle.apollo.specs.Size.{frame_size};
 ghost use Rattle.apollo.specs.Frame as Frame;
-ghost use Rattle.apollo.specs.Frame.{framesOf};
+ghost use Rattle.apollo.specs.Frame.{frames_of};
 ghost use Rattle.apollo.specs.Masks as Masks;
 ghost use Rattle.apollo.specs.Judging as Judging;
 ghost use Rattle.apollo.specs.Blame as Blame;
@@ -35,15 +35,15 @@ fn joins(x: &[u8], r: u32, before: u16) -> bool
 // The mask with the signer of frame x.
 fn joined(x: &[u8], before: u16) -> u16
     requires { Frame.signer x.now < 16 }
-    ensures { result ≡ Masks.setBit (Frame.signer x.now) before }
+    ensures { result ≡ Masks.set_bit (Frame.signer x.now) before }
 {
     masks::with_bit(before, frame::signer(x))
 }
 
 // The frames are of round r, and no signer is there twice.
 fn is_one_set(frames: &[u8], r: u32) -> bool
-    requires { HaveBits (framesOf frames.now) }
-    ensures { result ≡ Blame.oneSet r 0 (framesOf frames.now) }
+    requires { HaveBits (frames_of frames.now) }
+    ensures { result ≡ Blame.one_set r 0 (frames_of frames.now) }
 {
     let n = frames.len() / FRAME;
     let mut before = 0u16;
@@ -70,7 +70,7 @@ fn is_heard(masks: &[u16], x: &[u8]) -> bool
 
 // A blame of the set is not there yet.
 fn is_any_fresh(masks: &[u16], frames: &[u8]) -> bool
-    ensures { result ≡ Blame.anyFresh masks.now (framesOf frames.now) }
+    ensures { result ≡ Blame.any_fresh masks.now (frames_of frames.now) }
 {
     let n = frames.len() / FRAME;
     let mut i = 0;
@@ -87,8 +87,8 @@ fn is_any_fresh(masks: &[u16], frames: &[u8]) -> bool
 
 // 16, 14 and 10 of frames that passed 7 and 8.
 fn judge_together(r: Replica, masks: &[u16], frames: &[u8]) -> Verdict
-    requires { HaveBits (framesOf frames.now) }
-    ensures { result ≡ Set.judgedTogether r masks.now frames.now }
+    requires { HaveBits (frames_of frames.now) }
+    ensures { result ≡ Set.judged_together r masks.now frames.now }
 {
     let round = frame::round(slices::part(frames, 0, FRAME));
     if !is_one_set(frames, round) {
@@ -105,8 +105,8 @@ fn judge_together(r: Replica, masks: &[u16], frames: &[u8]) -> Verdict
 
 // 7 and 8 frame by frame, and what follows them.
 fn judge_frames(r: Replica, masks: &[u16], frames: &[u8]) -> Verdict
-    requires { (r.f ≤ 7) × (length frames.now ≤ frameSize * 15) }
-    ensures { result ≡ Set.judgedFrames r masks.now frames.now }
+    requires { (r.f ≤ 7) × (length frames.now ≤ frame_size * 15) }
+    ensures { result ≡ Set.judged_frames r masks.now frames.now }
 {
     let each = judging::judge_each(Form::Blame, record::setup(r), frames);
     if each.number != 0 {
@@ -118,7 +118,7 @@ fn judge_frames(r: Replica, masks: &[u16], frames: &[u8]) -> Verdict
 // A set of 1 to `most` blames judged in place.
 pub fn judge_set(most: u32, r: Replica, masks: &[u16], frames: &[u8]) -> Verdict
     requires { (r.f ≤ 7) × (most ≤ 15) }
-    ensures { result ≡ Set.judgedSet most r masks.now frames.now }
+    ensures { result ≡ Set.judged_set most r masks.now frames.now }
 {
     if !frame::is_whole(most, frames) {
         return refusal(apollo::refusal::BAD_LENGTH);
@@ -130,7 +130,7 @@ pub fn judge_set(most: u32, r: Replica, masks: &[u16], frames: &[u8]) -> Verdict
 fn add_frame(masks: &mut [u16], x: &[u8])
     requires { Frame.signer x.now < 16 }
     ensures { masks.new
-        ≡ Masks.addBlame masks.old (Frame.round x.now) (Frame.signer x.now) }
+        ≡ Masks.add_blame masks.old (Frame.round x.now) (Frame.signer x.now) }
 {
     let r = frame::round(x);
     masks::add_blame(masks, r, frame::signer(x));
@@ -138,8 +138,8 @@ fn add_frame(masks: &mut [u16], x: &[u8])
 
 // The blames of the set are added.
 pub fn add_blames(masks: &mut [u16], frames: &[u8])
-    requires { HaveBits (framesOf frames.now) }
-    ensures { masks.new ≡ Blame.addBlames masks.old (framesOf frames.now) }
+    requires { HaveBits (frames_of frames.now) }
+    ensures { masks.new ≡ Blame.add_blames masks.old (frames_of frames.now) }
 {
     let n = frames.len() / FRAME;
     let mut i = 0;

@@ -5,23 +5,23 @@ use Prim.Native.Nat.{ℕ, zero, suc, ◌+◌, ◌-◌, ◌*◌, ◌/◌, ◌%◌
 use native.Mathlib.Omega.{arith}
 use lib.ListN.{length, take, drop}
 use lib.Seq.{drop-drop}
-use Rattle.apollo.specs.Size.{frameSize}
+use Rattle.apollo.specs.Size.{frame_size}
 use Rattle.apollo.specs.Bytes.{part}
-use Rattle.apollo.specs.Frame.{frames, lastFrame}
+use Rattle.apollo.specs.Frame.{frames, last_frame}
 use Rattle.apollo.specs.BlockRun.{last_of}
 use Rattle.apollo.proofs.Frames.{WholeFrames}
 
-last-of : (n : ℕ) (b : List ℕ) → last_of (take frameSize b) (frames n (drop frameSize b)) ≡ part b (frameSize * n) frameSize
+last-of : (n : ℕ) (b : List ℕ) → last_of (take frame_size b) (frames n (drop frame_size b)) ≡ part b (frame_size * n) frame_size
 unfolding last_of frames
 last-of zero b = refl
 last-of (suc n) b =
-    let q : frameSize + frameSize * n ≡ frameSize * suc n = omega arith in
-    last-of n (drop frameSize b) ∙ ap (take frameSize) (drop-drop (frameSize * n) frameSize b ∙ ap (λ (k : ℕ). drop k b) q)
+    let q : frame_size + frame_size * n ≡ frame_size * suc n = omega arith in
+    last-of n (drop frame_size b) ∙ ap (take frame_size) (drop-drop (frame_size * n) frame_size b ∙ ap (λ (k : ℕ). drop k b) q)
 
 pub last-is : (t : ℕ) (bytes : List ℕ) → WholeFrames t bytes
-    → lastFrame bytes ≡ last_of (take frameSize bytes) (frames (length bytes / frameSize - 1) (drop frameSize bytes))
+    → last_frame bytes ≡ last_of (take frame_size bytes) (frames (length bytes / frame_size - 1) (drop frame_size bytes))
 last-is t bytes w =
-    let e : length bytes % frameSize ≡ 0 = w.even in
-    let g : 1 ≤ length bytes / frameSize = w.some in
-    let q : length bytes - frameSize ≡ frameSize * (length bytes / frameSize - 1) = omega arith in
-    ap (λ (k : ℕ). part bytes k frameSize) q ∙ sym (last-of (length bytes / frameSize - 1) bytes)
+    let e : length bytes % frame_size ≡ 0 = w.even in
+    let g : 1 ≤ length bytes / frame_size = w.some in
+    let q : length bytes - frame_size ≡ frame_size * (length bytes / frame_size - 1) = omega arith in
+    ap (λ (k : ℕ). part bytes k frame_size) q ∙ sym (last-of (length bytes / frame_size - 1) bytes)

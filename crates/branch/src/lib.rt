@@ -3,7 +3,7 @@
 #![tactic(auto)]
 
 ghost use Rattle.std.specs.Prelude.{◌≡◌, ◌*◌, ◌≤◌, length, ltb};
-ghost use Rattle.apollo.specs.Size.{frameSize};
+ghost use Rattle.apollo.specs.Size.{frame_size};
 ghost use Rattle.apollo.specs.Frame as Frame;
 ghost use Rattle.branch.specs.Judge as Judge;
 
@@ -33,7 +33,7 @@ fn refusal(number: u8, place: u32) -> Judged
 
 // The last round of the branch is below R.
 fn is_stale(round: u32, frames: &[u8]) -> bool
-    ensures { result ≡ ltb (Frame.round (Frame.lastFrame frames.now)) round }
+    ensures { result ≡ ltb (Frame.round (Frame.last_frame frames.now)) round }
 {
     frame::round(frame::last_frame(frames)) < round
 }
@@ -49,9 +49,9 @@ fn gap_place(gap: Gap) -> u32
 }
 
 // 13 and 12 of a branch on round a.
-#[tactic(auto, using(crate::proofs::Judge::placed_at), unfolding(crate::specs::Judge::judgedOn))]
+#[tactic(auto, using(crate::proofs::Judge::placed_at), unfolding(crate::specs::Judge::judged_on))]
 fn judge_on(r: Replica, log: &[u8], masks: &[u16], frames: &[u8], a: u32) -> Judged
-    ensures { result ≡ Judge.judgedOn r log.now masks.now frames.now a }
+    ensures { result ≡ Judge.judged_on r log.now masks.now frames.now a }
 {
     let place = gap_place(branch_rounds::first_uncertified(record::setup(r), masks, a, frames));
     if place != 0 {
@@ -68,9 +68,9 @@ fn judge_on(r: Replica, log: &[u8], masks: &[u16], frames: &[u8], a: u32) -> Jud
 }
 
 // 11, 13 and 12.
-#[tactic(auto, unfolding(crate::specs::Judge::judgedAt))]
+#[tactic(auto, unfolding(crate::specs::Judge::judged_at))]
 fn judge_attached(r: Replica, log: &[u8], masks: &[u16], frames: &[u8]) -> Judged
-    ensures { result ≡ Judge.judgedFirst r log.now masks.now frames.now }
+    ensures { result ≡ Judge.judged_first r log.now masks.now frames.now }
 {
     let at = branch_links::attach(log, slices::part(frames, 0, FRAME));
     match at {
@@ -80,10 +80,10 @@ fn judge_attached(r: Replica, log: &[u8], masks: &[u16], frames: &[u8]) -> Judge
 }
 
 // 7, 8, 9 and 10 of whole frames, and what follows them.
-#[tactic(auto, unfolding(crate::specs::Judge::judgedWhole))]
+#[tactic(auto, unfolding(crate::specs::Judge::judged_whole))]
 fn judge_whole(r: Replica, log: &[u8], masks: &[u16], frames: &[u8]) -> Judged
-    requires { length frames.now ≤ frameSize * r.last_round.0 }
-    ensures { result ≡ Judge.judgedWhole r log.now masks.now frames.now }
+    requires { length frames.now ≤ frame_size * r.last_round.0 }
+    ensures { result ≡ Judge.judged_whole r log.now masks.now frames.now }
 {
     let verdict = judging::judge_run(record::setup(r), Start::AnyParent, frames);
     if verdict.number != 0 {
@@ -96,9 +96,9 @@ fn judge_whole(r: Replica, log: &[u8], masks: &[u16], frames: &[u8]) -> Judged
 }
 
 // A branch judged in place.
-#[tactic(auto, unfolding(crate::specs::Judge::judgedBranch))]
+#[tactic(auto, unfolding(crate::specs::Judge::judged_branch))]
 pub fn judge_branch(r: Replica, log: &[u8], masks: &[u16], frames: &[u8]) -> Judged
-    ensures { result ≡ Judge.judgedBranch r log.now masks.now frames.now }
+    ensures { result ≡ Judge.judged_branch r log.now masks.now frames.now }
 {
     if !frame::is_whole(r.last_round.0, frames) {
         return refusal(apollo::refusal::BAD_LENGTH, 0);

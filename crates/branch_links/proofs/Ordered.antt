@@ -8,11 +8,11 @@ use Prim.Native.Nat.{ℕ, zero, suc, ◌-◌, ◌*◌, ◌≤◌, ◌<◌}
 use native.Mathlib.Omega.{arith}
 use lib.ListN.{length, take, drop}
 use Rattle.sha256.specs.Fips.{sha256}
-use Rattle.apollo.specs.Size.{frameSize}
+use Rattle.apollo.specs.Size.{frame_size}
 use Rattle.apollo.specs.declared.Setup.{Setup}
 use Rattle.apollo.specs.Frame.{round, frames}
 use Rattle.apollo.specs.Log.{attach}
-use Rattle.apollo.specs.BlockRun.{block, blocks, judgedRun}
+use Rattle.apollo.specs.BlockRun.{block, blocks, judged_run}
 use Rattle.apollo.proofs.Frames.{frames-whole}
 use Rattle.apollo.proofs.BlockRun.{block-parts, block-length, child-parts, blocks-parts, blocks-judged}
 use Rattle.frame_forms.proofs.Facts.{BlockFields, block-fields}
@@ -33,14 +33,14 @@ rising s x (y ∷ ys) r e =
     (block-length s y q.0, (child-parts x y q.1).1, rising s y ys f.1 q.2)
 
 -- a judged branch of n frames whose first frame attaches to round a
-pub ordered : (s : Setup) (log b : List ℕ) (n a : ℕ) → 0 < n → frameSize * n ≤ length b
-    → (judgedRun sha256 s 0 none (frames n b)).number ≡ 0 → attach log (take frameSize b) (round (take frameSize b) - 1) ≡ some a
+pub ordered : (s : Setup) (log b : List ℕ) (n a : ℕ) → 0 < n → frame_size * n ≤ length b
+    → (judged_run sha256 s 0 none (frames n b)).number ≡ 0 → attach log (take frame_size b) (round (take frame_size b) - 1) ≡ some a
     → Ordered s.last_round.0 a (frames n b)
 unfolding frames Ordered
 ordered s log b zero a g h e d = absurd (omega arith)
 ordered s log b (suc n) a g h e d =
-    let x : List ℕ = take frameSize b in
-    let q = blocks-parts s none x (frames n (drop frameSize b)) (blocks-judged s 0 none (frames (suc n) b) e (frames-whole (suc n) b h)) in
+    let x : List ℕ = take frame_size b in
+    let q = blocks-parts s none x (frames n (drop frame_size b)) (blocks-judged s 0 none (frames (suc n) b) e (frames-whole (suc n) b h)) in
     let f = block-round s x q.0 in
     let l : a ≤ round x - 1 = attach-le log x (round x - 1) a d in
-    (block-length s x q.0, omega (arith, f.0), rising s x (frames n (drop frameSize b)) f.1 q.2)
+    (block-length s x q.0, omega (arith, f.0), rising s x (frames n (drop frame_size b)) f.1 q.2)

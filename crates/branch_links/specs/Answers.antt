@@ -5,6 +5,6 @@ use Rattle.branch_links.specs.declared.Attachment.{Attachment}
 use Rattle.branch_links.specs.declared.Attachment.TheVariants.{At, Nowhere}
 
 -- the round that a frame attaches to
-abbrev pub attachOf : Attachment → Option ℕ
-attachOf (At r) = some r
-attachOf Nowhere = none
+abbrev pub attach_of : Attachment → Option ℕ
+attach_of (At r) = some r
+attach_of Nowhere = none

@@ -4,7 +4,7 @@
 ghost use Rattle.std.specs.Prelude.{◌≡◌, ◌-◌, ◌<◌, ◌&&◌};
 ghost use Rattle.apollo.specs.Frame as Frame;
 ghost use Rattle.apollo.specs.Log as Log;
-ghost use Rattle.branch_links.specs.Answers.{attachOf};
+ghost use Rattle.branch_links.specs.Answers.{attach_of};
 
 use apollo::size::FRAME;
 
@@ -38,7 +38,7 @@ fn attaches_genesis(x: &[u8]) -> bool
 
 // The round that frame x attaches to: the highest such slot below its own, the genesis last.
 pub fn attach(log: &[u8], x: &[u8]) -> Attachment
-    ensures { attachOf result ≡ Log.attach log.now x.now (Frame.round x.now - 1) }
+    ensures { attach_of result ≡ Log.attach log.now x.now (Frame.round x.now - 1) }
 {
     let mut r = apollo::previous(frame::round(x));
     while 0 < r {

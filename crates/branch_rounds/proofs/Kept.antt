@@ -4,30 +4,30 @@ use mathlib.Core.Bool.{Bool, true, false}
 use mathlib.Core.List.{List}
 use Prim.Native.Nat.{ℕ, ◌+◌, ◌-◌, ◌*◌, ◌≤◌, ◌<◌}
 use lib.ListN.{take, drop}
-use Rattle.apollo.specs.Size.{frameSize}
+use Rattle.apollo.specs.Size.{frame_size}
 use Rattle.apollo.specs.Bytes.{blank}
 use Rattle.apollo.specs.Frame.{round}
-use Rattle.branch_rounds.specs.Keeps.{keepsFrame, keepsAll}
+use Rattle.branch_rounds.specs.Keeps.{keeps_frame, keeps_all}
 use Rattle.frame.proofs.Frames.{rest, rest-next, rest_end, frame-part}
 
 -- along the frames
 module _ (log b : List ℕ) (lo n i c : ℕ) (k goal : Bool) (h : i < n)
-    (d : k ≡ keepsFrame log lo (take (frameSize * i + frameSize - frameSize * i) (drop (frameSize * i) b)) c)
-    (e : keepsAll log lo (rest b n i) c ≡ goal) where
+    (d : k ≡ keeps_frame log lo (take (frame_size * i + frame_size - frame_size * i) (drop (frame_size * i) b)) c)
+    (e : keeps_all log lo (rest b n i) c ≡ goal) where
   pub keeps-stop : k ≡ false → false ≡ goal
-  unfolding keepsAll
+  unfolding keeps_all
   keeps-stop f =
-      let g : keepsFrame log lo (take frameSize (drop (frameSize * i) b)) c ≡ false = rw (frame-part b (frameSize * i)) at (sym d ∙ f) in
+      let g : keeps_frame log lo (take frame_size (drop (frame_size * i) b)) c ≡ false = rw (frame-part b (frame_size * i)) at (sym d ∙ f) in
       rw (rest-next b n i h, g) at e
 
-  pub keeps-next : (to : ℕ) → k ≡ true → to ≡ round (take (frameSize * i + frameSize - frameSize * i) (drop (frameSize * i) b))
-      → keepsAll log to (rest b n (i + 1)) c ≡ goal
-  unfolding keepsAll
+  pub keeps-next : (to : ℕ) → k ≡ true → to ≡ round (take (frame_size * i + frame_size - frame_size * i) (drop (frame_size * i) b))
+      → keeps_all log to (rest b n (i + 1)) c ≡ goal
+  unfolding keeps_all
   keeps-next to t f =
-      let g : keepsFrame log lo (take frameSize (drop (frameSize * i) b)) c ≡ true = rw (frame-part b (frameSize * i)) at (sym d ∙ t) in
-      rw (f, frame-part b (frameSize * i)) (rw (rest-next b n i h, g) at e)
+      let g : keeps_frame log lo (take frame_size (drop (frame_size * i) b)) c ≡ true = rw (frame-part b (frame_size * i)) at (sym d ∙ t) in
+      rw (f, frame-part b (frame_size * i)) (rw (rest-next b n i h, g) at e)
 
-pub keeps-end : (log b : List ℕ) (lo n i c : ℕ) (k goal : Bool) → n ≤ i → k ≡ blank log (frameSize * lo) (frameSize * c)
-    → keepsAll log lo (rest b n i) c ≡ goal → k ≡ goal
-unfolding keepsAll
+pub keeps-end : (log b : List ℕ) (lo n i c : ℕ) (k goal : Bool) → n ≤ i → k ≡ blank log (frame_size * lo) (frame_size * c)
+    → keeps_all log lo (rest b n i) c ≡ goal → k ≡ goal
+unfolding keeps_all
 keeps-end log b lo n i c k goal h d e = d ∙ (rw (rest_end b n i h) at e)

@@ -3,10 +3,10 @@
 #![tactic(auto)]
 
 ghost use Rattle.std.specs.Prelude.{◌≡◌};
-ghost use Rattle.apollo.specs.Frame.{framesOf};
+ghost use Rattle.apollo.specs.Frame.{frames_of};
 ghost use Rattle.apollo.specs.Branch as Branch;
-ghost use Rattle.branch_rounds.specs.Answers.{gapAt};
-ghost use Rattle.branch_rounds.specs.Keeps.{keepsFrame, keepsAll};
+ghost use Rattle.branch_rounds.specs.Answers.{gap_at};
+ghost use Rattle.branch_rounds.specs.Keeps.{keeps_frame, keeps_all};
 
 use apollo::Setup;
 use apollo::size::FRAME;
@@ -20,7 +20,7 @@ pub enum Gap {
 
 // The first round that the frames skip, the first of them on round a, and that is not certified.
 pub fn first_uncertified(s: Setup, masks: &[u16], a: u32, frames: &[u8]) -> Gap
-    ensures { result ≡ gapAt (Branch.firstUncertified s masks.now a (framesOf frames.now)) }
+    ensures { result ≡ gap_at (Branch.first_uncertified s masks.now a (frames_of frames.now)) }
 {
     let n = frames.len() / FRAME;
     let mut lo = a;
@@ -48,9 +48,9 @@ pub fn first_uncertified(s: Setup, masks: &[u16], a: u32, frames: &[u8]) -> Gap
 }
 
 // The slots above round lo up to that of frame x and to the committed round would keep their bytes.
-#[tactic(auto, unfolding(crate::specs::Keeps::keepsFrame))]
+#[tactic(auto, unfolding(crate::specs::Keeps::keeps_frame))]
 fn keeps_frame(log: &[u8], lo: u32, x: &[u8], committed: u32) -> bool
-    ensures { result ≡ keepsFrame log.now lo x.now committed }
+    ensures { result ≡ keeps_frame log.now lo x.now committed }
 {
     let r = frame::round(x);
     let a = FRAME * (lo as usize);
@@ -68,7 +68,7 @@ fn keeps_frame(log: &[u8], lo: u32, x: &[u8], committed: u32) -> bool
 
 // The slots up to the committed round would keep their bytes if the frames were taken on round a.
 pub fn keeps(log: &[u8], a: u32, frames: &[u8], committed: u32) -> bool
-    ensures { result ≡ keepsAll log.now a (framesOf frames.now) committed }
+    ensures { result ≡ keeps_all log.now a (frames_of frames.now) committed }
 {
     let n = frames.len() / FRAME;
     let mut lo = a;

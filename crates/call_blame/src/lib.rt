@@ -5,7 +5,7 @@
 ghost use Rattle.std.specs.Prelude.{◌≡◌, ◌≤◌};
 ghost use Rattle.sha256.specs.Fips.{sha256};
 ghost use Rattle.apollo.specs.Blame.{handing};
-ghost use Rattle.apollo.specs.Calls.{state, outcome, blameCall, blamesCall};
+ghost use Rattle.apollo.specs.Calls.{state, outcome, blame_call, blames_call};
 
 use apollo::size::FRAME;
 use apollo::{Answer, Replica};
@@ -44,7 +44,7 @@ pub fn blame(
     out: &mut [u8],
 ) -> Answer
     ensures { outcome result log.new masks.new out.new
-        ≡ blameCall (state replica log.old masks.old) frame.now entry.now
+        ≡ blame_call (state replica log.old masks.old) frame.now entry.now
         out.old }
 {
     hand_in(1, replica, log, masks, frame, entry, out)
@@ -60,7 +60,7 @@ pub fn blames(
     out: &mut [u8],
 ) -> Answer
     ensures { outcome result log.new masks.new out.new
-        ≡ blamesCall (state replica log.old masks.old) frames.now entry.now
+        ≡ blames_call (state replica log.old masks.old) frames.now entry.now
         out.old }
 {
     hand_in(15, replica, log, masks, frames, entry, out)

@@ -2,7 +2,7 @@
 #![tactic(auto)]
 
 ghost use Rattle.std.specs.Prelude.{◌≡◌};
-ghost use Rattle.apollo.specs.Calls.{state, outcome, branchCall};
+ghost use Rattle.apollo.specs.Calls.{state, outcome, branch_call};
 
 use apollo::{Answer, Replica};
 
@@ -16,7 +16,7 @@ pub fn branch(
     out: &mut [u8],
 ) -> Answer
     ensures { outcome result log.new masks.now out.new
-        ≡ branchCall (state replica log.old masks.now) frames.now entry.now
+        ≡ branch_call (state replica log.old masks.now) frames.now entry.now
         out.old }
 {
     let judged = refusals::of_branch(replica, log, masks, frames, entry.len(), out.len());

@@ -3,17 +3,17 @@ use Rattle.std.specs.Prelude.{List, [], ◌∷◌, cond, ℕ, eqb}
 use Rattle.sha256.specs.Fips.{sha256}
 use Rattle.apollo.specs.declared.Setup.{Setup}
 use Rattle.apollo.specs.declared.Verdict.{Verdict}
-use Rattle.apollo.specs.Frame.{blockForm, firstFrame}
-use Rattle.apollo.specs.Judging.{verdict, noRefusal, judgedEach}
-use Rattle.apollo.specs.Equivocation.{isPair, second, conflicting}
-use Rattle.apollo.specs.Refusal.{badLength, notEquivocation}
+use Rattle.apollo.specs.Frame.{block_form, first_frame}
+use Rattle.apollo.specs.Judging.{verdict, no_refusal, judged_each}
+use Rattle.apollo.specs.Equivocation.{is_pair, second, conflicting}
+use Rattle.apollo.specs.Refusal.{bad_length, not_equivocation}
 
 -- 7 and 8 of both, then 18
-unfoldable pub judgedTwo : Setup → (x y : List ℕ) → Verdict
-judgedTwo s x y =
-    let each : Verdict = judgedEach sha256 (blockForm s) 0 (x ∷ y ∷ []) in
-    cond (eqb each.number 0) (cond (conflicting x y) noRefusal (verdict notEquivocation 0)) each
+unfoldable pub judged_two : Setup → (x y : List ℕ) → Verdict
+judged_two s x y =
+    let each : Verdict = judged_each sha256 (block_form s) 0 (x ∷ y ∷ []) in
+    cond (eqb each.number 0) (cond (conflicting x y) no_refusal (verdict not_equivocation 0)) each
 
 -- 6, and what follows it
-unfoldable pub judgedPair : Setup → (bytes : List ℕ) → Verdict
-judgedPair s bytes = cond (isPair bytes) (judgedTwo s (firstFrame bytes) (second bytes)) (verdict badLength 0)
+unfoldable pub judged_pair : Setup → (bytes : List ℕ) → Verdict
+judged_pair s bytes = cond (is_pair bytes) (judged_two s (first_frame bytes) (second bytes)) (verdict bad_length 0)

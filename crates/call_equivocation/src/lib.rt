@@ -2,11 +2,11 @@
 #![tactic(auto)]
 
 ghost use Rattle.std.specs.Prelude.{◌≡◌, length};
-ghost use Rattle.apollo.specs.Size.{pairSize};
-ghost use Rattle.apollo.specs.Frame.{firstFrame};
+ghost use Rattle.apollo.specs.Size.{pair_size};
+ghost use Rattle.apollo.specs.Frame.{first_frame};
 ghost use Rattle.apollo.specs.Equivocation.{marked, second, conflicting};
-ghost use Rattle.apollo.specs.Calls.{equivocationCall};
-ghost use Rattle.call_equivocation.specs.Judge.{judgedTwo, judgedPair};
+ghost use Rattle.apollo.specs.Calls.{equivocation_call};
+ghost use Rattle.call_equivocation.specs.Judge.{judged_two, judged_pair};
 
 use apollo::size::{CHECK, FRAME, PAIR};
 use apollo::{Marked, Replica, Setup, Verdict};
@@ -34,8 +34,8 @@ fn is_conflicting(x: &[u8], y: &[u8]) -> bool
 
 // 7 and 8 of both, then 18.
 fn judge_two(s: Setup, frames: &[u8]) -> Verdict
-    requires { length frames.now ≡ pairSize }
-    ensures { result ≡ judgedTwo s (firstFrame frames.now) (second frames.now) }
+    requires { length frames.now ≡ pair_size }
+    ensures { result ≡ judged_two s (first_frame frames.now) (second frames.now) }
 {
     let each = judging::judge_each(Form::Block, s, frames);
     if each.number != 0 {
@@ -58,7 +58,7 @@ fn judge_two(s: Setup, frames: &[u8]) -> Verdict
 
 // 6, and what follows it.
 fn judge_pair(s: Setup, frames: &[u8]) -> Verdict
-    ensures { result ≡ judgedPair s frames.now }
+    ensures { result ≡ judged_pair s frames.now }
 {
     if frames.len() != PAIR {
         return Verdict {
@@ -71,7 +71,7 @@ fn judge_pair(s: Setup, frames: &[u8]) -> Verdict
 
 // Two frames are handed in: 2, 6, 7 and 8 of the first and of the second, 18; taken, the round's leader is marked.
 pub fn equivocation(replica: Replica, frames: &[u8]) -> Marked
-    ensures { result ≡ equivocationCall replica frames.now }
+    ensures { result ≡ equivocation_call replica frames.now }
 {
     if !record_ranges::valid_record(replica) {
         return answer(apollo::refusal::BAD_REPLICA, 0, replica);

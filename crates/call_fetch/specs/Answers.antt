@@ -3,5 +3,5 @@ use Rattle.std.specs.Prelude.{ℕ}
 use Rattle.apollo.specs.declared.Fetched.{Fetched}
 
 -- no frames with the number of a refusal
-abbrev pub noFrames : (number : ℕ) → Fetched
-noFrames number = record { number = number; count = 0 }
+abbrev pub no_frames : (number : ℕ) → Fetched
+no_frames number = record { number = number; count = 0 }

@@ -2,21 +2,21 @@
 #![tactic(auto)]
 
 ghost use Rattle.std.specs.Prelude.{◌≡◌};
-ghost use Rattle.apollo.specs.Calls.{fetchCall, fetched};
-ghost use Rattle.call_fetch.specs.Answers.{noFrames};
+ghost use Rattle.apollo.specs.Calls.{fetch_call, fetched};
+ghost use Rattle.call_fetch.specs.Answers.{no_frames};
 
 use apollo::size::OUT;
 use apollo::{Fetched, Height, Replica};
 
 fn no_frames(number: u8) -> Fetched
-    ensures { result ≡ noFrames number }
+    ensures { result ≡ no_frames number }
 {
     Fetched { number, count: 0 }
 }
 
 // The chain frames above a height are copied to the start of the out buffer, as many as fit: 2, 4, 15, and taken.
 pub fn fetch(replica: Replica, log: &[u8], height: Height, out: &mut [u8]) -> Fetched
-    ensures { fetched result out.new ≡ fetchCall replica log.now height.0 out.old }
+    ensures { fetched result out.new ≡ fetch_call replica log.now height.0 out.old }
 {
     if !(record_ranges::valid_record(replica) & record_ranges::valid_log(replica, log)) {
         return no_frames(apollo::refusal::BAD_REPLICA);

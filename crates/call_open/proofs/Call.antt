@@ -5,31 +5,31 @@ use Prim.Native.Nat.{ℕ, ◌*◌}
 use native.Mathlib.Omega.{arith}
 use lib.ListN.{length}
 use Rattle.sha256.specs.Fips.{sha256}
-use Rattle.apollo.specs.Size.{frameSize}
+use Rattle.apollo.specs.Size.{frame_size}
 use Rattle.apollo.specs.declared.Replica.{Replica}
 use Rattle.apollo.specs.declared.Answer.{Answer}
 use Rattle.apollo.specs.Bytes.{zeros}
-use Rattle.apollo.specs.Replica.{fresh, zeroReplica}
-use Rattle.apollo.specs.Enter.{enterRound, state}
+use Rattle.apollo.specs.Replica.{fresh, zero_replica}
+use Rattle.apollo.specs.Enter.{enter_round, state}
 use Rattle.apollo.specs.Outcome.{Outcome, taken, outcome}
-use Rattle.apollo.specs.Open.{openWith}
+use Rattle.apollo.specs.Open.{open_with}
 use Rattle.apollo.proofs.Slots.{length-zeros}
-use Rattle.refusals.specs.Number.{openNumber}
+use Rattle.refusals.specs.Number.{open_number}
 use Rattle.refusals.proofs.Passed.{Opened, opened}
 use Rattle.refusals.proofs.Answer.{open_by}
 use Rattle.tip.specs.Ready.{Ready}
-use Rattle.calls.specs.Refused.{refusedAnswer}
+use Rattle.calls.specs.Refused.{refused_answer}
 use Rattle.calls.proofs.Answers.{refused-by, taken-by}
 
 module _ (id f timeout last : ℕ) (rotation log masks entry out : List ℕ) (r : Replica) (er : r ≡ fresh id f timeout last rotation) (n : ℕ)
-    (en : n ≡ openNumber r (length rotation) log masks (length entry) (length out)) where
-  number_is : n ≡ openNumber (fresh id f timeout last rotation) (length rotation) log masks (length entry) (length out)
+    (en : n ≡ open_number r (length rotation) log masks (length entry) (length out)) where
+  number_is : n ≡ open_number (fresh id f timeout last rotation) (length rotation) log masks (length entry) (length out)
   number_is = rw er at en
 
-  pub open-refused : (z : Replica) (a : Answer) → (n ≡ 0 → ⊥) → z ≡ zeroReplica → a ≡ refusedAnswer z n 0
-      → outcome a log masks out ≡ openWith sha256 id f timeout last rotation log masks entry out
+  pub open-refused : (z : Replica) (a : Answer) → (n ≡ 0 → ⊥) → z ≡ zero_replica → a ≡ refused_answer z n 0
+      → outcome a log masks out ≡ open_with sha256 id f timeout last rotation log masks entry out
   open-refused z a h ez ea =
-      refused-by (state zeroReplica log masks) out _ _ n number_is a h (ea ∙ ap (λ (x : Replica). refusedAnswer x n 0) ez)
+      refused-by (state zero_replica log masks) out _ _ n number_is a h (ea ∙ ap (λ (x : Replica). refused_answer x n 0) ez)
       ∙ sym (open_by id f timeout last rotation log masks entry out)
 
   -- the log and the masks that open leaves
@@ -41,8 +41,8 @@ module _ (id f timeout last : ℕ) (rotation log masks entry out : List ℕ) (r 
     unfolding fresh
     last-is = ap (λ (x : Replica). x.last_round.0) er
 
-    log_is : log' ≡ zeros (frameSize * last)
-    log_is = el ∙ ap zeros (passed-open.valid.size ∙ ap (λ (k : ℕ). frameSize * k) last-is)
+    log_is : log' ≡ zeros (frame_size * last)
+    log_is = el ∙ ap zeros (passed-open.valid.size ∙ ap (λ (k : ℕ). frame_size * k) last-is)
 
     pub open-ready : Ready r log' entry out
     unfolding fresh
@@ -63,10 +63,10 @@ module _ (id f timeout last : ℕ) (rotation log masks entry out : List ℕ) (r 
         }
 
     pub open-taken : (masks' : List ℕ) (o : Outcome) → masks' ≡ zeros (length masks)
-        → o ≡ taken (enterRound sha256 entry (state r log' masks')) out
-        → o ≡ openWith sha256 id f timeout last rotation log masks entry out
+        → o ≡ taken (enter_round sha256 entry (state r log' masks')) out
+        → o ≡ open_with sha256 id f timeout last rotation log masks entry out
     open-taken masks' o em h =
         let m : masks' ≡ zeros last = em ∙ ap zeros (passed-open.masks-size ∙ last-is) in
         rw (m, log_is, er) at h
-        ∙ taken-by (state zeroReplica log masks) out _ _ n number_is z
+        ∙ taken-by (state zero_replica log masks) out _ _ n number_is z
         ∙ sym (open_by id f timeout last rotation log masks entry out)

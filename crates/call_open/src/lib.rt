@@ -2,7 +2,7 @@
 #![tactic(auto)]
 
 ghost use Rattle.std.specs.Prelude.{◌≡◌};
-ghost use Rattle.apollo.specs.Calls.{outcome, openCall};
+ghost use Rattle.apollo.specs.Calls.{outcome, open_call};
 
 use apollo::{Answer, Replica, Round, Ticks};
 
@@ -19,7 +19,7 @@ pub fn open(
     out: &mut [u8],
 ) -> Answer
     ensures { outcome result log.new masks.new out.new
-        ≡ openCall id f timeout.0 last_round.0 rotation.now log.old masks.old
+        ≡ open_call id f timeout.0 last_round.0 rotation.now log.old masks.old
         entry.now out.old }
 {
     let r = record::fresh(id, f, timeout, last_round, rotation);

@@ -7,35 +7,35 @@ use native.Mathlib.Omega.{arith}
 use lib.Dec.{eqb, leb}
 use lib.ListN.{length}
 use borrow.Author.Tests.{eq-eqb, ne_eqb, eqb-false, leb-true, not-false}
-use Rattle.apollo.specs.Size.{frameSize}
+use Rattle.apollo.specs.Size.{frame_size}
 use Rattle.apollo.specs.declared.Replica.{Replica}
 use Rattle.apollo.specs.Bytes.{part}
-use Rattle.apollo.specs.Frame.{entryLength, height}
+use Rattle.apollo.specs.Frame.{entry_length, height}
 use Rattle.apollo.specs.Log.{slot, filled}
-use Rattle.apollo.specs.Replica.{validReplica}
-use Rattle.apollo.specs.Read.{ReadOutcome, part_of, readable, lowest, readCall}
+use Rattle.apollo.specs.Replica.{valid_replica}
+use Rattle.apollo.specs.Read.{ReadOutcome, part_of, readable, lowest, read_call}
 use Rattle.apollo.proofs.Tests.{and_second, by_cond}
 use Rattle.apollo.proofs.Validity.{Valid, valid}
-use Rattle.call_read.specs.Answers.{no_part, entryPart}
+use Rattle.call_read.specs.Answers.{no_part, entry_part}
 
-module _ (r : Replica) (log : List ℕ) (h : ℕ) (v : Bool) (e : v ≡ validReplica r log) where
-  pub read-invalid : v ≡ false → no_part 2 ≡ (readCall r log h).answer
-  unfolding readCall
+module _ (r : Replica) (log : List ℕ) (h : ℕ) (v : Bool) (e : v ≡ valid_replica r log) where
+  pub read-invalid : v ≡ false → no_part 2 ≡ (read_call r log h).answer
+  unfolding read_call
   read-invalid f = rw (← e, f)
 
   -- a log of T slots has all rounds up to the committed one
-  pub committed-fits : v ≡ true → frameSize * r.committed_round.0 ≤ length log
+  pub committed-fits : v ≡ true → frame_size * r.committed_round.0 ≤ length log
   committed-fits t =
       let w : Valid r log = valid r log (sym e ∙ t) in
       omega (arith, w.setup.size, w.round-most, w.tip-below, w.committed-most)
 
   module _ (t : v ≡ true) (q : ℕ) (d : q ≡ lowest log h 0 r.committed_round.0) where
-    pub read-absent : q ≡ 0 → no_part 15 ≡ (readCall r log h).answer
-    unfolding readCall
+    pub read-absent : q ≡ 0 → no_part 15 ≡ (read_call r log h).answer
+    unfolding read_call
     read-absent z = rw (← e, t, ← d, eq-eqb q 0 z)
 
-    pub read_found : (q ≡ 0 → ⊥) → entryPart log q ≡ (readCall r log h).answer
-    unfolding readCall
+    pub read_found : (q ≡ 0 → ⊥) → entry_part log q ≡ (read_call r log h).answer
+    unfolding read_call
     read_found n = rw (← e, t, ← d, ne_eqb q 0 n)
 
 -- the bytes shown are those of the part
@@ -46,11 +46,11 @@ shown log true b m n k s l o e = rw e
 shown log false true m n k s l o e = rw e
 shown log false false m n k s l o e = rw e
 
-pub read-bytes : (r : Replica) (log : List ℕ) (h : ℕ) → part log (readCall r log h).answer.start (readCall r log h).answer.length ≡ (readCall r log h).bytes
-unfolding readCall
+pub read-bytes : (r : Replica) (log : List ℕ) (h : ℕ) → part log (read_call r log h).answer.start (read_call r log h).answer.length ≡ (read_call r log h).bytes
+unfolding read_call
 read-bytes r log h =
     let q : ℕ = lowest log h 0 r.committed_round.0 in
-    shown log (not (validReplica r log)) (eqb q 0) 2 15 0 (frameSize * (q - 1) + 44) (entryLength (slot log q)) (readCall r log h) refl
+    shown log (not (valid_replica r log)) (eqb q 0) 2 15 0 (frame_size * (q - 1) + 44) (entry_length (slot log q)) (read_call r log h) refl
 
 -- the lowest slot, if there is one, is one of those looked at, and readable
 lowest-found : (log : List ℕ) (h lo k : ℕ) → (lowest log h lo k ≡ 0 → ⊥)
@@ -62,22 +62,22 @@ lowest-found log h lo (suc k) =
     (λ e n. let i : (lowest log h (lo + 1) k ≤ lo + 1 + k) × (readable (slot log (lowest log h (lo + 1) k)) h ≡ true) = lowest-found log h (lo + 1) k n in
     (omega (arith, i.0), i.1))
 
-entry-low : (x : List ℕ) (h : ℕ) → readable x h ≡ true → entryLength x ≤ 400
+entry-low : (x : List ℕ) (h : ℕ) → readable x h ≡ true → entry_length x ≤ 400
 unfolding readable
-entry-low x h e = leb-true (entryLength x) 400 (and_second (filled x && eqb (height x) h) (leb (entryLength x) 400) e)
+entry-low x h e = leb-true (entry_length x) 400 (and_second (filled x && eqb (height x) h) (leb (entry_length x) 400) e)
 
 -- the part lies in the log, whole
-pub part-fits : (r : Replica) (log : List ℕ) (h : ℕ) → (readCall r log h).answer.start + (readCall r log h).answer.length ≤ length log
-unfolding readCall
+pub part-fits : (r : Replica) (log : List ℕ) (h : ℕ) → (read_call r log h).answer.start + (read_call r log h).answer.length ≤ length log
+unfolding read_call
 part-fits r log h =
     let Fits : ReadOutcome → Type 0 = λ o. o.answer.start + o.answer.length ≤ length log in
     let q : ℕ = lowest log h 0 r.committed_round.0 in
-    by_cond Fits (not (validReplica r log)) (λ _. omega arith)
+    by_cond Fits (not (valid_replica r log)) (λ _. omega arith)
     (λ v. by_cond Fits (eqb q 0) (λ _. omega arith)
     (λ n.
     let some : (q ≡ 0 → ⊥) = eqb-false q 0 n in
     let found : (q ≤ 0 + r.committed_round.0) × (readable (slot log q) h ≡ true) = lowest-found log h 0 r.committed_round.0 some in
-    let within : frameSize * r.committed_round.0 ≤ length log = committed-fits r log h true (sym (not-false _ v)) refl in
-    let g : frameSize * (q - 1) + 44 + entryLength (slot log q) ≤ length log =
+    let within : frame_size * r.committed_round.0 ≤ length log = committed-fits r log h true (sym (not-false _ v)) refl in
+    let g : frame_size * (q - 1) + 44 + entry_length (slot log q) ≤ length log =
     omega (arith, found.0, within, entry-low (slot log q) h found.1) in
     g))

@@ -3,8 +3,8 @@
 
 ghost use Rattle.std.specs.Prelude.{◌≡◌, ◌+◌, ◌≤◌, ◌<◌, length};
 ghost use Rattle.apollo.specs.Bytes as Bytes;
-ghost use Rattle.apollo.specs.Calls.{readCall};
-ghost use Rattle.call_read.specs.Answers.{no_part, entryPart};
+ghost use Rattle.apollo.specs.Calls.{read_call};
+ghost use Rattle.call_read.specs.Answers.{no_part, entry_part};
 ghost use Rattle.apollo.specs.Read.{place_in};
 
 use apollo::size::FRAME;
@@ -23,7 +23,7 @@ fn no_part(number: u8) -> Part
 // The part of the log that is the entry in slot r.
 fn entry_part(log: &[u8], r: u32) -> Part
     requires { 0 < r }
-    ensures { result ≡ entryPart log.now r }
+    ensures { result ≡ entry_part log.now r }
 {
     let i = (r - 1) as usize;
     Part {
@@ -35,7 +35,7 @@ fn entry_part(log: &[u8], r: u32) -> Part
 
 // The part of the log that is the entry at a committed height: 2, 15, and taken.
 pub fn read_part(replica: Replica, log: &[u8], height: Height) -> Part
-    ensures { result ≡ (readCall replica log.now height.0).answer }
+    ensures { result ≡ (read_call replica log.now height.0).answer }
 {
     if !(record_ranges::valid_record(replica) & record_ranges::valid_log(replica, log)) {
         return no_part(apollo::refusal::BAD_REPLICA);
@@ -60,9 +60,9 @@ fn cut<'a>(log: &'a [u8], p: Part) -> &'a [u8]
 
 // The entry at a committed height, as the part of the lent log that `read_part` tells, empty if refused.
 pub fn read<'a>(replica: Replica, log: &'a [u8], height: Height, number: &mut u8) -> &'a [u8]
-    ensures bytes { result.now ≡ (readCall replica log.now height.0).bytes }
-    ensures place { result.ref_ptr ≡ place_in log.entry (readCall replica log.now height.0).answer.start }
-    ensures number { number.new ≡ (readCall replica log.now height.0).answer.number }
+    ensures bytes { result.now ≡ (read_call replica log.now height.0).bytes }
+    ensures place { result.ref_ptr ≡ place_in log.entry (read_call replica log.now height.0).answer.start }
+    ensures number { number.new ≡ (read_call replica log.now height.0).answer.number }
 {
     let p = read_part(replica, log, height);
     *number = p.number;

@@ -11,14 +11,14 @@ use lib.Seq.{take_at, drop_at, take_all, drop-drop}
 use borrow.Rule.Slice.PartMut.{put_mid}
 use borrow.Author.Tests.{eq-eqb, ne_eqb, eqb-true}
 use Rattle.sha256.specs.Fips.{sha256}
-use Rattle.apollo.specs.Size.{frameSize}
+use Rattle.apollo.specs.Size.{frame_size}
 use Rattle.apollo.specs.declared.Replica.{Replica}
 use Rattle.apollo.specs.declared.Answer.{Answer}
-use Rattle.apollo.specs.Frame.{makeBlame}
-use Rattle.apollo.specs.Replica.{withTimer}
+use Rattle.apollo.specs.Frame.{make_blame}
+use Rattle.apollo.specs.Replica.{with_timer}
 use Rattle.apollo.specs.Enter.{State, Effect, waiting, hearing, settle, state}
-use Rattle.apollo.specs.Outcome.{Outcome, nextLeader, taken, outcome}
-use Rattle.apollo.specs.Tick.{blaming, ticked, tickWith}
+use Rattle.apollo.specs.Outcome.{Outcome, next_leader, taken, outcome}
+use Rattle.apollo.specs.Tick.{blaming, ticked, tick_with}
 use Rattle.frame_writing.proofs.Make.{length-blame}
 use Rattle.refusals.specs.Number.{guard_of}
 use Rattle.refusals.proofs.Passed.{Passed, passed}
@@ -26,7 +26,7 @@ use Rattle.refusals.proofs.Answer.{guarded-by}
 use Rattle.tip.specs.Ready.{Ready}
 use Rattle.rounds.specs.Rounds.{told}
 use Rattle.rounds.proofs.Few.{settle-few}
-use Rattle.calls.specs.Refused.{refusedAnswer}
+use Rattle.calls.specs.Refused.{refused_answer}
 use Rattle.calls.proofs.Answers.{refused-by, taken-by, passed-ready}
 
 -- an answer with one more frame
@@ -35,31 +35,31 @@ more a =
     record { number = a.number; frames = a.frames + 1; leader = a.leader; place = a.place; replica = a.replica }
 
 -- a frame before those of an effect
-before : (B out : List ℕ) (F : List (List ℕ)) → B ++ (flatten F ++ drop (frameSize * length F) (drop frameSize out))
-    ≡ flatten (B ∷ F) ++ drop (frameSize * length (B ∷ F)) out
+before : (B out : List ℕ) (F : List (List ℕ)) → B ++ (flatten F ++ drop (frame_size * length F) (drop frame_size out))
+    ≡ flatten (B ∷ F) ++ drop (frame_size * length (B ∷ F)) out
 unfolding flatten
 before B out F =
-    let e : frameSize + frameSize * length F ≡ frameSize * suc (length F) = omega arith in
-    sym (append_assoc B (flatten F) (drop (frameSize * length F) (drop frameSize out)))
-    ∙ ap (λ (y : List ℕ). (B ++ flatten F) ++ y) (drop-drop (frameSize * length F) frameSize out ∙ ap (λ (k : ℕ). drop k out) e)
+    let e : frame_size + frame_size * length F ≡ frame_size * suc (length F) = omega arith in
+    sym (append_assoc B (flatten F) (drop (frame_size * length F) (drop frame_size out)))
+    ∙ ap (λ (y : List ℕ). (B ++ flatten F) ++ y) (drop-drop (frame_size * length F) frame_size out ∙ ap (λ (k : ℕ). drop k out) e)
 
-taken_more : (B out log masks y : List ℕ) (e : Effect) (a : Answer) → outcome a log masks y ≡ taken e (drop frameSize out)
+taken_more : (B out log masks y : List ℕ) (e : Effect) (a : Answer) → outcome a log masks y ≡ taken e (drop frame_size out)
     → outcome (more a) log masks (B ++ y) ≡ taken (record { state = e.state; emitted = B ∷ e.emitted }) out
 unfolding taken
 taken_more B out log masks y e a h =
     ap (λ (o : Outcome). outcome (more o.answer) o.log o.masks (B ++ o.out)) h
     ∙ ap₂
-    (λ (k : ℕ) (z : List ℕ). outcome (takenFrames k) e.state.log e.state.masks z)
+    (λ (k : ℕ) (z : List ℕ). outcome (taken_frames k) e.state.log e.state.masks z)
     (add-one (length e.emitted))
     (before B out e.emitted)
   where
-    takenFrames : ℕ → Answer
-    takenFrames k =
-        record { number = 0; frames = k; leader = nextLeader e.state.replica; place = 0; replica = e.state.replica }
+    taken_frames : ℕ → Answer
+    taken_frames k =
+        record { number = 0; frames = k; leader = next_leader e.state.replica; place = 0; replica = e.state.replica }
 
 module _ (r : Replica) (log masks entry out : List ℕ) where
   counted : (r.timer.0 ≡ 1 → ⊥) → (b : Bool) → eqb r.timer.0 0 ≡ b
-      → outcome (told (withTimer r (r.timer.0 - 1)) 0) log masks out
+      → outcome (told (with_timer r (r.timer.0 - 1)) 0) log masks out
       ≡ taken (cond b (record { state = state r log masks; emitted = [] })
       (cond (eqb r.timer.0 1) (blaming sha256 entry (state r log masks))
       (record { state = waiting (state r log masks) r.round.0 (r.timer.0 - 1); emitted = [] }))) out
@@ -71,9 +71,9 @@ module _ (r : Replica) (log masks entry out : List ℕ) where
   counted k false e = rw (ne_eqb r.timer.0 1 k)
 
   module _ (n : ℕ) (en : n ≡ guard_of r log masks (length entry) (length out)) where
-    pub tick-refused : (a : Answer) → (n ≡ 0 → ⊥) → a ≡ refusedAnswer r n 0
-        → outcome a log masks out ≡ tickWith sha256 (state r log masks) entry out
-    unfolding tickWith
+    pub tick-refused : (a : Answer) → (n ≡ 0 → ⊥) → a ≡ refused_answer r n 0
+        → outcome a log masks out ≡ tick_with sha256 (state r log masks) entry out
+    unfolding tick_with
     tick-refused a h ea = refused-by (state r log masks) out _ _ n en a h ea ∙ sym (guarded-by (state r log masks) entry out _)
 
     module _ (z : n ≡ 0) where
@@ -81,46 +81,46 @@ module _ (r : Replica) (log masks entry out : List ℕ) where
       tick-passed = passed r log masks (length entry) (length out) (sym en ∙ z)
 
       tick-effect : (o : Outcome) → o ≡ taken (ticked sha256 entry (state r log masks)) out
-          → o ≡ tickWith sha256 (state r log masks) entry out
-      unfolding tickWith
+          → o ≡ tick_with sha256 (state r log masks) entry out
+      unfolding tick_with
       tick-effect o e = e ∙ taken-by (state r log masks) out _ _ n en z ∙ sym (guarded-by (state r log masks) entry out _)
 
-      pub tick-down : (a : Answer) → (r.timer.0 ≡ 1 → ⊥) → a ≡ told (withTimer r (r.timer.0 - 1)) 0
-          → outcome a log masks out ≡ tickWith sha256 (state r log masks) entry out
+      pub tick-down : (a : Answer) → (r.timer.0 ≡ 1 → ⊥) → a ≡ told (with_timer r (r.timer.0 - 1)) 0
+          → outcome a log masks out ≡ tick_with sha256 (state r log masks) entry out
       unfolding ticked
       tick-down a k ea =
           tick-effect (outcome a log masks out)
           (ap (λ (x : Answer). outcome x log masks out) ea ∙ counted k (eqb r.timer.0 0) refl)
 
       -- ticks left reach 0: what is heard on the out buffer after the blame
-      module _ (out' : List ℕ) (eo : out' ≡ makeBlame sha256 r.id r.round.0 ++ drop frameSize out) where
-        after-blame : take (length out' - frameSize) (drop frameSize out') ≡ drop frameSize out
+      module _ (out' : List ℕ) (eo : out' ≡ make_blame sha256 r.id r.round.0 ++ drop frame_size out) where
+        after-blame : take (length out' - frame_size) (drop frame_size out') ≡ drop frame_size out
         after-blame =
-            let l : length (drop frameSize out') ≤ length out' - frameSize = rw length-drop (omega arith) in
-            take_all (length out' - frameSize) (drop frameSize out') l ∙ ap (drop frameSize) eo ∙ drop_at (makeBlame sha256 r.id r.round.0) (drop frameSize out) frameSize (length-blame r.id r.round.0)
+            let l : length (drop frame_size out') ≤ length out' - frame_size = rw length-drop (omega arith) in
+            take_all (length out' - frame_size) (drop frame_size out') l ∙ ap (drop frame_size) eo ∙ drop_at (make_blame sha256 r.id r.round.0) (drop frame_size out) frame_size (length-blame r.id r.round.0)
 
-        pub tick-asks : (q : Replica) → q ≡ withTimer r 0
-            → Ready q log entry (take (length out' - frameSize) (drop frameSize out')) × (q.round.0 ≤ q.last_round.0) × (r.id < 16)
+        pub tick-asks : (q : Replica) → q ≡ with_timer r 0
+            → Ready q log entry (take (length out' - frame_size) (drop frame_size out')) × (q.round.0 ≤ q.last_round.0) × (r.id < 16)
         tick-asks q eq =
             let p = tick-passed in
             rw (after-blame, eq)
-            (passed-ready r log entry out p 0 (drop frameSize out) (rw length-drop (omega (arith, p.out-least))), p.round-last, omega (arith, p.valid.setup.id_below, p.valid.setup.f-most))
+            (passed-ready r log entry out p 0 (drop frame_size out) (rw length-drop (omega (arith, p.out-least))), p.round-last, omega (arith, p.valid.setup.id_below, p.valid.setup.f-most))
 
-        pub tick-out : (y log' masks' : List ℕ) (q : Replica) (a : Answer) → r.timer.0 ≡ 1 → q ≡ withTimer r 0
+        pub tick-out : (y log' masks' : List ℕ) (q : Replica) (a : Answer) → r.timer.0 ≡ 1 → q ≡ with_timer r 0
             → outcome a log' masks' y
-            ≡ taken (settle sha256 entry (hearing (state q log masks) r.round.0 r.id) r.round.0) (take (length out' - frameSize) (drop frameSize out'))
-            → outcome (more a) log' masks' (put_mid frameSize (length out' - frameSize) out' y)
-            ≡ tickWith sha256 (state r log masks) entry out
+            ≡ taken (settle sha256 entry (hearing (state q log masks) r.round.0 r.id) r.round.0) (take (length out' - frame_size) (drop frame_size out'))
+            → outcome (more a) log' masks' (put_mid frame_size (length out' - frame_size) out' y)
+            ≡ tick_with sha256 (state r log masks) entry out
         unfolding ticked blaming waiting
         tick-out y log' masks' q a t eq h =
             let R : ℕ = r.round.0 in
-            let B : List ℕ = makeBlame sha256 r.id R in
+            let B : List ℕ = make_blame sha256 r.id R in
             let s : State = waiting (state r log masks) R 0 in
-            let f : take frameSize out' ≡ B = ap (take frameSize) eo ∙ take_at B (drop frameSize out) frameSize (length-blame r.id R) in
-            let l : length (drop frameSize out') ≤ length out' - frameSize = rw length-drop (omega arith) in
-            let p : put_mid frameSize (length out' - frameSize) out' y ≡ B ++ y = rw (f, drop_of_length-le (drop frameSize out') l, append-nil) in
-            let e : outcome a log' masks' y ≡ taken (settle sha256 entry (hearing s R r.id) R) (drop frameSize out) = rw (eq, after-blame) at h in
-            tick-effect (outcome (more a) log' masks' (put_mid frameSize (length out' - frameSize) out' y))
+            let f : take frame_size out' ≡ B = ap (take frame_size) eo ∙ take_at B (drop frame_size out) frame_size (length-blame r.id R) in
+            let l : length (drop frame_size out') ≤ length out' - frame_size = rw length-drop (omega arith) in
+            let p : put_mid frame_size (length out' - frame_size) out' y ≡ B ++ y = rw (f, drop_of_length-le (drop frame_size out') l, append-nil) in
+            let e : outcome a log' masks' y ≡ taken (settle sha256 entry (hearing s R r.id) R) (drop frame_size out) = rw (eq, after-blame) at h in
+            tick-effect (outcome (more a) log' masks' (put_mid frame_size (length out' - frame_size) out' y))
             (rw (ne_eqb r.timer.0 0 (omega arith), eq-eqb r.timer.0 1 t)
             (ap (outcome (more a) log' masks') p ∙ taken_more B out log' masks' y (settle sha256 entry (hearing s R r.id) R) a e))
 

@@ -2,7 +2,7 @@
 #![tactic(auto)]
 
 ghost use Rattle.std.specs.Prelude.{◌≡◌};
-ghost use Rattle.apollo.specs.Calls.{state, outcome, tickCall};
+ghost use Rattle.apollo.specs.Calls.{state, outcome, tick_call};
 
 use apollo::size::FRAME;
 use apollo::{Answer, Replica};
@@ -16,7 +16,7 @@ pub fn tick(
     out: &mut [u8],
 ) -> Answer
     ensures { outcome result log.new masks.new out.new
-        ≡ tickCall (state replica log.old masks.old) entry.now out.old }
+        ≡ tick_call (state replica log.old masks.old) entry.now out.old }
 {
     let is_valid = record_ranges::valid_record(replica);
     let number = refusals::guard(is_valid, replica, log, masks, entry.len(), out.len());

@@ -4,20 +4,20 @@ use mathlib.Core.List.{List}
 use Prim.Native.Nat.{ℕ, ◌≤◌}
 use lib.ListN.{length}
 use borrow.Author.Tests.{eq-eqb, ne_eqb}
-use Rattle.apollo.specs.Size.{frameSize}
+use Rattle.apollo.specs.Size.{frame_size}
 use Rattle.apollo.specs.declared.Replica.{Replica}
 use Rattle.apollo.specs.declared.Answer.{Answer}
-use Rattle.apollo.specs.Replica.{withTimer}
+use Rattle.apollo.specs.Replica.{with_timer}
 use Rattle.apollo.specs.Enter.{State}
 use Rattle.apollo.specs.Outcome.{Outcome, refused, outcome}
 use Rattle.refusals.proofs.Passed.{Passed}
 use Rattle.refusals.proofs.Answer.{by_number}
 use Rattle.tip.specs.Ready.{Ready}
-use Rattle.calls.specs.Refused.{refusedAnswer}
+use Rattle.calls.specs.Refused.{refused_answer}
 
 -- a call's answer by the number that refuses it, for any number n that is m
 module _ (s : State) (out : List ℕ) (m : ℕ) (o : Outcome) (n : ℕ) (e : n ≡ m) where
-  pub refused-by : (a : Answer) → (n ≡ 0 → ⊥) → a ≡ refusedAnswer s.replica n 0
+  pub refused-by : (a : Answer) → (n ≡ 0 → ⊥) → a ≡ refused_answer s.replica n 0
       → outcome a s.log s.masks out ≡ by_number m o (λ k. refused s out k 0)
   unfolding refused
   refused-by a h ea = rw (← e, ne_eqb n 0 h, ea)
@@ -26,7 +26,7 @@ module _ (s : State) (out : List ℕ) (m : ℕ) (o : Outcome) (n : ℕ) (e : n �
   taken-by z = rw (← e, eq-eqb n 0 z)
 
 module _ (r : Replica) (log entry out : List ℕ) where
-  pub passed-ready : Passed r log (length entry) (length out) → (t : ℕ) (y : List ℕ) → frameSize ≤ length y → Ready (withTimer r t) log entry y
+  pub passed-ready : Passed r log (length entry) (length out) → (t : ℕ) (y : List ℕ) → frame_size ≤ length y → Ready (with_timer r t) log entry y
   passed-ready p t y h =
       let v = p.valid in
       record {

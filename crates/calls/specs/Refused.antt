@@ -3,5 +3,5 @@ use Rattle.std.specs.Prelude.{ℕ}
 use Rattle.apollo.specs.declared.Replica.{Replica}
 use Rattle.apollo.specs.declared.Answer.{Answer}
 
-abbrev pub refusedAnswer : Replica → (number place : ℕ) → Answer
-refusedAnswer r number place = record { number = number; frames = 0; leader = 255; place = place; replica = r }
+abbrev pub refused_answer : Replica → (number place : ℕ) → Answer
+refused_answer r number place = record { number = number; frames = 0; leader = 255; place = place; replica = r }

@@ -2,13 +2,13 @@
 #![tactic(auto)]
 
 ghost use Rattle.std.specs.Prelude.{◌≡◌};
-ghost use Rattle.calls.specs.Refused.{refusedAnswer};
+ghost use Rattle.calls.specs.Refused.{refused_answer};
 
 use apollo::{Answer, Replica};
 
 // The answer of a refusal.
 pub fn refused(r: Replica, number: u8, place: u32) -> Answer
-    ensures { result ≡ refusedAnswer r number place }
+    ensures { result ≡ refused_answer r number place }
 {
     Answer {
         number,

@@ -2,13 +2,13 @@
 #![tactic(auto)]
 
 ghost use Rattle.std.specs.Prelude.{◌≡◌};
-ghost use Rattle.apollo.specs.Enter.{commitLimit, commit};
+ghost use Rattle.apollo.specs.Enter.{commit_limit, commit};
 
 use apollo::Replica;
 
 // The highest round that may be committed: R - 1 - f, 0 where that is below 1.
 fn commit_limit(r: Replica) -> u32
-    ensures { result ≡ commitLimit r }
+    ensures { result ≡ commit_limit r }
 {
     let round = r.round.0;
     let passed = r.f as u32 + 1;

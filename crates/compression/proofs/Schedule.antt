@@ -3,7 +3,7 @@ use Rattle.std.proofs.Common.{◌≡◌, ℕ, zero, suc, ◌+◌, ◌-◌, ◌*�
 use lib.ListN.{get_or-append}
 use lib.Seq.{get_or_at}
 use Rattle.compression.specs.declared.State.{State}
-use Rattle.compression.specs.Fips.{K, word_at, add32, σ0, σ1, scheduleWord, schedule, round, rounds, plus, compress}
+use Rattle.compression.specs.Fips.{K, word_at, add32, σ0, σ1, schedule_word, schedule, round, rounds, plus, compress}
 use Rattle.compression.specs.Window.{Window, Turned}
 
 length-schedule : (b : List ℕ) (n : ℕ) → length (schedule b n) ≡ n
@@ -22,11 +22,11 @@ schedule-same b (suc n) t u h g =
     ⊎_elim (λ e. rw e) (λ l. schedule-begins b n u (omega arith) ∙ schedule-same b n t u h (le_of_suc-le-suc l)) (eq-or-lt_of_le g)
 
 -- each word of a schedule is made from those before it
-schedule-word : (b : List ℕ) (n t : ℕ) → t < n → get_or (schedule b n) t 0 ≡ scheduleWord b (schedule b t) t
+schedule-word : (b : List ℕ) (n t : ℕ) → t < n → get_or (schedule b n) t 0 ≡ schedule_word b (schedule b t) t
 unfolding schedule
 schedule-word b n t h =
     schedule-same b n (suc t) t (omega arith) h
-    ∙ get_or_at (schedule b t) (scheduleWord b (schedule b t) t) [] 0 t (length-schedule b t)
+    ∙ get_or_at (schedule b t) (schedule_word b (schedule b t) t) [] 0 t (length-schedule b t)
 
 pub word-loaded : (b : List ℕ) (t : ℕ) → t < 16 → get_or (schedule b 64) t 0 ≡ word_at b (4 * t)
 word-loaded b t h = schedule-word b 64 t (omega arith) ∙ rw (lt-ltb t 16 h)

@@ -6,25 +6,25 @@ use native.Mathlib.Nat.{sub-zero}
 use native.Mathlib.Omega.{arith}
 use lib.ListN.{take, drop}
 use lib.Seq.{drop-drop}
-use Rattle.apollo.specs.Size.{frameSize}
+use Rattle.apollo.specs.Size.{frame_size}
 use Rattle.apollo.specs.Bytes.{part}
 use Rattle.apollo.specs.Frame.{frames}
 
 -- of the n frames of b those from index i on
 abbrev pub rest : (b : List ℕ) (n i : ℕ) → List (List ℕ)
-rest b n i = frames (n - i) (drop (frameSize * i) b)
+rest b n i = frames (n - i) (drop (frame_size * i) b)
 
 pub rest-start : (b : List ℕ) (n : ℕ) → rest b n 0 ≡ frames n b
 rest-start b n = rw sub-zero
 
-pub rest-next : (b : List ℕ) (n i : ℕ) → i < n → rest b n i ≡ part b (frameSize * i) frameSize ∷ rest b n (i + 1)
+pub rest-next : (b : List ℕ) (n i : ℕ) → i < n → rest b n i ≡ part b (frame_size * i) frame_size ∷ rest b n (i + 1)
 unfolding frames
 rest-next b n i h =
     let q : n - i ≡ suc (n - (i + 1)) = omega arith in
-    let p : frameSize * i + frameSize ≡ frameSize * (i + 1) = omega arith in
+    let p : frame_size * i + frame_size ≡ frame_size * (i + 1) = omega arith in
     rw q
-    (ap (λ (l : List ℕ). part b (frameSize * i) frameSize ∷ frames (n - (i + 1)) l)
-    (drop-drop frameSize (frameSize * i) b ∙ ap (λ (k : ℕ). drop k b) p))
+    (ap (λ (l : List ℕ). part b (frame_size * i) frame_size ∷ frames (n - (i + 1)) l)
+    (drop-drop frame_size (frame_size * i) b ∙ ap (λ (k : ℕ). drop k b) p))
 
 pub rest_end : (b : List ℕ) (n i : ℕ) → n ≤ i → rest b n i ≡ []
 unfolding frames
@@ -33,7 +33,7 @@ rest_end b n i h =
     rw z
 
 -- the part that the code lends
-pub frame-part : (b : List ℕ) (s : ℕ) → take (s + frameSize - s) (drop s b) ≡ part b s frameSize
+pub frame-part : (b : List ℕ) (s : ℕ) → take (s + frame_size - s) (drop s b) ≡ part b s frame_size
 frame-part b s =
-    let z : s + frameSize - s ≡ frameSize = omega arith in
+    let z : s + frame_size - s ≡ frame_size = omega arith in
     rw z

@@ -3,7 +3,7 @@
 #![tactic(auto)]
 
 ghost use Rattle.std.specs.Prelude.{◌≡◌, ◌≤◌, ◌<◌};
-ghost use Rattle.apollo.specs.Size.{frameSize};
+ghost use Rattle.apollo.specs.Size.{frame_size};
 ghost use Rattle.apollo.specs.Bytes as Bytes;
 ghost use Rattle.apollo.specs.Frame as Frame;
 
@@ -17,7 +17,7 @@ fn wide(b: u8) -> u32
 
 #[tactic(auto, unfolding(apollo::specs::Bytes::number4))]
 fn number4(x: &[u8], start: usize) -> u32
-    requires { start ≤ frameSize }
+    requires { start ≤ frame_size }
     ensures { result ≡ Bytes.number4 x.now start }
 {
     let a = wide(slices::byte(x, start));
@@ -41,7 +41,7 @@ pub fn signer(x: &[u8]) -> u8
 
 #[tactic(auto, unfolding(apollo::specs::Bytes::number2))]
 pub fn entry_length(x: &[u8]) -> usize
-    ensures { (result ≡ Frame.entryLength x.now) × (result < 65536) }
+    ensures { (result ≡ Frame.entry_length x.now) × (result < 65536) }
 {
     let a = wide(slices::byte(x, 2));
     let b = wide(slices::byte(x, 3));
@@ -75,9 +75,9 @@ pub fn linked(p: &[u8], x: &[u8]) -> bool
 }
 
 // 1 to `most` whole frames.
-#[tactic(auto, unfolding(apollo::specs::Frame::wholeFrames))]
+#[tactic(auto, unfolding(apollo::specs::Frame::whole_frames))]
 pub fn is_whole(most: u32, frames: &[u8]) -> bool
-    ensures { result ≡ Frame.wholeFrames most frames.now }
+    ensures { result ≡ Frame.whole_frames most frames.now }
 {
     let n = frames.len() / FRAME;
     if frames.len() % FRAME != 0 {
@@ -91,7 +91,7 @@ pub fn is_whole(most: u32, frames: &[u8]) -> bool
 
 // The last frame of a branch, fewer bytes where there is no whole one.
 pub fn last_frame<'a>(frames: &'a [u8]) -> &'a [u8]
-    ensures { result.now ≡ Frame.lastFrame frames.now }
+    ensures { result.now ≡ Frame.last_frame frames.now }
 {
     let n = frames.len();
     if n < FRAME {

@@ -3,10 +3,10 @@
 
 ghost use Rattle.std.specs.Prelude.{◌≡◌, [], ◌∷◌, ◌+◌, ◌-◌, ◌*◌, ◌%◌, ◌≤◌, length};
 ghost use Rattle.sha256.specs.Fips.{sha256};
-ghost use Rattle.apollo.specs.Size.{frameSize};
+ghost use Rattle.apollo.specs.Size.{frame_size};
 ghost use Rattle.apollo.specs.Bytes.{same};
 ghost use Rattle.apollo.specs.Frame as Frame;
-ghost use Rattle.frame_checks.specs.Ahead.{checkedAt, checksFrom, Held};
+ghost use Rattle.frame_checks.specs.Ahead.{checked_at, checks_from, Held};
 
 use apollo::size::{CHECK, FRAME};
 
@@ -27,8 +27,8 @@ fn checked(x: &[u8]) -> bool
 
 // Frame i is there, and its check is right.
 fn checked_at(frames: &[u8], i: usize) -> bool
-    requires { frameSize * i ≤ length frames.now }
-    ensures { result ≡ checkedAt frames.now i }
+    requires { frame_size * i ≤ length frames.now }
+    ensures { result ≡ checked_at frames.now i }
 {
     let a = FRAME * i;
     if frames.len() - a < FRAME {
@@ -40,8 +40,8 @@ fn checked_at(frames: &[u8], i: usize) -> bool
 
 // Whether the checks of four frames are right.
 fn check_four(x0: &[u8], x1: &[u8], x2: &[u8], x3: &[u8]) -> [bool; 4]
-    requires { (length x0.now ≡ frameSize) × (length x1.now ≡ frameSize)
-        × (length x2.now ≡ frameSize) × (length x3.now ≡ frameSize) }
+    requires { (length x0.now ≡ frame_size) × (length x1.now ≡ frame_size)
+        × (length x2.now ≡ frame_size) × (length x3.now ≡ frame_size) }
     ensures { result ≡ Frame.checked sha256 x0.now ∷ Frame.checked sha256 x1.now
         ∷ Frame.checked sha256 x2.now ∷ Frame.checked sha256 x3.now ∷ [] }
 {
@@ -60,8 +60,8 @@ fn check_four(x0: &[u8], x1: &[u8], x2: &[u8], x3: &[u8]) -> [bool; 4]
 
 // Frame i and the three behind it: whether each is there and its check is right. Of three frames the first stands in the fourth lane too.
 fn check_ahead(frames: &[u8], i: usize) -> [bool; 4]
-    requires { frameSize * i + frameSize ≤ length frames.now }
-    ensures { result ≡ checksFrom frames.now i }
+    requires { frame_size * i + frame_size ≤ length frames.now }
+    ensures { result ≡ checks_from frames.now i }
 {
     let n = frames.len() / FRAME - i;
     if n < 3 {
@@ -83,8 +83,8 @@ fn check_ahead(frames: &[u8], i: usize) -> [bool; 4]
 
 // The checks of the group of four that frame i is in: made where it begins one, else those that are known.
 pub fn renew(known: [bool; 4], frames: &[u8], i: usize) -> [bool; 4]
-    requires { (frameSize * i + frameSize ≤ length frames.now) × Held frames.now i known }
-    ensures { result ≡ checksFrom frames.now (i - i % 4) }
+    requires { (frame_size * i + frame_size ≤ length frames.now) × Held frames.now i known }
+    ensures { result ≡ checks_from frames.now (i - i % 4) }
 {
     if i % 4 == 0 {
         return check_ahead(frames, i);

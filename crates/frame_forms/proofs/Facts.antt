@@ -5,32 +5,32 @@ use mathlib.Core.List.{List}
 use Prim.Native.Nat.{ℕ, ◌+◌, ◌≤◌, ◌<◌}
 use lib.Dec.{eqb, leb, ltb}
 use borrow.Author.Tests.{eqb-true, leb-true, ltb-true}
-use Rattle.apollo.specs.Size.{checkAt}
+use Rattle.apollo.specs.Size.{check_at}
 use Rattle.apollo.specs.Bytes.{within, blank}
 use Rattle.apollo.specs.declared.Setup.{Setup}
 use Rattle.apollo.specs.Setup.{replicas, leader}
-use Rattle.apollo.specs.Frame.{kind, signer, entryLength, round, height, blockForm, blameForm}
+use Rattle.apollo.specs.Frame.{kind, signer, entry_length, round, height, block_form, blame_form}
 use Rattle.apollo.proofs.Tests.{and-true}
 
 pub record BlockFields (s : Setup) (x : List ℕ) : Type 0 where
   pub of-block : kind x ≡ 1
   pub by-leader : signer x ≡ leader s (round x)
-  pub entry-fits : entryLength x ≤ 400
+  pub entry-fits : entry_length x ≤ 400
   pub round-low : 1 ≤ round x
   pub round-high : round x ≤ s.last_round.0
   pub height-low : 1 ≤ height x
   pub height-high : height x ≤ round x
-  pub rest : blank x (44 + entryLength x) checkAt ≡ true
+  pub rest : blank x (44 + entry_length x) check_at ≡ true
 
-pub block-fields : (s : Setup) (x : List ℕ) → blockForm s x ≡ true → BlockFields s x
-unfolding blockForm
+pub block-fields : (s : Setup) (x : List ℕ) → block_form s x ≡ true → BlockFields s x
+unfolding block_form
 block-fields s x e =
     let k : Bool = eqb (kind x) 1 in
     let g : Bool = eqb (signer x) (leader s (round x)) in
-    let n : Bool = leb (entryLength x) 400 in
+    let n : Bool = leb (entry_length x) 400 in
     let r : Bool = within 1 (round x) s.last_round.0 in
     let h : Bool = within 1 (height x) (round x) in
-    let z : Bool = blank x (44 + entryLength x) checkAt in
+    let z : Bool = blank x (44 + entry_length x) check_at in
     let e₅ : k && g && n && r && h ≡ true = (and-true (k && g && n && r && h) z e).0 in
     let e₄ : k && g && n && r ≡ true = (and-true (k && g && n && r) h e₅).0 in
     let e₃ : k && g && n ≡ true = (and-true (k && g && n) r e₄).0 in
@@ -40,7 +40,7 @@ block-fields s x e =
     record {
       of-block = eqb-true (kind x) 1 (and-true k g e₂).0;
       by-leader = eqb-true (signer x) (leader s (round x)) (and-true k g e₂).1;
-      entry-fits = leb-true (entryLength x) 400 (and-true (k && g) n e₃).1;
+      entry-fits = leb-true (entry_length x) 400 (and-true (k && g) n e₃).1;
       round-low = leb-true 1 (round x) (and-true (leb 1 (round x)) (leb (round x) s.last_round.0) er).0;
       round-high = leb-true (round x) s.last_round.0 (and-true (leb 1 (round x)) (leb (round x) s.last_round.0) er).1;
       height-low = leb-true 1 (height x) (and-true (leb 1 (height x)) (leb (height x) (round x)) eh).0;
@@ -54,14 +54,14 @@ pub record BlameFields (s : Setup) (x : List ℕ) : Type 0 where
   pub round-low : 1 ≤ round x
   pub round-high : round x ≤ s.last_round.0
 
-pub blame-fields : (s : Setup) (x : List ℕ) → blameForm s x ≡ true → BlameFields s x
-unfolding blameForm
+pub blame-fields : (s : Setup) (x : List ℕ) → blame_form s x ≡ true → BlameFields s x
+unfolding blame_form
 blame-fields s x e =
     let k : Bool = eqb (kind x) 2 in
     let g : Bool = ltb (signer x) (replicas s) in
     let n : Bool = blank x 2 4 in
     let r : Bool = within 1 (round x) s.last_round.0 in
-    let z : Bool = blank x 8 checkAt in
+    let z : Bool = blank x 8 check_at in
     let e₄ : k && g && n && r ≡ true = (and-true (k && g && n && r) z e).0 in
     let e₂ : k && g ≡ true = (and-true (k && g) n (and-true (k && g && n) r e₄).0).0 in
     let er : r ≡ true = (and-true (k && g && n) r e₄).1 in

@@ -28,9 +28,9 @@ fn within(lo: u32, n: u32, hi: u32) -> bool
 }
 
 // x has the form of a block.
-#[tactic(auto, unfolding(apollo::specs::Frame::blockForm))]
+#[tactic(auto, unfolding(apollo::specs::Frame::block_form))]
 pub fn block_form(s: Setup, x: &[u8]) -> bool
-    ensures { result ≡ Frame.blockForm s x.now }
+    ensures { result ≡ Frame.block_form s x.now }
 {
     let r = frame::round(x);
     let n = frame::entry_length(x);
@@ -53,9 +53,9 @@ pub fn block_form(s: Setup, x: &[u8]) -> bool
 }
 
 // x has the form of a blame.
-#[tactic(auto, unfolding(apollo::specs::Frame::blameForm))]
+#[tactic(auto, unfolding(apollo::specs::Frame::blame_form))]
 pub fn blame_form(s: Setup, x: &[u8]) -> bool
-    ensures { result ≡ Frame.blameForm s x.now }
+    ensures { result ≡ Frame.blame_form s x.now }
 {
     if frame::kind(x) != 2 {
         return false;

@@ -2,7 +2,7 @@
 #![tactic(auto)]
 
 ghost use Rattle.std.specs.Prelude.{◌≡◌, ◌+◌, ◌-◌, ◌≤◌, ◌∷◌, ◌++◌, length, take, drop};
-ghost use Rattle.apollo.specs.Size.{checkAt, entryMost, frameSize};
+ghost use Rattle.apollo.specs.Size.{check_at, entry_most, frame_size};
 ghost use Rattle.apollo.specs.Bytes as Bytes;
 ghost use Rattle.apollo.specs.Frame as Frame;
 ghost use Rattle.sha256.specs.Fips.{sha256};
@@ -29,8 +29,8 @@ fn put_zeros(out: &mut [u8], start: usize, end: usize)
 
 // Writes the check behind the first 480 bytes.
 fn seal(out: &mut [u8])
-    requires { frameSize ≤ length out.old }
-    ensures { Written out.old checkAt (sha256 (take checkAt out.old)) out.new }
+    requires { frame_size ≤ length out.old }
+    ensures { Written out.old check_at (sha256 (take check_at out.old)) out.new }
 {
     let d = sha256::digest(&out[..480]);
     put(out, CHECK, &d);
@@ -74,9 +74,9 @@ fn blame_start(id: u8, round: u32) -> [u8; 8]
 
 // Writes the block that replica `id` makes to the front of out.
 pub fn put_block(out: &mut [u8], id: u8, round: u32, height: u32, parent: &[u8], entry: &[u8])
-    requires { (frameSize ≤ length out.old) × (length parent.now ≡ 32) × (length entry.now ≤ entryMost) }
+    requires { (frame_size ≤ length out.old) × (length parent.now ≡ 32) × (length entry.now ≤ entry_most) }
     ensures { out.new
-        ≡ Frame.makeBlock sha256 id round height parent.now entry.now ++ drop frameSize out.old }
+        ≡ Frame.make_block sha256 id round height parent.now entry.now ++ drop frame_size out.old }
 {
     let n = entry.len();
     let start = block_start(id, n, round, height);
@@ -89,8 +89,8 @@ pub fn put_block(out: &mut [u8], id: u8, round: u32, height: u32, parent: &[u8],
 
 // Writes the blame that replica `id` makes to the front of out.
 pub fn put_blame(out: &mut [u8], id: u8, round: u32)
-    requires { frameSize ≤ length out.old }
-    ensures { out.new ≡ Frame.makeBlame sha256 id round ++ drop frameSize out.old }
+    requires { frame_size ≤ length out.old }
+    ensures { out.new ≡ Frame.make_blame sha256 id round ++ drop frame_size out.old }
 {
     let start = blame_start(id, round);
     put(out, 0, &start);

@@ -5,7 +5,7 @@
 ghost use Rattle.std.specs.Prelude.{◌≡◌};
 ghost use Rattle.sha256.specs.Fips as Fips;
 ghost use Rattle.apollo.specs.Calls.{state, outcome, fetched};
-ghost use Rattle.apollo.specs.Calls.{openCall, branchCall, blameCall, blamesCall, tickCall, readCall, fetchCall, equivocationCall};
+ghost use Rattle.apollo.specs.Calls.{open_call, branch_call, blame_call, blames_call, tick_call, read_call, fetch_call, equivocation_call};
 
 use apollo::{Answer, Fetched, Height, Marked, Part, Replica, Round, Ticks};
 
@@ -30,7 +30,7 @@ pub extern "C" fn apollo_open(
     out: &mut [u8],
 ) -> Answer
     ensures { outcome result log.new masks.new out.new
-        ≡ openCall id f timeout.0 last_round.0 rotation.now log.old masks.old
+        ≡ open_call id f timeout.0 last_round.0 rotation.now log.old masks.old
         entry.now out.old }
 {
     call_open::open(id, f, timeout, last_round, rotation, log, masks, entry, out)
@@ -46,7 +46,7 @@ pub extern "C" fn apollo_branch(
     out: &mut [u8],
 ) -> Answer
     ensures { outcome result log.new masks.now out.new
-        ≡ branchCall (state replica log.old masks.now) frames.now entry.now
+        ≡ branch_call (state replica log.old masks.now) frames.now entry.now
         out.old }
 {
     call_branch::branch(replica, log, masks, frames, entry, out)
@@ -62,7 +62,7 @@ pub extern "C" fn apollo_blame(
     out: &mut [u8],
 ) -> Answer
     ensures { outcome result log.new masks.new out.new
-        ≡ blameCall (state replica log.old masks.old) frame.now entry.now
+        ≡ blame_call (state replica log.old masks.old) frame.now entry.now
         out.old }
 {
     call_blame::blame(replica, log, masks, frame, entry, out)
@@ -78,7 +78,7 @@ pub extern "C" fn apollo_blames(
     out: &mut [u8],
 ) -> Answer
     ensures { outcome result log.new masks.new out.new
-        ≡ blamesCall (state replica log.old masks.old) frames.now entry.now
+        ≡ blames_call (state replica log.old masks.old) frames.now entry.now
         out.old }
 {
     call_blame::blames(replica, log, masks, frames, entry, out)
@@ -93,14 +93,14 @@ pub extern "C" fn apollo_tick(
     out: &mut [u8],
 ) -> Answer
     ensures { outcome result log.new masks.new out.new
-        ≡ tickCall (state replica log.old masks.old) entry.now out.old }
+        ≡ tick_call (state replica log.old masks.old) entry.now out.old }
 {
     call_tick::tick(replica, log, masks, entry, out)
 }
 
 #[unsafe(no_mangle)]
 pub extern "C" fn apollo_read(replica: Replica, log: &[u8], height: Height) -> Part
-    ensures { result ≡ (readCall replica log.now height.0).answer }
+    ensures { result ≡ (read_call replica log.now height.0).answer }
 {
     call_read::read_part(replica, log, height)
 }
@@ -112,14 +112,14 @@ pub extern "C" fn apollo_fetch(
     height: Height,
     out: &mut [u8],
 ) -> Fetched
-    ensures { fetched result out.new ≡ fetchCall replica log.now height.0 out.old }
+    ensures { fetched result out.new ≡ fetch_call replica log.now height.0 out.old }
 {
     call_fetch::fetch(replica, log, height, out)
 }
 
 #[unsafe(no_mangle)]
 pub extern "C" fn apollo_equivocation(replica: Replica, frames: &[u8]) -> Marked
-    ensures { result ≡ equivocationCall replica frames.now }
+    ensures { result ≡ equivocation_call replica frames.now }
 {
     call_equivocation::equivocation(replica, frames)
 }

@@ -9,19 +9,19 @@ use lib.Dec.{eqb}
 use lib.ListN.{take, drop}
 use borrow.Author.Tests.{eq-eqb, ne_eqb, eqb-true}
 use Rattle.sha256.specs.Fips.{sha256}
-use Rattle.apollo.specs.Size.{frameSize}
+use Rattle.apollo.specs.Size.{frame_size}
 use Rattle.apollo.specs.Bytes.{part}
 use Rattle.apollo.specs.declared.Setup.{Setup}
 use Rattle.apollo.specs.declared.Verdict.{Verdict}
 use Rattle.apollo.specs.Frame.{frames}
-use Rattle.apollo.specs.Judging.{verdict, noRefusal}
-use Rattle.apollo.specs.BlockRun.{faulty, judgedNext, judgedRun}
+use Rattle.apollo.specs.Judging.{verdict, no_refusal}
+use Rattle.apollo.specs.BlockRun.{faulty, judged_next, judged_run}
 use Rattle.apollo.proofs.Frames.{frames-split}
 use Rattle.frame.proofs.Frames.{rest, rest-next, rest_end, frame-part}
 
 -- behind nothing 9 does not come
-pub next_any : (s : Setup) (x : List ℕ) → judgedNext sha256 s none x ≡ faulty sha256 s x
-unfolding judgedNext
+pub next_any : (s : Setup) (x : List ℕ) → judged_next sha256 s none x ≡ faulty sha256 s x
+unfolding judged_next
 next_any s x = go (eqb (faulty sha256 s x) 0) refl
   where
     go : (z : Bool) → eqb (faulty sha256 s x) 0 ≡ z → cond z 0 (faulty sha256 s x) ≡ faulty sha256 s x
@@ -29,46 +29,46 @@ next_any s x = go (eqb (faulty sha256 s x) 0) refl
     go false e = refl
 
 -- a step of judging, by what the next frame's number is
-module _ (s : Setup) (p : Option (List ℕ)) (x : List ℕ) (xs : List (List ℕ)) (i k : ℕ) (d : k ≡ judgedNext sha256 s p x) where
-  step-on : k ≡ 0 → judgedRun sha256 s i p (x ∷ xs) ≡ judgedRun sha256 s (i + 1) (some x) xs
-  unfolding judgedRun
+module _ (s : Setup) (p : Option (List ℕ)) (x : List ℕ) (xs : List (List ℕ)) (i k : ℕ) (d : k ≡ judged_next sha256 s p x) where
+  step-on : k ≡ 0 → judged_run sha256 s i p (x ∷ xs) ≡ judged_run sha256 s (i + 1) (some x) xs
+  unfolding judged_run
   step-on z = rw (← d, eq-eqb k 0 z)
 
-  step-stop : (k ≡ 0 → ⊥) → judgedRun sha256 s i p (x ∷ xs) ≡ verdict k i
-  unfolding judgedRun
+  step-stop : (k ≡ 0 → ⊥) → judged_run sha256 s i p (x ∷ xs) ≡ verdict k i
+  unfolding judged_run
   step-stop n = rw (← d, ne_eqb k 0 n)
 
 -- along the frames
 module _ (s : Setup) (b : List ℕ) (n : ℕ) where
   module _ (p : Option (List ℕ)) where
-    pub run_none : n ≡ 0 → noRefusal ≡ judgedRun sha256 s 0 p (frames n b)
-    unfolding judgedRun frames
+    pub run_none : n ≡ 0 → no_refusal ≡ judged_run sha256 s 0 p (frames n b)
+    unfolding judged_run frames
     run_none e = rw e
 
-    module _ (h : 0 < n) (k : ℕ) (d : k ≡ judgedNext sha256 s p (take frameSize b)) where
-      pub run-first : (k ≡ 0 → ⊥) → verdict k 0 ≡ judgedRun sha256 s 0 p (frames n b)
-      run-first z = sym (ap (judgedRun sha256 s 0 p) (frames-split n b h) ∙ step-stop s p (take frameSize b) _ 0 k d z)
+    module _ (h : 0 < n) (k : ℕ) (d : k ≡ judged_next sha256 s p (take frame_size b)) where
+      pub run-first : (k ≡ 0 → ⊥) → verdict k 0 ≡ judged_run sha256 s 0 p (frames n b)
+      run-first z = sym (ap (judged_run sha256 s 0 p) (frames-split n b h) ∙ step-stop s p (take frame_size b) _ 0 k d z)
 
-      pub run-start : k ≡ 0 → judgedRun sha256 s 1 (some (take frameSize b)) (rest b n 1) ≡ judgedRun sha256 s 0 p (frames n b)
-      run-start z = sym (ap (judgedRun sha256 s 0 p) (frames-split n b h) ∙ step-on s p (take frameSize b) _ 0 k d z)
+      pub run-start : k ≡ 0 → judged_run sha256 s 1 (some (take frame_size b)) (rest b n 1) ≡ judged_run sha256 s 0 p (frames n b)
+      run-start z = sym (ap (judged_run sha256 s 0 p) (frames-split n b h) ∙ step-on s p (take frame_size b) _ 0 k d z)
 
   module _ (i k : ℕ) (goal : Verdict) (h : 1 ≤ i) (g : i < n)
-      (d : k ≡ judgedNext sha256 s (some (take (frameSize * i - (frameSize * i - frameSize)) (drop (frameSize * i - frameSize) b))) (take (frameSize * i + frameSize - frameSize * i) (drop (frameSize * i) b)))
-      (e : judgedRun sha256 s i (some (part b (frameSize * (i - 1)) frameSize)) (rest b n i) ≡ goal) where
-    next-is : k ≡ judgedNext sha256 s (some (part b (frameSize * (i - 1)) frameSize)) (part b (frameSize * i) frameSize)
+      (d : k ≡ judged_next sha256 s (some (take (frame_size * i - (frame_size * i - frame_size)) (drop (frame_size * i - frame_size) b))) (take (frame_size * i + frame_size - frame_size * i) (drop (frame_size * i) b)))
+      (e : judged_run sha256 s i (some (part b (frame_size * (i - 1)) frame_size)) (rest b n i) ≡ goal) where
+    next-is : k ≡ judged_next sha256 s (some (part b (frame_size * (i - 1)) frame_size)) (part b (frame_size * i) frame_size)
     next-is =
-        let y : frameSize * i - (frameSize * i - frameSize) ≡ frameSize = omega arith in
-        let z : frameSize * i - frameSize ≡ frameSize * (i - 1) = omega arith in
-        rw (y, z, frame-part b (frameSize * i)) at d
+        let y : frame_size * i - (frame_size * i - frame_size) ≡ frame_size = omega arith in
+        let z : frame_size * i - frame_size ≡ frame_size * (i - 1) = omega arith in
+        rw (y, z, frame-part b (frame_size * i)) at d
 
     pub run-stop : (k ≡ 0 → ⊥) → verdict k i ≡ goal
     run-stop z = sym (step-stop s _ _ (rest b n (i + 1)) i k next-is z) ∙ (rw (rest-next b n i g) at e)
 
-    pub run_more : k ≡ 0 → judgedRun sha256 s (i + 1) (some (part b (frameSize * (i + 1 - 1)) frameSize)) (rest b n (i + 1)) ≡ goal
+    pub run_more : k ≡ 0 → judged_run sha256 s (i + 1) (some (part b (frame_size * (i + 1 - 1)) frame_size)) (rest b n (i + 1)) ≡ goal
     run_more z =
         let y : i + 1 - 1 ≡ i = omega arith in
         rw y (sym (step-on s _ _ (rest b n (i + 1)) i k next-is z) ∙ (rw (rest-next b n i g) at e))
 
-  pub run_end : (i : ℕ) (q : Option (List ℕ)) (goal : Verdict) → n ≤ i → judgedRun sha256 s i q (rest b n i) ≡ goal → noRefusal ≡ goal
-  unfolding judgedRun
+  pub run_end : (i : ℕ) (q : Option (List ℕ)) (goal : Verdict) → n ≤ i → judged_run sha256 s i q (rest b n i) ≡ goal → no_refusal ≡ goal
+  unfolding judged_run
   run_end i q goal h e = rw (rest_end b n i h) at e

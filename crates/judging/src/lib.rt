@@ -5,12 +5,12 @@
 ghost use Rattle.std.specs.Prelude.{◌≡◌, ◌*◌, ◌≤◌, length};
 ghost use Rattle.std.proofs.Math.Option.{some};
 ghost use Rattle.sha256.specs.Fips.{sha256};
-ghost use Rattle.apollo.specs.Size.{frameSize};
+ghost use Rattle.apollo.specs.Size.{frame_size};
 ghost use Rattle.apollo.specs.Frame as Frame;
-ghost use Rattle.apollo.specs.Frame.{framesOf};
-ghost use Rattle.apollo.specs.Judging.{judgedEach};
+ghost use Rattle.apollo.specs.Frame.{frames_of};
+ghost use Rattle.apollo.specs.Judging.{judged_each};
 ghost use Rattle.apollo.specs.BlockRun as BlockRun;
-ghost use Rattle.apollo.specs.BlockRun.{judgedNext, judgedRun};
+ghost use Rattle.apollo.specs.BlockRun.{judged_next, judged_run};
 ghost use Rattle.frame_forms.specs.Forms.{form_of};
 ghost use Rattle.judging.specs.Starts.{start_of};
 
@@ -27,8 +27,8 @@ pub enum Start {
 
 // 7 and 8 of the frames, each of which is to have that form.
 pub fn judge_each(form: Form, s: Setup, frames: &[u8]) -> Verdict
-    requires { length frames.now ≤ frameSize * 4294967295 }
-    ensures { result ≡ judgedEach sha256 (form_of form s) 0 (framesOf frames.now) }
+    requires { length frames.now ≤ frame_size * 4294967295 }
+    ensures { result ≡ judged_each sha256 (form_of form s) 0 (frames_of frames.now) }
 {
     let n = frames.len() / FRAME;
     let mut known = [false; 4];
@@ -53,9 +53,9 @@ pub fn judge_each(form: Form, s: Setup, frames: &[u8]) -> Verdict
 }
 
 // Frame x is the child of frame p.
-#[tactic(auto, unfolding(apollo::specs::BlockRun::childOf))]
+#[tactic(auto, unfolding(apollo::specs::BlockRun::child_of))]
 fn is_child(p: &[u8], x: &[u8]) -> bool
-    ensures { result ≡ BlockRun.childOf p.now x.now }
+    ensures { result ≡ BlockRun.child_of p.now x.now }
 {
     if !frame::linked(p, x) {
         return false;
@@ -64,10 +64,10 @@ fn is_child(p: &[u8], x: &[u8]) -> bool
 }
 
 // 7, 8 and 9 of frame x behind frame p. `checked`: the check of x is right.
-#[tactic(auto, unfolding(apollo::specs::BlockRun::judgedNext))]
+#[tactic(auto, unfolding(apollo::specs::BlockRun::judged_next))]
 fn judge_next(s: Setup, p: &[u8], x: &[u8], checked: bool) -> u8
     requires { checked ≡ Frame.checked sha256 x.now }
-    ensures { result ≡ judgedNext sha256 s (some p.now) x.now }
+    ensures { result ≡ judged_next sha256 s (some p.now) x.now }
 {
     let fault = frame_forms::fault(Form::Block, s, x, checked);
     if fault != 0 {
@@ -84,7 +84,7 @@ fn judge_next(s: Setup, p: &[u8], x: &[u8], checked: bool) -> u8
 #[tactic(auto, using(crate::proofs::Run::next_any), unfolding(apollo::specs::Log::genesis, apollo::specs::Bytes::zeros))]
 fn judge_first(s: Setup, start: Start, x: &[u8], checked: bool) -> u8
     requires { checked ≡ Frame.checked sha256 x.now }
-    ensures { result ≡ judgedNext sha256 s (start_of start) x.now }
+    ensures { result ≡ judged_next sha256 s (start_of start) x.now }
 {
     match start {
         Start::AnyParent => frame_forms::fault(Form::Block, s, x, checked),
@@ -97,8 +97,8 @@ fn judge_first(s: Setup, start: Start, x: &[u8], checked: bool) -> u8
 
 // 7, 8 and 9 of the frames, each behind the one before it.
 pub fn judge_run(s: Setup, start: Start, frames: &[u8]) -> Verdict
-    requires { length frames.now ≤ frameSize * 4294967295 }
-    ensures { result ≡ judgedRun sha256 s 0 (start_of start) (framesOf frames.now) }
+    requires { length frames.now ≤ frame_size * 4294967295 }
+    ensures { result ≡ judged_run sha256 s 0 (start_of start) (frames_of frames.now) }
 {
     let n = frames.len() / FRAME;
     if n == 0 {

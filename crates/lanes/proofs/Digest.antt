@@ -12,7 +12,7 @@ use Rattle.compression.proofs.Blocks.{hash-more}
 use Rattle.sha256.specs.Fips.{zeros, bytes8, padded, block, H0, compress, hash, bytes_of, sha256}
 use Rattle.sha256.proofs.Padding.{block-front}
 use Rattle.sha256.proofs.Hash.{digest-end}
-use Rattle.lanes.specs.Lane.{stateAt, pick, Each, Compressed}
+use Rattle.lanes.specs.Lane.{state_at, pick, Each, Compressed}
 
 -- the first t bytes of the last block are copied, and the others are zero
 abbrev pub Copied : List ℕ → ℕ → List ℕ
@@ -58,7 +58,7 @@ pick-each f p q r s (suc (suc (suc m))) = s
 
 -- the hash values of the lanes after i blocks of the padded messages
 pub record Hashed (p : ℕ → List ℕ) (i : ℕ) (h : List ℕ) : Type 0 where
-  pub at : (m : ℕ) → m < 4 → stateAt h m ≡ hash H0 (padded (p m)) i
+  pub at : (m : ℕ) → m < 4 → state_at h m ≡ hash H0 (padded (p m)) i
 
 pub hashed-start : (p : ℕ → List ℕ) (h : List ℕ) (s : State) → s ≡ H0 → Each s h → Hashed p 0 h
 unfolding hash

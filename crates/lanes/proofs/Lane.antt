@@ -13,7 +13,7 @@ use Rattle.compression.specs.Fips.{K, word_at, add32, σ0, σ1, schedule, round,
 use Rattle.compression.specs.Window.{Window}
 use Rattle.compression.proofs.Schedule.{load_step, extend-step}
 use Rattle.compression.specs.declared.State.{State}
-use Rattle.lanes.specs.Lane.{column, lane, stateAt, pick, Kept, Put}
+use Rattle.lanes.specs.Lane.{column, lane, state_at, pick, Kept, Put}
 
 length-column : (w : List ℕ) (i n : ℕ) → length (column w i n) ≡ n
 unfolding column
@@ -77,7 +77,7 @@ lane-extend w i l x h g e q =
     q))
 
 -- a store in lane l is none in another lane's variables
-state-kept : (v : List ℕ) (i l x m : ℕ) → l < 4 → m < 4 → (m ≡ l → ⊥) → stateAt (set v (4 * i + l) x) m ≡ stateAt v m
+state-kept : (v : List ℕ) (i l x m : ℕ) → l < 4 → m < 4 → (m ≡ l → ⊥) → state_at (set v (4 * i + l) x) m ≡ state_at v m
 state-kept v i l x m g h n =
     rw (at m (λ e. omega arith), at (4 + m) (λ e. omega arith), at (8 + m) (λ e. omega arith), at (12 + m) (λ e. omega arith), at (16 + m) (λ e. omega arith), at (20 + m) (λ e. omega arith), at (24 + m) (λ e. omega arith), at (28 + m) (λ e. omega arith))
   where
@@ -98,7 +98,7 @@ eight c =
       h = get_or c 7 0;
     }
 
-state-eight : (v : List ℕ) (l : ℕ) → stateAt v l ≡ eight (column v l 8)
+state-eight : (v : List ℕ) (l : ℕ) → state_at v l ≡ eight (column v l 8)
 unfolding eight
 state-eight v l =
     let z : 0 + l ≡ l = omega arith in
@@ -181,8 +181,8 @@ upto_step {P} {Q} {P'} {Q'} l g here below above u =
     at m e = rw e (here (u.left l (omega arith) g))
 
 -- the variables of one lane more are written
-pub upto_put : (P Q : ℕ → State → Type 0) {v v' : List ℕ} {r : State} (l : ℕ) → l < 4 → (Q l (stateAt v l) → P l r) → Put l r v v'
-    → Upto l (λ m. P m (stateAt v m)) (λ m. Q m (stateAt v m)) → Upto (l + 1) (λ m. P m (stateAt v' m)) (λ m. Q m (stateAt v' m))
+pub upto_put : (P Q : ℕ → State → Type 0) {v v' : List ℕ} {r : State} (l : ℕ) → l < 4 → (Q l (state_at v l) → P l r) → Put l r v v'
+    → Upto l (λ m. P m (state_at v m)) (λ m. Q m (state_at v m)) → Upto (l + 1) (λ m. P m (state_at v' m)) (λ m. Q m (state_at v' m))
 upto_put P Q l g f u =
     upto_step l g (λ q. rw u.here (f q)) (λ m h n p. rw (u.same m h n) p) (λ m h n q. rw (u.same m h n) q)
 

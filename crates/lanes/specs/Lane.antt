@@ -14,8 +14,8 @@ abbrev pub lane : List ℕ → ℕ → List ℕ
 lane w l = column w l 16
 
 -- the eight variables of lane l
-abbrev pub stateAt : List ℕ → ℕ → State
-stateAt v l =
+abbrev pub state_at : List ℕ → ℕ → State
+state_at v l =
     record {
       a = get_or v l 0;
       b = get_or v (4 + l) 0;
@@ -34,13 +34,13 @@ pub record Kept (l : ℕ) (w w' : List ℕ) : Type 0 where
 
 -- after t rounds in each lane, from the hash values h over the blocks b
 pub record AllTurned (h : ℕ → State) (b : ℕ → List ℕ) (t : ℕ) (v w : List ℕ) : Type 0 where
-  pub at : (m : ℕ) → m < 4 → Turned (h m) (schedule (b m) 64) t (stateAt v m) (lane w m)
+  pub at : (m : ℕ) → m < 4 → Turned (h m) (schedule (b m) 64) t (state_at v m) (lane w m)
 
 -- the variables of lane l are those of s, and the other lanes' are as they were
 pub record Put (l : ℕ) (s : State) (v v' : List ℕ) : Type 0 where
   pub wide : length v' ≡ 32
-  pub here : stateAt v' l ≡ s
-  pub same : (m : ℕ) → m < 4 → (m ≡ l → ⊥) → stateAt v' m ≡ stateAt v m
+  pub here : state_at v' l ≡ s
+  pub same : (m : ℕ) → m < 4 → (m ≡ l → ⊥) → state_at v' m ≡ state_at v m
 
 -- the list of lane m, of four
 unfoldable pub pick : List ℕ → List ℕ → List ℕ → List ℕ → ℕ → List ℕ
@@ -57,14 +57,14 @@ pub record Loaded (b : ℕ → List ℕ) (w : List ℕ) : Type 0 where
 -- the variables of each lane are s
 pub record Each (s : State) (v : List ℕ) : Type 0 where
   pub wide : length v ≡ 32
-  pub at : (m : ℕ) → m < 4 → stateAt v m ≡ s
+  pub at : (m : ℕ) → m < 4 → state_at v m ≡ s
 
 -- the variables v are added to each lane
 pub record Added (v h h' : List ℕ) : Type 0 where
   pub wide : length h' ≡ 32
-  pub at : (m : ℕ) → m < 4 → stateAt h' m ≡ plus (stateAt h m) (stateAt v m)
+  pub at : (m : ℕ) → m < 4 → state_at h' m ≡ plus (state_at h m) (state_at v m)
 
 -- each lane is one block further
 pub record Compressed (b : ℕ → List ℕ) (h h' : List ℕ) : Type 0 where
   pub wide : length h' ≡ 32
-  pub at : (m : ℕ) → m < 4 → stateAt h' m ≡ compress (stateAt h m) (b m)
+  pub at : (m : ℕ) → m < 4 → state_at h' m ≡ compress (state_at h m) (b m)

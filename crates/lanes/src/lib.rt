@@ -6,7 +6,7 @@ ghost use Rattle.std.specs.Prelude.{◌≡◌, ℕ, ◌+◌, ◌≤◌, ◌<◌,
 ghost use Rattle.compression.specs.Fips as Fips;
 ghost use Rattle.compression.specs.Window.{Window, Turned};
 ghost use Rattle.sha256.specs.Fips.{block, padded, sha256};
-ghost use Rattle.lanes.specs.Lane.{lane, stateAt, pick, Kept, Put, AllTurned, Loaded, Each, Added, Compressed};
+ghost use Rattle.lanes.specs.Lane.{lane, state_at, pick, Kept, Put, AllTurned, Loaded, Each, Added, Compressed};
 
 use compression::State;
 
@@ -67,7 +67,7 @@ fn next_rounds(s: State, k: &[u32; 64], w: &mut [u32; 64], t: usize, l: usize) -
 // The variables of lane l.
 fn state_at(v: &[u32; 32], l: usize) -> State
     requires { l < 4 }
-    ensures { result ≡ stateAt v.now l }
+    ensures { result ≡ state_at v.now l }
 {
     State {
         a: v[l],
@@ -148,7 +148,7 @@ fn first_rounds(s: State, k: &[u32; 64], w: &[u32; 64], l: usize) -> State
 fn first_lanes(v: &mut [u32; 32], k: &[u32; 64], w: &[u32; 64])
     requires { (k.now ≡ Fips.K) × (length v.old ≡ 32) }
     ensures turns { (b : ℕ → List ℕ) → Loaded b w.now
-        → AllTurned (stateAt v.old) b 16 v.new w.now }
+        → AllTurned (state_at v.old) b 16 v.new w.now }
     ensures sizes { length v.new ≡ 32 }
 {
     let mut l = 0;

@@ -9,13 +9,13 @@ use native.Mathlib.Omega.{arith}
 use lib.Dec.{ltb}
 use lib.ListN.{length, take, drop, length-take, length-drop, length-append}
 use lib.Seq.{take-length, take-append-le, take_at, drop-append-add, drop-drop}
-use Rattle.apollo.specs.Size.{frameSize}
+use Rattle.apollo.specs.Size.{frame_size}
 use Rattle.apollo.specs.Frame.{height}
 use Rattle.apollo.specs.Log.{slot, filled, store, chain}
 use Rattle.apollo.specs.Fetch.{above}
 use Rattle.apollo.proofs.Fetch.{above-append}
 use Rattle.frame.proofs.Frames.{frame-part}
-use Rattle.log_heights.specs.Fetch.{isTall, lastLow}
+use Rattle.log_heights.specs.Fetch.{is_tall, last_low}
 
 above-one : (h : ℕ) (x : List ℕ) (b : Bool) → above h (cond b (x ∷ []) []) ≡ cond (b && ltb h (height x)) (x ∷ []) []
 unfolding above
@@ -29,13 +29,13 @@ flatten-append (x ∷ xs) ys = rw (flatten-append xs ys) (sym (append_assoc x (f
 
 -- the slot above round r as the code lends it
 abbrev lent : (log : List ℕ) (r : ℕ) → List ℕ
-lent log r = take (frameSize * r + frameSize - frameSize * r) (drop (frameSize * r) log)
+lent log r = take (frame_size * r + frame_size - frame_size * r) (drop (frame_size * r) log)
 
 lent-slot : (log : List ℕ) (r : ℕ) → lent log r ≡ slot log (suc r)
 unfolding slot
-lent-slot log r = frame-part log (frameSize * r)
+lent-slot log r = frame-part log (frame_size * r)
 
-lent-size : (log : List ℕ) (r : ℕ) → frameSize * (r + 1) ≤ length log → length (lent log r) ≡ frameSize
+lent-size : (log : List ℕ) (r : ℕ) → frame_size * (r + 1) ≤ length log → length (lent log r) ≡ frame_size
 lent-size log r g = simp (length-take, length-drop) (omega arith)
 
 module _ (log : List ℕ) (h : ℕ) where
@@ -43,52 +43,52 @@ module _ (log : List ℕ) (h : ℕ) where
   abbrev pub up_to : (r : ℕ) → List (List ℕ)
   up_to r = above h (chain log r)
 
-  up_more : (r : ℕ) → up_to (suc r) ≡ up_to r ++ cond (isTall (slot log (suc r)) h) (slot log (suc r) ∷ []) []
-  unfolding chain isTall
+  up_more : (r : ℕ) → up_to (suc r) ≡ up_to r ++ cond (is_tall (slot log (suc r)) h) (slot log (suc r) ∷ []) []
+  unfolding chain is_tall
   up_more r =
       above-append h (chain log r) (cond (filled (slot log (suc r))) (slot log (suc r) ∷ []) [])
       ∙ ap (λ (l : List (List ℕ)). up_to r ++ l) (above-one h (slot log (suc r)) (filled (slot log (suc r))))
 
   -- none up to the last round before the first
-  low-none : (m lo : ℕ) → up_to lo ≡ [] → (lastLow log h lo m ≤ lo + m) × (up_to (lastLow log h lo m) ≡ [])
-  unfolding lastLow
+  low-none : (m lo : ℕ) → up_to lo ≡ [] → (last_low log h lo m ≤ lo + m) × (up_to (last_low log h lo m) ≡ [])
+  unfolding last_low
   low-none zero lo e = (omega arith, e)
-  low-none (suc m) lo e = by (low-none m (lo + 1)) (isTall (slot log (lo + 1)) h) refl
+  low-none (suc m) lo e = by (low-none m (lo + 1)) (is_tall (slot log (lo + 1)) h) refl
     where
-      by : (up_to (lo + 1) ≡ [] → (lastLow log h (lo + 1) m ≤ lo + 1 + m) × (up_to (lastLow log h (lo + 1) m) ≡ []))
-          → (b : Bool) → isTall (slot log (lo + 1)) h ≡ b
-          → (cond b lo (lastLow log h (lo + 1) m) ≤ lo + suc m) × (up_to (cond b lo (lastLow log h (lo + 1) m)) ≡ [])
+      by : (up_to (lo + 1) ≡ [] → (last_low log h (lo + 1) m ≤ lo + 1 + m) × (up_to (last_low log h (lo + 1) m) ≡ []))
+          → (b : Bool) → is_tall (slot log (lo + 1)) h ≡ b
+          → (cond b lo (last_low log h (lo + 1) m) ≤ lo + suc m) × (up_to (cond b lo (last_low log h (lo + 1) m)) ≡ [])
       by ih true t = (omega arith, e)
       by ih false t =
-          let f : isTall (slot log (suc lo)) h ≡ false = rw add-one at t in
-          let r : (lastLow log h (lo + 1) m ≤ lo + 1 + m) × (up_to (lastLow log h (lo + 1) m) ≡ []) =
+          let f : is_tall (slot log (suc lo)) h ≡ false = rw add-one at t in
+          let r : (last_low log h (lo + 1) m ≤ lo + 1 + m) × (up_to (last_low log h (lo + 1) m) ≡ []) =
           ih (rw add-one (up_more lo ∙ rw (e, f))) in
           (omega (arith, r.0), r.1)
 
-  pub last-low : (c r : ℕ) → r ≡ lastLow log h 0 c → (r ≤ c) × (up_to r ≡ [])
+  pub last-low : (c r : ℕ) → r ≡ last_low log h 0 c → (r ≤ c) × (up_to r ≡ [])
   last-low c r e =
-      let n : (lastLow log h 0 c ≤ 0 + c) × (up_to (lastLow log h 0 c) ≡ []) = low-none c 0 (unfold chain above in refl) in
+      let n : (last_low log h 0 c ≤ 0 + c) × (up_to (last_low log h 0 c) ≡ []) = low-none c 0 (unfold chain above in refl) in
       rw e (omega (arith, n.0), n.1)
 
   -- that round found in a walk upwards, at slot lo + 1 of c
-  low-more : (lo c : ℕ) → lo < c → lastLow log h lo (c - lo) ≡ cond (isTall (slot log (lo + 1)) h) lo (lastLow log h (lo + 1) (c - (lo + 1)))
-  unfolding lastLow
+  low-more : (lo c : ℕ) → lo < c → last_low log h lo (c - lo) ≡ cond (is_tall (slot log (lo + 1)) h) lo (last_low log h (lo + 1) (c - (lo + 1)))
+  unfolding last_low
   low-more lo c g =
       let q : c - lo ≡ suc (c - (lo + 1)) = omega arith in
       rw q
 
-  module _ (lo c : ℕ) (b : Bool) (e : b ≡ isTall (lent log lo) h) where
-    tall-slot : isTall (slot log (lo + 1)) h ≡ b
+  module _ (lo c : ℕ) (b : Bool) (e : b ≡ is_tall (lent log lo) h) where
+    tall-slot : is_tall (slot log (lo + 1)) h ≡ b
     tall-slot = rw add-one (sym (rw (lent-slot log lo) at e))
 
-    pub low-here : lo < c → b ≡ true → lo ≡ lastLow log h lo (c - lo)
+    pub low-here : lo < c → b ≡ true → lo ≡ last_low log h lo (c - lo)
     low-here g t = rw (low-more lo c g, tall-slot, t)
 
-    pub low-above : lo < c → b ≡ false → lastLow log h (lo + 1) (c - (lo + 1)) ≡ lastLow log h lo (c - lo)
+    pub low-above : lo < c → b ≡ false → last_low log h (lo + 1) (c - (lo + 1)) ≡ last_low log h lo (c - lo)
     low-above g t = rw (low-more lo c g, tall-slot, t)
 
-  pub low-all : (lo c : ℕ) → c ≤ lo → lo ≡ lastLow log h lo (c - lo)
-  unfolding lastLow
+  pub low-all : (lo c : ℕ) → c ≤ lo → lo ≡ last_low log h lo (c - lo)
+  unfolding last_low
   low-all lo c g =
       let z : c - lo ≡ 0 = omega arith in
       rw z
@@ -100,17 +100,17 @@ module _ (log : List ℕ) (h : ℕ) where
       rw e (le_refl _, take-length (up_to r))
   up_first r (suc d) =
       let e : r + suc d ≡ suc (r + d) = omega arith in
-      let q : List (List ℕ) = cond (isTall (slot log (suc (r + d))) h) (slot log (suc (r + d)) ∷ []) [] in
+      let q : List (List ℕ) = cond (is_tall (slot log (suc (r + d))) h) (slot log (suc (r + d)) ∷ []) [] in
       let ih : (length (up_to r) ≤ length (up_to (r + d))) × (take (length (up_to r)) (up_to (r + d)) ≡ up_to r) = up_first r d in
       let l : length (up_to (r + d) ++ q) ≡ length (up_to (r + d)) + length q = length-append (up_to (r + d)) q in
       rw (e, up_more (r + d)) (omega arith, take-append-le (length (up_to r)) (up_to (r + d)) q ih.0 ∙ ih.1)
 
   -- after round r: k frames copied, all those up to it
   pub record Copied (o : List ℕ) (r k : ℕ) (out : List ℕ) : Type 0 where
-    pub fits : frameSize * k ≤ length o
+    pub fits : frame_size * k ≤ length o
     pub count : k ≡ length (up_to r)
-    pub size : length (flatten (up_to r)) ≡ frameSize * k
-    pub bytes : out ≡ flatten (up_to r) ++ drop (frameSize * k) o
+    pub size : length (flatten (up_to r)) ≡ frame_size * k
+    pub bytes : out ≡ flatten (up_to r) ++ drop (frame_size * k) o
 
   pub copied_none : (o : List ℕ) (r : ℕ) → up_to r ≡ [] → Copied o r 0 o
   unfolding flatten
@@ -118,7 +118,7 @@ module _ (log : List ℕ) (h : ℕ) where
 
   module _ (o : List ℕ) (r k : ℕ) (out : List ℕ) (c : Copied o r k out) where
     -- a slot that is not among them, and one that is
-    copied-over : isTall (slot log (suc r)) h ≡ false → Copied o (suc r) k out
+    copied-over : is_tall (slot log (suc r)) h ≡ false → Copied o (suc r) k out
     copied-over f =
         let e : up_to (suc r) ≡ up_to r = up_more r ∙ (rw (f, append-nil)) in
         record {
@@ -128,7 +128,7 @@ module _ (log : List ℕ) (h : ℕ) where
           bytes = rw e c.bytes;
         }
 
-    copied-one : isTall (slot log (suc r)) h ≡ true → frameSize * (k + 1) ≤ length o → length (slot log (suc r)) ≡ frameSize
+    copied-one : is_tall (slot log (suc r)) h ≡ true → frame_size * (k + 1) ≤ length o → length (slot log (suc r)) ≡ frame_size
         → Copied o (suc r) (k + 1) (store out (k + 1) (slot log (suc r)))
     unfolding store flatten
     copied-one t g l =
@@ -136,34 +136,34 @@ module _ (log : List ℕ) (h : ℕ) where
         let f : List ℕ = flatten (up_to r) in
         let e : up_to (suc r) ≡ up_to r ++ (x ∷ []) = up_more r ∙ rw t in
         let w : flatten (up_to (suc r)) ≡ f ++ x = rw e (flatten-append (up_to r) (x ∷ []) ∙ ap (λ (m : List ℕ). f ++ m) (append-nil x)) in
-        let y : frameSize * (k + 1 - 1) ≡ length f = omega (arith, c.size) in
-        let z : frameSize * (k + 1) ≡ length f + frameSize = omega (arith, c.size) in
-        let u : take (frameSize * (k + 1 - 1)) out ≡ f = rw (y, c.bytes) (take_at f (drop (frameSize * k) o) (length f) refl) in
-        let p : frameSize * k + frameSize ≡ length f + frameSize = omega (arith, c.size) in
-        let v : drop (frameSize * (k + 1)) out ≡ drop (frameSize * (k + 1)) o =
-        rw (z, c.bytes) (drop-append-add f (drop (frameSize * k) o) frameSize ∙ (drop-drop frameSize (frameSize * k) o ∙ ap (λ (n : ℕ). drop n o) p)) in
+        let y : frame_size * (k + 1 - 1) ≡ length f = omega (arith, c.size) in
+        let z : frame_size * (k + 1) ≡ length f + frame_size = omega (arith, c.size) in
+        let u : take (frame_size * (k + 1 - 1)) out ≡ f = rw (y, c.bytes) (take_at f (drop (frame_size * k) o) (length f) refl) in
+        let p : frame_size * k + frame_size ≡ length f + frame_size = omega (arith, c.size) in
+        let v : drop (frame_size * (k + 1)) out ≡ drop (frame_size * (k + 1)) o =
+        rw (z, c.bytes) (drop-append-add f (drop (frame_size * k) o) frame_size ∙ (drop-drop frame_size (frame_size * k) o ∙ ap (λ (n : ℕ). drop n o) p)) in
         record {
           fits = g;
           count = rw (e, length-append) (ap (λ (n : ℕ). n + 1) c.count);
           size = rw (w, length-append, l) (omega (arith, c.size));
-          bytes = rw (u, v, w) (sym (append_assoc f x (drop (frameSize * (k + 1)) o)));
+          bytes = rw (u, v, w) (sym (append_assoc f x (drop (frame_size * (k + 1)) o)));
         }
 
-    pub copied_more : (k' : ℕ) (out' : List ℕ) → frameSize * (k + 1) ≤ length o → frameSize * (r + 1) ≤ length log
-        → k' ≡ cond (isTall (lent log r) h) (k + 1) k → out' ≡ cond (isTall (lent log r) h) (store out (k + 1) (lent log r)) out
+    pub copied_more : (k' : ℕ) (out' : List ℕ) → frame_size * (k + 1) ≤ length o → frame_size * (r + 1) ≤ length log
+        → k' ≡ cond (is_tall (lent log r) h) (k + 1) k → out' ≡ cond (is_tall (lent log r) h) (store out (k + 1) (lent log r)) out
         → Copied o (r + 1) k' out'
     copied_more k' out' g l d e =
-        let s : length (slot log (suc r)) ≡ frameSize = rw (lent-slot log r) at (lent-size log r l) in
-        rw add-one (by s (isTall (slot log (suc r)) h) refl (rw (lent-slot log r) at d) (rw (lent-slot log r) at e))
+        let s : length (slot log (suc r)) ≡ frame_size = rw (lent-slot log r) at (lent-size log r l) in
+        rw add-one (by s (is_tall (slot log (suc r)) h) refl (rw (lent-slot log r) at d) (rw (lent-slot log r) at e))
       where
-        by : length (slot log (suc r)) ≡ frameSize → (b : Bool) → isTall (slot log (suc r)) h ≡ b → k' ≡ cond b (k + 1) k
+        by : length (slot log (suc r)) ≡ frame_size → (b : Bool) → is_tall (slot log (suc r)) h ≡ b → k' ≡ cond b (k + 1) k
             → out' ≡ cond b (store out (k + 1) (slot log (suc r))) out → Copied o (suc r) k' out'
         by s true t p q = rw (p, q) (copied-one t g s)
         by s false t p q = rw (p, q) (copied-over t)
 
     -- all that fit are copied
-    pub copied-full : (t : ℕ) → r ≤ t → length o / frameSize ≤ k
-        → (k ≡ min (length (up_to t)) (length o / frameSize)) × (out ≡ flatten (take k (up_to t)) ++ drop (frameSize * k) o)
+    pub copied-full : (t : ℕ) → r ≤ t → length o / frame_size ≤ k
+        → (k ≡ min (length (up_to t)) (length o / frame_size)) × (out ≡ flatten (take k (up_to t)) ++ drop (frame_size * k) o)
     copied-full t g f =
         let e : r + (t - r) ≡ t = omega arith in
         let p : (length (up_to r) ≤ length (up_to t)) × (take (length (up_to r)) (up_to t) ≡ up_to r) = rw e at (up_first r (t - r)) in

@@ -6,16 +6,16 @@ use Prim.Native.Nat.{ℕ, suc, ◌+◌, ◌-◌, ◌*◌, ◌≤◌, ◌<◌}
 use native.Mathlib.Numerals.{add-one}
 use native.Mathlib.Omega.{arith}
 use lib.ListN.{take, drop}
-use Rattle.apollo.specs.Size.{frameSize}
+use Rattle.apollo.specs.Size.{frame_size}
 use Rattle.apollo.specs.Log.{slot}
 use Rattle.apollo.specs.Read.{readable, lowest}
 use Rattle.frame.proofs.Frames.{frame-part}
 
 -- the slot above lo as the code lends it
-pub readable-slot : (log : List ℕ) (h lo : ℕ) (b : Bool) → b ≡ readable (take (frameSize * lo + frameSize - frameSize * lo) (drop (frameSize * lo) log)) h
+pub readable-slot : (log : List ℕ) (h lo : ℕ) (b : Bool) → b ≡ readable (take (frame_size * lo + frame_size - frame_size * lo) (drop (frame_size * lo) log)) h
     → b ≡ readable (slot log (lo + 1)) h
 unfolding slot
-readable-slot log h lo b e = rw add-one (rw (frame-part log (frameSize * lo)) at e)
+readable-slot log h lo b e = rw add-one (rw (frame-part log (frame_size * lo)) at e)
 
 -- lowest, from slot lo + 1 upwards to c
 lowest-more : (log : List ℕ) (h lo c : ℕ) → lo < c

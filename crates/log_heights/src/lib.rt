@@ -3,11 +3,11 @@
 
 ghost use Rattle.std.specs.Prelude.{◌≡◌, ◌+◌, ◌*◌, ◌/◌, ◌≤◌, ◌<◌, min, cond, length, take, drop};
 ghost use mathlib.Core.List.{◌++◌, flatten};
-ghost use Rattle.apollo.specs.Size.{frameSize};
+ghost use Rattle.apollo.specs.Size.{frame_size};
 ghost use Rattle.apollo.specs.Log as Log;
 ghost use Rattle.apollo.specs.Read as Read;
 ghost use Rattle.apollo.specs.Fetch.{above};
-ghost use Rattle.log_heights.specs.Fetch.{isTall, lastLow};
+ghost use Rattle.log_heights.specs.Fetch.{is_tall, last_low};
 
 use apollo::size::{ENTRY, FRAME};
 
@@ -26,7 +26,7 @@ fn is_readable(x: &[u8], h: u32) -> bool
 
 // The lowest such slot up to the committed round, 0 if none.
 pub fn lowest(log: &[u8], h: u32, committed: u32) -> u32
-    requires { frameSize * committed ≤ length log.now }
+    requires { frame_size * committed ≤ length log.now }
     ensures { result ≡ Read.lowest log.now h 0 committed }
 {
     let mut lo = 0;
@@ -44,7 +44,7 @@ pub fn lowest(log: &[u8], h: u32, committed: u32) -> u32
 
 // Slot x is filled, with a height above h.
 fn is_tall(x: &[u8], h: u32) -> bool
-    ensures { result ≡ isTall x.now h }
+    ensures { result ≡ is_tall x.now h }
 {
     if frame::kind(x) != 1 {
         return false;
@@ -54,10 +54,10 @@ fn is_tall(x: &[u8], h: u32) -> bool
 
 // Slot x is copied after the first k frames of out if its height is above h; how many frames out has then.
 fn fetch_slot(x: &[u8], h: u32, out: &mut [u8], k: u32) -> u32
-    requires { (length x.now ≡ frameSize) × (k < 4294967295) × (frameSize * (k + 1) ≤ length out.old) }
-    ensures value { (result ≡ cond (isTall x.now h) (k + 1) k) × (result ≤ k + 1) }
+    requires { (length x.now ≡ frame_size) × (k < 4294967295) × (frame_size * (k + 1) ≤ length out.old) }
+    ensures value { (result ≡ cond (is_tall x.now h) (k + 1) k) × (result ≤ k + 1) }
     ensures out_after { out.new
-        ≡ cond (isTall x.now h) (Log.store out.old (k + 1) x.now) out.old }
+        ≡ cond (is_tall x.now h) (Log.store out.old (k + 1) x.now) out.old }
 {
     if !is_tall(x, h) {
         return k;
@@ -68,8 +68,8 @@ fn fetch_slot(x: &[u8], h: u32, out: &mut [u8], k: u32) -> u32
 
 // The last round before the first frame that fetch copies. A loop of its own, with one test a slot, is quicker than the one that copies.
 fn last_low(log: &[u8], h: u32, last_round: u32) -> u32
-    requires { frameSize * last_round ≤ length log.now }
-    ensures { result ≡ lastLow log.now h 0 last_round }
+    requires { frame_size * last_round ≤ length log.now }
+    ensures { result ≡ last_low log.now h 0 last_round }
 {
     let mut r = 0;
     while r < last_round {
@@ -86,9 +86,9 @@ fn last_low(log: &[u8], h: u32, last_round: u32) -> u32
 // The chain frames of height above h are copied to out, in rising round, as many as fit; how many. A slot is cut out in 512
 // bytes, and not by `slots::slot`, so that the compiler knows how long the copy is.
 pub fn fetch_frames(log: &[u8], h: u32, last_round: u32, out: &mut [u8]) -> usize
-    requires { frameSize * last_round ≤ length log.now }
-    ensures value { result ≡ min (length (above h (Log.chain log.now last_round))) (length out.old / frameSize) }
-    ensures out_after { out.new ≡ flatten (take result (above h (Log.chain log.now last_round))) ++ drop (frameSize * result) out.old }
+    requires { frame_size * last_round ≤ length log.now }
+    ensures value { result ≡ min (length (above h (Log.chain log.now last_round))) (length out.old / frame_size) }
+    ensures out_after { out.new ≡ flatten (take result (above h (Log.chain log.now last_round))) ++ drop (frame_size * result) out.old }
 {
     let room = out.len() / FRAME;
     let mut k = 0;

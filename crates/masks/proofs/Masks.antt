@@ -9,7 +9,7 @@ use lib.Bits.{bit_or}
 use lib.Count.{ones}
 use lib.Dec.{eqb, leb, ltb}
 use borrow.Author.Tests.{lt-ltb}
-use Rattle.apollo.specs.Masks.{bit, setBit, mask, certified}
+use Rattle.apollo.specs.Masks.{bit, set_bit, mask, certified}
 use Rattle.apollo.proofs.Masks.{ones-count, or_set, bit-shift}
 use Rattle.apollo.specs.declared.Setup.{Setup}
 
@@ -45,5 +45,5 @@ bit_high i m h g =
     rw (bit-shift i m, z)
 
 -- the or with 2 ^ i
-pub bit-set : (i m : ℕ) → i < 16 → bit_or m (1 * 2 ^ i % 2 ^ 16) ≡ setBit i m
+pub bit-set : (i m : ℕ) → i < 16 → bit_or m (1 * 2 ^ i % 2 ^ 16) ≡ set_bit i m
 bit-set i m h = rw (one_bit 16 i h, or_set i m)

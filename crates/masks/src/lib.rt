@@ -45,7 +45,7 @@ pub fn has_bit(m: u16, i: u8) -> bool
 // A mask with bit i set.
 pub fn with_bit(m: u16, i: u8) -> u16
     requires { i < 16 }
-    ensures { result ≡ Masks.setBit i m }
+    ensures { result ≡ Masks.set_bit i m }
 {
     m | (1u16 << i)
 }
@@ -69,7 +69,7 @@ pub fn has_blame(masks: &[u16], r: u32, i: u8) -> bool
 // Replica i's blame for round r is added.
 pub fn add_blame(masks: &mut [u16], r: u32, i: u8)
     requires { i < 16 }
-    ensures { masks.new ≡ Masks.addBlame masks.old r i }
+    ensures { masks.new ≡ Masks.add_blame masks.old r i }
 {
     let k = apollo::previous(r) as usize;
     if k < masks.len() {

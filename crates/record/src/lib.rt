@@ -2,14 +2,14 @@
 #![tactic(auto)]
 
 ghost use Rattle.std.specs.Prelude.{◌≡◌, ◌<◌};
-ghost use Rattle.apollo.specs.Setup.{setupOf};
-ghost use Rattle.apollo.specs.Replica.{withRound, withTimer, with_tip, withCommitted, withMark, fresh, zeroReplica, leads};
+ghost use Rattle.apollo.specs.Setup.{setup_of};
+ghost use Rattle.apollo.specs.Replica.{with_round, with_timer, with_tip, with_committed, with_mark, fresh, zero_replica, leads};
 
 use apollo::{Height, Replica, Round, Setup, Ticks};
 
 // The set-up in a record.
 pub fn setup(r: Replica) -> Setup
-    ensures { result ≡ setupOf r }
+    ensures { result ≡ setup_of r }
 {
     let last_round = r.last_round;
     let rotation = r.rotation;
@@ -52,7 +52,7 @@ pub fn fresh(id: u8, f: u8, timeout: Ticks, last_round: Round, rotation: &[u8]) 
 
 // The record of zeros.
 pub fn zero_replica() -> Replica
-    ensures { result ≡ zeroReplica }
+    ensures { result ≡ zero_replica }
 {
     let rotation = [0u8; 15];
     let equivocators = 0;
@@ -74,7 +74,7 @@ pub fn zero_replica() -> Replica
 
 // The record with another R.
 pub fn with_round(r: Replica, round: u32) -> Replica
-    ensures { result ≡ withRound r round }
+    ensures { result ≡ with_round r round }
 {
     let mut q = r;
     let a = Round(round);
@@ -84,7 +84,7 @@ pub fn with_round(r: Replica, round: u32) -> Replica
 
 // The record with other ticks left.
 pub fn with_timer(r: Replica, timer: u32) -> Replica
-    ensures { result ≡ withTimer r timer }
+    ensures { result ≡ with_timer r timer }
 {
     let mut q = r;
     let t = Ticks(timer);
@@ -106,7 +106,7 @@ pub fn with_tip(r: Replica, round: u32, height: u32) -> Replica
 
 // The record with another committed round and height.
 pub fn with_committed(r: Replica, round: u32, height: u32) -> Replica
-    ensures { result ≡ withCommitted r round height }
+    ensures { result ≡ with_committed r round height }
 {
     let mut q = r;
     let committed = Round(round);
@@ -119,7 +119,7 @@ pub fn with_committed(r: Replica, round: u32, height: u32) -> Replica
 // The record with card i marked.
 pub fn with_mark(r: Replica, i: u8) -> Replica
     requires { i < 16 }
-    ensures { result ≡ withMark r i }
+    ensures { result ≡ with_mark r i }
 {
     let mut q = r;
     let marks = masks::with_bit(r.equivocators, i);

@@ -2,14 +2,14 @@
 #![tactic(auto)]
 
 ghost use Rattle.std.specs.Prelude.{◌≡◌};
-ghost use Rattle.apollo.specs.Replica.{validOwn, validRounds, validMarks, validRecord, validLog, validMasks};
+ghost use Rattle.apollo.specs.Replica.{valid_own, valid_rounds, valid_marks, valid_record, valid_log, valid_masks};
 
 use apollo::Replica;
 use apollo::size::FRAME;
 
 // Own number and timeout are in range.
 pub fn valid_own(r: Replica) -> bool
-    ensures { result ≡ validOwn r }
+    ensures { result ≡ valid_own r }
 {
     let id = r.id as u32;
     let f = r.f as u32;
@@ -18,7 +18,7 @@ pub fn valid_own(r: Replica) -> bool
 
 // There is one slot a round.
 pub fn valid_log(r: Replica, log: &[u8]) -> bool
-    ensures { result ≡ validLog r log.now }
+    ensures { result ≡ valid_log r log.now }
 {
     let size = FRAME * (r.last_round.0 as usize);
     log.len() == size
@@ -27,7 +27,7 @@ pub fn valid_log(r: Replica, log: &[u8]) -> bool
 // The fields that a call changes are in range. In two steps: the compiler joins the comparisons of one step into vectors, whose
 // loads wait for the caller's stores.
 fn valid_rounds(r: Replica) -> bool
-    ensures { result ≡ validRounds r }
+    ensures { result ≡ valid_rounds r }
 {
     let last = r.last_round.0 as u64;
     let round = r.round.0 as u64;
@@ -46,7 +46,7 @@ fn valid_rounds(r: Replica) -> bool
 
 // No mark is at bit n or above.
 fn valid_marks(r: Replica) -> bool
-    ensures { result ≡ validMarks r }
+    ensures { result ≡ valid_marks r }
 {
     let n = 2 * (r.f as u32) + 1;
     masks::fits(r.equivocators, n)
@@ -54,7 +54,7 @@ fn valid_marks(r: Replica) -> bool
 
 // The record by itself: all fields are in range, and R is not led by this replica.
 pub fn valid_record(r: Replica) -> bool
-    ensures { result ≡ validRecord r }
+    ensures { result ≡ valid_record r }
 {
     let seats = r.rotation;
     let n = 2 * (r.f as usize) + 1;
@@ -68,7 +68,7 @@ pub fn valid_record(r: Replica) -> bool
 
 // There is one mask a round.
 pub fn valid_masks(r: Replica, masks: &[u16]) -> bool
-    ensures { result ≡ validMasks r masks.now }
+    ensures { result ≡ valid_masks r masks.now }
 {
     let last = r.last_round.0 as usize;
     masks.len() == last

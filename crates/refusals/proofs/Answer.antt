@@ -6,29 +6,29 @@ use Prim.Native.Nat.{ℕ, ◌+◌, ◌*◌}
 use lib.Dec.{eqb, ltb}
 use lib.ListN.{length}
 use Rattle.sha256.specs.Fips.{sha256}
-use Rattle.apollo.specs.Size.{frameSize}
+use Rattle.apollo.specs.Size.{frame_size}
 use Rattle.apollo.specs.declared.Replica.{Replica}
-use Rattle.apollo.specs.Setup.{setupOf, setupNumber}
+use Rattle.apollo.specs.Setup.{setup_of, setup_number}
 use Rattle.apollo.specs.Bytes.{zeros}
 use Rattle.apollo.specs.declared.Verdict.{Verdict}
 use Rattle.apollo.specs.Judging.{verdict}
-use Rattle.apollo.specs.Replica.{fresh, zeroReplica, validOwn, validLog, validReplica, validMasks}
-use Rattle.setup_ranges.specs.Number.{lentNumber}
+use Rattle.apollo.specs.Replica.{fresh, zero_replica, valid_own, valid_log, valid_replica, valid_masks}
+use Rattle.setup_ranges.specs.Number.{lent_number}
 use Rattle.setup_ranges.proofs.Number.{lent_is}
-use Rattle.apollo.specs.Enter.{State, enterRound}
+use Rattle.apollo.specs.Enter.{State, enter_round}
 use Rattle.apollo.specs.Outcome.{Outcome, refused, taken, guarded}
-use Rattle.apollo.specs.Open.{openWith}
-use Rattle.apollo.specs.Branch.{branchWith}
+use Rattle.apollo.specs.Open.{open_with}
+use Rattle.apollo.specs.Branch.{branch_with}
 use Rattle.apollo.specs.Blame.{handing}
 use Rattle.branch.specs.declared.Judged.{Judged}
-use Rattle.branch.specs.Judge.{refusal, judgedBranch, answered}
+use Rattle.branch.specs.Judge.{refusal, judged_branch, answered}
 use Rattle.branch.proofs.Answer.{branch-answer}
 use Rattle.blame_set.specs.Set as Set
-use Rattle.blame_set.specs.Set.{judgedSet}
+use Rattle.blame_set.specs.Set.{judged_set}
 use Rattle.blame_set.proofs.Answer.{set-answer}
-use Rattle.refusals.specs.Number.{roomNumber, openNumber, guardNumber, guard_of}
-use Rattle.refusals.specs.Blames.{guardedSet}
-use Rattle.refusals.specs.Branch.{guardedBranch}
+use Rattle.refusals.specs.Number.{room_number, open_number, guard_number, guard_of}
+use Rattle.refusals.specs.Blames.{guarded_set}
+use Rattle.refusals.specs.Branch.{guarded_branch}
 
 -- what is answered by a number: o where it is 0
 abbrev pub by_number : (n : ℕ) (o : Outcome) (f : ℕ → Outcome) → Outcome
@@ -71,26 +71,26 @@ set_after entry out s x false n v e = rw e
 -- open
 module _ (id f timeout last : ℕ) (rotation log masks entry out : List ℕ) where
   abbrev pub closed : State
-  closed = record { replica = zeroReplica; log = log; masks = masks }
+  closed = record { replica = zero_replica; log = log; masks = masks }
 
   abbrev pub new : State
-  new = record { replica = fresh id f timeout last rotation; log = zeros (frameSize * last); masks = zeros last }
+  new = record { replica = fresh id f timeout last rotation; log = zeros (frame_size * last); masks = zeros last }
 
   abbrev r : Replica
   r = fresh id f timeout last rotation
 
-  setup-is : lentNumber (setupOf r) (length rotation) ≡ setupNumber f last rotation
+  setup-is : lent_number (setup_of r) (length rotation) ≡ setup_number f last rotation
   unfolding fresh
   setup-is = lent_is f last rotation
 
-  pub open_by : openWith sha256 id f timeout last rotation log masks entry out
-      ≡ by_number (openNumber r (length rotation) log masks (length entry) (length out))
-      (taken (enterRound sha256 entry new) out) (λ n. refused closed out n 0)
-  unfolding openWith openNumber roomNumber
+  pub open_by : open_with sha256 id f timeout last rotation log masks entry out
+      ≡ by_number (open_number r (length rotation) log masks (length entry) (length out))
+      (taken (enter_round sha256 entry new) out) (λ n. refused closed out n 0)
+  unfolding open_with open_number room_number
   open_by =
       rw setup-is
-      (open-chain (not (validOwn r && validLog r log && validMasks r masks)) (setupNumber f last rotation)
-      (eqb (setupNumber f last rotation) 0) (ltb (length out) 1024) (ltb 400 (length entry)) (taken (enterRound sha256 entry new) out)
+      (open-chain (not (valid_own r && valid_log r log && valid_masks r masks)) (setup_number f last rotation)
+      (eqb (setup_number f last rotation) 0) (ltb (length out) 1024) (ltb 400 (length entry)) (taken (enter_round sha256 entry new) out)
       (λ n. refused closed out n 0) refl)
 
 module _ (s : State) (entry out : List ℕ) where
@@ -99,25 +99,25 @@ module _ (s : State) (entry out : List ℕ) where
 
   -- branch, blame, blames and tick
   pub guarded-by : (o : Outcome) → guarded s entry out o ≡ by_number number o (λ n. refused s out n 0)
-  unfolding guarded guardNumber validReplica roomNumber
+  unfolding guarded guard_number valid_replica room_number
   guarded-by o =
-      guard-chain (not (validReplica s.replica s.log && validMasks s.replica s.masks))
+      guard-chain (not (valid_replica s.replica s.log && valid_masks s.replica s.masks))
       (eqb s.replica.round.0 (s.replica.last_round.0 + 1)) (ltb (length out) 1024) (ltb 400 (length entry)) o
       (λ n. refused s out n 0)
 
   module _ (x : List ℕ) where
-    pub branch_by : branchWith sha256 s x entry out
-        ≡ answered entry out s x (guardedBranch s.replica s.log s.masks x (length entry) (length out))
-    unfolding guardedBranch
+    pub branch_by : branch_with sha256 s x entry out
+        ≡ answered entry out s x (guarded_branch s.replica s.log s.masks x (length entry) (length out))
+    unfolding guarded_branch
     branch_by =
         branch-answer s x entry out
-        ∙ guarded-by (answered entry out s x (judgedBranch s.replica s.log s.masks x))
-        ∙ judged-after entry out s x (eqb number 0) number (judgedBranch s.replica s.log s.masks x) refl
+        ∙ guarded-by (answered entry out s x (judged_branch s.replica s.log s.masks x))
+        ∙ judged-after entry out s x (eqb number 0) number (judged_branch s.replica s.log s.masks x) refl
 
     pub set-by : (most : ℕ) → handing sha256 most s x entry out
-        ≡ Set.answered entry out s x (guardedSet most s.replica s.log s.masks x (length entry) (length out))
-    unfolding handing guardedSet
+        ≡ Set.answered entry out s x (guarded_set most s.replica s.log s.masks x (length entry) (length out))
+    unfolding handing guarded_set
     set-by most =
         ap (guarded s entry out) (set-answer s x entry out most)
-        ∙ guarded-by (Set.answered entry out s x (judgedSet most s.replica s.masks x))
-        ∙ set_after entry out s x (eqb number 0) number (judgedSet most s.replica s.masks x) refl
+        ∙ guarded-by (Set.answered entry out s x (judged_set most s.replica s.masks x))
+        ∙ set_after entry out s x (eqb number 0) number (judged_set most s.replica s.masks x) refl

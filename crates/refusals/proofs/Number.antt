@@ -8,83 +8,83 @@ use Rattle.apollo.specs.declared.Replica.{Replica}
 use Rattle.apollo.specs.declared.Setup.{Setup}
 use Rattle.apollo.specs.declared.Verdict.{Verdict}
 use Rattle.apollo.specs.Judging.{verdict}
-use Rattle.apollo.specs.Setup.{setupOf}
-use Rattle.apollo.specs.Replica.{validRecord, validOwn, validLog, validMasks}
-use Rattle.setup_ranges.specs.Number.{lentNumber}
+use Rattle.apollo.specs.Setup.{setup_of}
+use Rattle.apollo.specs.Replica.{valid_record, valid_own, valid_log, valid_masks}
+use Rattle.setup_ranges.specs.Number.{lent_number}
 use Rattle.branch.specs.declared.Judged.{Judged}
-use Rattle.branch.specs.Judge.{refusal, judgedBranch}
-use Rattle.blame_set.specs.Set.{judgedSet}
-use Rattle.refusals.specs.Number.{roomNumber, openNumber, guardNumber, guard_of}
-use Rattle.refusals.specs.Blames.{guardedSet}
-use Rattle.refusals.specs.Branch.{guardedBranch}
+use Rattle.branch.specs.Judge.{refusal, judged_branch}
+use Rattle.blame_set.specs.Set.{judged_set}
+use Rattle.refusals.specs.Number.{room_number, open_number, guard_number, guard_of}
+use Rattle.refusals.specs.Blames.{guarded_set}
+use Rattle.refusals.specs.Branch.{guarded_branch}
 
 -- 4 and 5
 module _ (entry out : ℕ) where
-  pub room_out : out < 1024 → 4 ≡ roomNumber entry out
-  unfolding roomNumber
+  pub room_out : out < 1024 → 4 ≡ room_number entry out
+  unfolding room_number
   room_out h = rw (lt-ltb out 1024 h)
 
-  pub room-entry : 1024 ≤ out → 400 < entry → 5 ≡ roomNumber entry out
-  unfolding roomNumber
+  pub room-entry : 1024 ≤ out → 400 < entry → 5 ≡ room_number entry out
+  unfolding room_number
   room-entry h g = rw (le-ltb out 1024 h, lt-ltb 400 entry g)
 
-  pub room-none : 1024 ≤ out → entry ≤ 400 → 0 ≡ roomNumber entry out
-  unfolding roomNumber
+  pub room-none : 1024 ≤ out → entry ≤ 400 → 0 ≡ room_number entry out
+  unfolding room_number
   room-none h g = rw (le-ltb out 1024 h, le-ltb 400 entry g)
 
 module _ (r : Replica) (log masks : List ℕ) (entry out : ℕ) where
   -- 1 and 17, by the set-up's own number and the other tests of 1
-  module _ (size n : ℕ) (s : Setup) (es : s ≡ setupOf r) (en : n ≡ lentNumber s size) (o l m : Bool) (eo : o ≡ validOwn r)
-      (el : l ≡ validLog r log) (em : m ≡ validMasks r masks) where
-    number_is : n ≡ lentNumber (setupOf r) size
+  module _ (size n : ℕ) (s : Setup) (es : s ≡ setup_of r) (en : n ≡ lent_number s size) (o l m : Bool) (eo : o ≡ valid_own r)
+      (el : l ≡ valid_log r log) (em : m ≡ valid_masks r masks) where
+    number_is : n ≡ lent_number (setup_of r) size
     number_is = rw es at en
 
-    pub open_lent : (o && l && m) ≡ false → 1 ≡ openNumber r size log masks entry out
-    unfolding openNumber
+    pub open_lent : (o && l && m) ≡ false → 1 ≡ open_number r size log masks entry out
+    unfolding open_number
     open_lent t = rw (← eo, ← el, ← em, t)
 
     module _ (t : (o && l && m) ≡ true) where
-      pub open-setup : (n ≡ 0 → ⊥) → n ≡ openNumber r size log masks entry out
-      unfolding openNumber
+      pub open-setup : (n ≡ 0 → ⊥) → n ≡ open_number r size log masks entry out
+      unfolding open_number
       open-setup h = rw (← eo, ← el, ← em, ← number_is, t, ne_eqb n 0 h)
 
-      pub open-room : (k : ℕ) → n ≡ 0 → k ≡ roomNumber entry out → k ≡ openNumber r size log masks entry out
-      unfolding openNumber
+      pub open-room : (k : ℕ) → n ≡ 0 → k ≡ room_number entry out → k ≡ open_number r size log masks entry out
+      unfolding open_number
       open-room k z e = rw (← eo, ← el, ← em, ← number_is, t, eq-eqb n 0 z) e
 
   -- 2 and 3
-  module _ (a l b : Bool) (el : l ≡ validLog r log) (eb : b ≡ validMasks r masks) where
-    pub guard-record : (a && l && b) ≡ false → 2 ≡ guardNumber a r log masks entry out
-    unfolding guardNumber
+  module _ (a l b : Bool) (el : l ≡ valid_log r log) (eb : b ≡ valid_masks r masks) where
+    pub guard-record : (a && l && b) ≡ false → 2 ≡ guard_number a r log masks entry out
+    unfolding guard_number
     guard-record t = rw (← el, ← eb, t)
 
-    pub guard-over : (a && l && b) ≡ true → r.round.0 ≡ r.last_round.0 + 1 → 3 ≡ guardNumber a r log masks entry out
-    unfolding guardNumber
+    pub guard-over : (a && l && b) ≡ true → r.round.0 ≡ r.last_round.0 + 1 → 3 ≡ guard_number a r log masks entry out
+    unfolding guard_number
     guard-over t e = rw (← el, ← eb, t, eq-eqb r.round.0 (r.last_round.0 + 1) e)
 
-    pub guard-room : (n : ℕ) → (a && l && b) ≡ true → (r.round.0 ≡ r.last_round.0 + 1 → ⊥) → n ≡ roomNumber entry out
-        → n ≡ guardNumber a r log masks entry out
-    unfolding guardNumber
+    pub guard-room : (n : ℕ) → (a && l && b) ≡ true → (r.round.0 ≡ r.last_round.0 + 1 → ⊥) → n ≡ room_number entry out
+        → n ≡ guard_number a r log masks entry out
+    unfolding guard_number
     guard-room n t h e = rw (← el, ← eb, t, ne_eqb r.round.0 (r.last_round.0 + 1) h) e
 
   -- by the record's own test
-  pub guard-of : {n : ℕ} {a : Bool} → a ≡ validRecord r → n ≡ guardNumber a r log masks entry out → n ≡ guard_of r log masks entry out
+  pub guard-of : {n : ℕ} {a : Bool} → a ≡ valid_record r → n ≡ guard_number a r log masks entry out → n ≡ guard_of r log masks entry out
   guard-of d e = rw d at e
 
   -- blames and a branch behind 2 to 5
   module _ (n : ℕ) (e : n ≡ guard_of r log masks entry out) where
-    pub set-guarded : (most : ℕ) (x : List ℕ) → (n ≡ 0 → ⊥) → verdict n 0 ≡ guardedSet most r log masks x entry out
-    unfolding guardedSet
+    pub set-guarded : (most : ℕ) (x : List ℕ) → (n ≡ 0 → ⊥) → verdict n 0 ≡ guarded_set most r log masks x entry out
+    unfolding guarded_set
     set-guarded most x h = rw (← e, ne_eqb n 0 h)
 
-    pub set-judged : (most : ℕ) (x : List ℕ) (v : Verdict) → n ≡ 0 → v ≡ judgedSet most r masks x → v ≡ guardedSet most r log masks x entry out
-    unfolding guardedSet
+    pub set-judged : (most : ℕ) (x : List ℕ) (v : Verdict) → n ≡ 0 → v ≡ judged_set most r masks x → v ≡ guarded_set most r log masks x entry out
+    unfolding guarded_set
     set-judged most x v z k = rw (← e, eq-eqb n 0 z) k
 
-    pub branch-guarded : (x : List ℕ) → (n ≡ 0 → ⊥) → refusal n 0 ≡ guardedBranch r log masks x entry out
-    unfolding guardedBranch
+    pub branch-guarded : (x : List ℕ) → (n ≡ 0 → ⊥) → refusal n 0 ≡ guarded_branch r log masks x entry out
+    unfolding guarded_branch
     branch-guarded x h = rw (← e, ne_eqb n 0 h)
 
-    pub branch-judged : (x : List ℕ) (j : Judged) → n ≡ 0 → j ≡ judgedBranch r log masks x → j ≡ guardedBranch r log masks x entry out
-    unfolding guardedBranch
+    pub branch-judged : (x : List ℕ) (j : Judged) → n ≡ 0 → j ≡ judged_branch r log masks x → j ≡ guarded_branch r log masks x entry out
+    unfolding guarded_branch
     branch-judged x j z k = rw (← e, eq-eqb n 0 z) k

@@ -9,22 +9,22 @@ use lib.ListN.{length}
 use borrow.Author.Tests.{ltb-false, eqb-true, eqb-false, not-false}
 use Rattle.apollo.specs.declared.Replica.{Replica}
 use Rattle.apollo.specs.declared.Verdict.{Verdict}
-use Rattle.apollo.specs.Frame.{framesOf}
+use Rattle.apollo.specs.Frame.{frames_of}
 use Rattle.apollo.specs.Judging.{verdict}
-use Rattle.apollo.specs.Setup.{setupOf}
-use Rattle.apollo.specs.Replica.{validOwn, validLog, validReplica, validMasks}
+use Rattle.apollo.specs.Setup.{setup_of}
+use Rattle.apollo.specs.Replica.{valid_own, valid_log, valid_replica, valid_masks}
 use Rattle.apollo.proofs.Validity.{ValidOpening, Valid}
 use Rattle.apollo.proofs.Tests.{and_first, and-true}
 use Rattle.apollo.proofs.Validity.{valid-opening, valid}
-use Rattle.setup_ranges.specs.Number.{lentNumber}
+use Rattle.setup_ranges.specs.Number.{lent_number}
 use Rattle.setup_ranges.proofs.Number.{lent-limits}
 use Rattle.branch.specs.declared.Judged.{Judged}
-use Rattle.branch.specs.Judge.{refusal, judgedBranch}
-use Rattle.blame_set.specs.Set.{HaveBits, judgedSet}
+use Rattle.branch.specs.Judge.{refusal, judged_branch}
+use Rattle.blame_set.specs.Set.{HaveBits, judged_set}
 use Rattle.blame_set.proofs.Answer.{set-bits}
-use Rattle.refusals.specs.Number.{roomNumber, openNumber, guardNumber, guard_of}
-use Rattle.refusals.specs.Blames.{guardedSet}
-use Rattle.refusals.specs.Branch.{guardedBranch}
+use Rattle.refusals.specs.Number.{room_number, open_number, guard_number, guard_of}
+use Rattle.refusals.specs.Blames.{guarded_set}
+use Rattle.refusals.specs.Branch.{guarded_branch}
 
 -- with the number 0 every test failed
 nonzero : (n : ℕ) → suc n ≡ 0 → ⊥
@@ -48,8 +48,8 @@ branch-none true m j e h = (eqb-true m 0 e, refl)
 branch-none false m j e h = absurd (eqb-false m 0 e h)
 
 -- 4 and 5
-room : (entry out : ℕ) → roomNumber entry out ≡ 0 → (1024 ≤ out) × (entry ≤ 400)
-unfolding roomNumber
+room : (entry out : ℕ) → room_number entry out ≡ 0 → (1024 ≤ out) × (entry ≤ 400)
+unfolding room_number
 room entry out e =
     let p = first-failed (ltb out 1024) 3 (cond (ltb 400 entry) 5 0) e in
     let q = first-failed (ltb 400 entry) 4 0 p.1 in
@@ -70,50 +70,50 @@ pub record Passed (r : Replica) (log : List ℕ) (entry out : ℕ) : Type 0 wher
   pub entry-most : entry ≤ 400
 
 module _ (r : Replica) (log masks : List ℕ) (entry out : ℕ) where
-  pub opened : (size : ℕ) → openNumber r size log masks entry out ≡ 0 → Opened r log masks entry out
-  unfolding openNumber
+  pub opened : (size : ℕ) → open_number r size log masks entry out ≡ 0 → Opened r log masks entry out
+  unfolding open_number
   opened size e =
-      let lent = not (validOwn r && validLog r log && validMasks r masks) in
-      let setup : ℕ = lentNumber (setupOf r) size in
-      let p = first-failed lent 0 (cond (not (eqb setup 0)) setup (roomNumber entry out)) e in
-      let t = setup-passed (eqb setup 0) setup (roomNumber entry out) refl p.1 in
-      let v = and-true (validOwn r && validLog r log) (validMasks r masks) (not-false (validOwn r && validLog r log && validMasks r masks) p.0) in
-      let w = and-true (validOwn r) (validLog r log) v.0 in
+      let lent = not (valid_own r && valid_log r log && valid_masks r masks) in
+      let setup : ℕ = lent_number (setup_of r) size in
+      let p = first-failed lent 0 (cond (not (eqb setup 0)) setup (room_number entry out)) e in
+      let t = setup-passed (eqb setup 0) setup (room_number entry out) refl p.1 in
+      let v = and-true (valid_own r && valid_log r log) (valid_masks r masks) (not-false (valid_own r && valid_log r log && valid_masks r masks) p.0) in
+      let w = and-true (valid_own r) (valid_log r log) v.0 in
       let q = room entry out t.1 in
       record {
-        valid = valid-opening r log (lent-limits (setupOf r) size t.0) w.0 w.1;
+        valid = valid-opening r log (lent-limits (setup_of r) size t.0) w.0 w.1;
         masks-size = eqb-true (length masks) r.last_round.0 v.1;
         out-least = q.0;
         entry-most = q.1;
       }
 
   pub passed : guard_of r log masks entry out ≡ 0 → Passed r log entry out
-  unfolding guardNumber validReplica
+  unfolding guard_number valid_replica
   passed e =
       let end = eqb r.round.0 (r.last_round.0 + 1) in
-      let p = first-failed (not (validReplica r log && validMasks r masks)) 1 (cond end 3 (roomNumber entry out)) e in
-      let k = first-failed end 2 (roomNumber entry out) p.1 in
+      let p = first-failed (not (valid_replica r log && valid_masks r masks)) 1 (cond end 3 (room_number entry out)) e in
+      let k = first-failed end 2 (room_number entry out) p.1 in
       let v : Valid r log =
-      valid r log (and_first (validReplica r log) (validMasks r masks) (not-false (validReplica r log && validMasks r masks) p.0))
+      valid r log (and_first (valid_replica r log) (valid_masks r masks) (not-false (valid_replica r log && valid_masks r masks) p.0))
       in
       let h : r.round.0 ≡ r.last_round.0 + 1 → ⊥ = eqb-false r.round.0 (r.last_round.0 + 1) k.0 in
       let q = room entry out k.1 in
       record { valid = v; round-last = omega arith; out-least = q.0; entry-most = q.1 }
 
   -- the signers of a set have bits in a mask of 16
-  pub set-passed : (most : ℕ) (x : List ℕ) → (guardedSet most r log masks x entry out).number ≡ 0 → Passed r log entry out × HaveBits (framesOf x)
-  unfolding guardedSet
+  pub set-passed : (most : ℕ) (x : List ℕ) → (guarded_set most r log masks x entry out).number ≡ 0 → Passed r log entry out × HaveBits (frames_of x)
+  unfolding guarded_set
   set-passed most x e =
       let g : ℕ = guard_of r log masks entry out in
-      let q : (g ≡ 0) × ((judgedSet most r masks x).number ≡ 0) = set-none (eqb g 0) g (judgedSet most r masks x) refl e in
+      let q : (g ≡ 0) × ((judged_set most r masks x).number ≡ 0) = set-none (eqb g 0) g (judged_set most r masks x) refl e in
       let p : Passed r log entry out = passed q.0 in
       (p, set-bits most r masks x p.valid.setup.f-most q.1)
 
-  pub branch-passed : (x : List ℕ) → (guardedBranch r log masks x entry out).number ≡ 0
-      → Passed r log entry out × ((judgedBranch r log masks x).number ≡ 0)
-  unfolding guardedBranch
+  pub branch-passed : (x : List ℕ) → (guarded_branch r log masks x entry out).number ≡ 0
+      → Passed r log entry out × ((judged_branch r log masks x).number ≡ 0)
+  unfolding guarded_branch
   branch-passed x e =
       let g : ℕ = guard_of r log masks entry out in
-      let q : (g ≡ 0) × (guardedBranch r log masks x entry out ≡ judgedBranch r log masks x) =
-      branch-none (eqb g 0) g (judgedBranch r log masks x) refl e in
+      let q : (g ≡ 0) × (guarded_branch r log masks x entry out ≡ judged_branch r log masks x) =
+      branch-none (eqb g 0) g (judged_branch r log masks x) refl e in
       (passed q.0, rw q.1 at e)

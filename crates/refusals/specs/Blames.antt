@@ -3,9 +3,9 @@ use Rattle.std.specs.Prelude.{List, cond, ℕ, eqb}
 use Rattle.apollo.specs.declared.Replica.{Replica}
 use Rattle.apollo.specs.declared.Verdict.{Verdict}
 use Rattle.apollo.specs.Judging.{verdict}
-use Rattle.blame_set.specs.Set.{judgedSet}
+use Rattle.blame_set.specs.Set.{judged_set}
 use Rattle.refusals.specs.Number.{guard_of}
 
-unfoldable pub guardedSet : (most : ℕ) → Replica → (log masks bytes : List ℕ) (entry out : ℕ) → Verdict
-guardedSet most r log masks bytes entry out =
-    cond (eqb (guard_of r log masks entry out) 0) (judgedSet most r masks bytes) (verdict (guard_of r log masks entry out) 0)
+unfoldable pub guarded_set : (most : ℕ) → Replica → (log masks bytes : List ℕ) (entry out : ℕ) → Verdict
+guarded_set most r log masks bytes entry out =
+    cond (eqb (guard_of r log masks entry out) 0) (judged_set most r masks bytes) (verdict (guard_of r log masks entry out) 0)

@@ -2,10 +2,10 @@
 use Rattle.std.specs.Prelude.{List, cond, ℕ, eqb}
 use Rattle.apollo.specs.declared.Replica.{Replica}
 use Rattle.branch.specs.declared.Judged.{Judged}
-use Rattle.branch.specs.Judge.{refusal, judgedBranch}
+use Rattle.branch.specs.Judge.{refusal, judged_branch}
 use Rattle.refusals.specs.Number.{guard_of}
 
-unfoldable pub guardedBranch : Replica → (log masks bytes : List ℕ) (entry out : ℕ) → Judged
-guardedBranch r log masks bytes entry out =
-    cond (eqb (guard_of r log masks entry out) 0) (judgedBranch r log masks bytes)
+unfoldable pub guarded_branch : Replica → (log masks bytes : List ℕ) (entry out : ℕ) → Judged
+guarded_branch r log masks bytes entry out =
+    cond (eqb (guard_of r log masks entry out) 0) (judged_branch r log masks bytes)
     (refusal (guard_of r log masks entry out) 0)

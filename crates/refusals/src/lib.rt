@@ -4,9 +4,9 @@
 #![tactic(auto)]
 
 ghost use Rattle.std.specs.Prelude.{◌≡◌, ◌≤◌};
-ghost use Rattle.refusals.specs.Number.{roomNumber, openNumber, guardNumber};
-ghost use Rattle.refusals.specs.Blames.{guardedSet};
-ghost use Rattle.refusals.specs.Branch.{guardedBranch};
+ghost use Rattle.refusals.specs.Number.{room_number, open_number, guard_number};
+ghost use Rattle.refusals.specs.Blames.{guarded_set};
+ghost use Rattle.refusals.specs.Branch.{guarded_branch};
 
 use apollo::size::{ENTRY, OUT};
 use apollo::{Replica, Verdict};
@@ -14,7 +14,7 @@ use branch::Judged;
 
 // 4 and 5.
 fn judge_room(entry: usize, out: usize) -> u8
-    ensures { result ≡ roomNumber entry out }
+    ensures { result ≡ room_number entry out }
 {
     if out < OUT {
         return apollo::refusal::OUT_TOO_SHORT;
@@ -27,7 +27,7 @@ fn judge_room(entry: usize, out: usize) -> u8
 
 // Open: 1, 17, 4 and 5. The record has the rotation, padded; `length` is how long that was.
 pub fn of_open(r: Replica, length: usize, log: &[u8], masks: &[u16], entry: usize, out: usize) -> u8
-    ensures { result ≡ openNumber r length log.now masks.now entry out }
+    ensures { result ≡ open_number r length log.now masks.now entry out }
 {
     let setup = setup_ranges::refusal(record::setup(r), length);
     if !(record_ranges::valid_own(r)
@@ -44,7 +44,7 @@ pub fn of_open(r: Replica, length: usize, log: &[u8], masks: &[u16], entry: usiz
 
 // Tick, branch, blame and blames: 2 to 5. The caller tests the record by itself, from its own copy: the compiler then makes no other.
 pub fn guard(is_valid: bool, r: Replica, log: &[u8], masks: &[u16], entry: usize, out: usize) -> u8
-    ensures { result ≡ guardNumber is_valid r log.now masks.now entry out }
+    ensures { result ≡ guard_number is_valid r log.now masks.now entry out }
 {
     if !(is_valid & record_ranges::valid_log(r, log) & record_ranges::valid_masks(r, masks)) {
         return apollo::refusal::BAD_REPLICA;
@@ -68,7 +68,7 @@ pub fn of_blames(
     out: usize,
 ) -> Verdict
     requires { most ≤ 15 }
-    ensures { result ≡ guardedSet most r log.now masks.now frames.now entry out }
+    ensures { result ≡ guarded_set most r log.now masks.now frames.now entry out }
 {
     let is_valid = record_ranges::valid_record(r);
     let number = guard(is_valid, r, log, masks, entry, out);
@@ -87,7 +87,7 @@ pub fn of_branch(
     entry: usize,
     out: usize,
 ) -> Judged
-    ensures { result ≡ guardedBranch r log.now masks.now frames.now entry out }
+    ensures { result ≡ guarded_branch r log.now masks.now frames.now entry out }
 {
     let is_valid = record_ranges::valid_record(r);
     let number = guard(is_valid, r, log, masks, entry, out);

@@ -11,50 +11,50 @@ use lib.Pow.{pow_pos}
 use lib.Dec.{eqb, ltb}
 use lib.ListN.{length}
 use borrow.Author.Tests.{eqb-true, eqb-false, eq-eqb, lt-ltb}
-use Rattle.apollo.specs.Masks.{bit, setBit}
-use Rattle.apollo.specs.Rotation.{seats, isRotation}
+use Rattle.apollo.specs.Masks.{bit, set_bit}
+use Rattle.apollo.specs.Rotation.{seats, is_rotation}
 use Rattle.apollo.proofs.Masks.{bit-zero, bit-set-same, bit-set-other, bit_kept}
 use Rattle.apollo.proofs.Rotation.{none-lacks, lacks-none}
 use Rattle.apollo.proofs.Tests.{by_cond}
-use Rattle.rotation.specs.Seen.{withReplica, replicasSeen, allSeen}
+use Rattle.rotation.specs.Seen.{with_replica, replicas_seen, all_seen}
 
 -- a card's bit, with one card more
-replica-kept : (c m x : ℕ) → bit c m ≡ true → bit c (withReplica m x) ≡ true
-unfolding withReplica
+replica-kept : (c m x : ℕ) → bit c m ≡ true → bit c (with_replica m x) ≡ true
+unfolding with_replica
 replica-kept c m x e = by_cond (λ k. bit c k ≡ true) (ltb x 16) (λ _. bit_kept x c m e) (λ _. e)
 
-replica-set : (c m x : ℕ) → c < 16 → x ≡ c → bit c (withReplica m x) ≡ true
-unfolding withReplica
+replica-set : (c m x : ℕ) → c < 16 → x ≡ c → bit c (with_replica m x) ≡ true
+unfolding with_replica
 replica-set c m x l e = rw (e, lt-ltb c 16 l) (bit-set-same c m)
 
-replica-back : (c m x : ℕ) → bit c (withReplica m x) ≡ true → (bit c m ≡ true) ⊎ (x ≡ c)
-unfolding withReplica
+replica-back : (c m x : ℕ) → bit c (with_replica m x) ≡ true → (bit c m ≡ true) ⊎ (x ≡ c)
+unfolding with_replica
 replica-back c m x = by_cond (λ k. bit c k ≡ true → (bit c m ≡ true) ⊎ (x ≡ c)) (ltb x 16) (λ _. go (eqb x c) refl) (λ _ e. inl e)
   where
-    go : (b : Bool) → eqb x c ≡ b → bit c (setBit x m) ≡ true → (bit c m ≡ true) ⊎ (x ≡ c)
+    go : (b : Bool) → eqb x c ≡ b → bit c (set_bit x m) ≡ true → (bit c m ≡ true) ⊎ (x ≡ c)
     go true d e = inr (eqb-true x c d)
     go false d e = inl (sym (bit-set-other c x m (λ z. eqb-false x c d (sym z))) ∙ e)
 
 -- with the cards of some seats
-seen-kept : (c m : ℕ) (xs : List ℕ) → bit c m ≡ true → bit c (replicasSeen m xs) ≡ true
-unfolding replicasSeen
+seen-kept : (c m : ℕ) (xs : List ℕ) → bit c m ≡ true → bit c (replicas_seen m xs) ≡ true
+unfolding replicas_seen
 seen-kept c m [] e = e
-seen-kept c m (x ∷ xs) e = seen-kept c (withReplica m x) xs (replica-kept c m x e)
+seen-kept c m (x ∷ xs) e = seen-kept c (with_replica m x) xs (replica-kept c m x e)
 
-seen-set : (c m : ℕ) (xs : List ℕ) → c < 16 → 1 ≤ seats c xs → bit c (replicasSeen m xs) ≡ true
-unfolding replicasSeen seats
+seen-set : (c m : ℕ) (xs : List ℕ) → c < 16 → 1 ≤ seats c xs → bit c (replicas_seen m xs) ≡ true
+unfolding replicas_seen seats
 seen-set c m [] l h = absurd (omega arith)
-seen-set c m (x ∷ xs) l h = go (seen-set c (withReplica m x) xs l) (eqb x c) refl h
+seen-set c m (x ∷ xs) l h = go (seen-set c (with_replica m x) xs l) (eqb x c) refl h
   where
-    go : (1 ≤ seats c xs → bit c (replicasSeen (withReplica m x) xs) ≡ true) → (b : Bool) → eqb x c ≡ b → 1 ≤ cond b 1 0 + seats c xs
-        → bit c (replicasSeen (withReplica m x) xs) ≡ true
-    go later true d h = seen-kept c (withReplica m x) xs (replica-set c m x l (eqb-true x c d))
+    go : (1 ≤ seats c xs → bit c (replicas_seen (with_replica m x) xs) ≡ true) → (b : Bool) → eqb x c ≡ b → 1 ≤ cond b 1 0 + seats c xs
+        → bit c (replicas_seen (with_replica m x) xs) ≡ true
+    go later true d h = seen-kept c (with_replica m x) xs (replica-set c m x l (eqb-true x c d))
     go later false d h = later (omega arith)
 
-seen_back : (c m : ℕ) (xs : List ℕ) → bit c (replicasSeen m xs) ≡ true → (bit c m ≡ true) ⊎ (1 ≤ seats c xs)
-unfolding replicasSeen seats
+seen_back : (c m : ℕ) (xs : List ℕ) → bit c (replicas_seen m xs) ≡ true → (bit c m ≡ true) ⊎ (1 ≤ seats c xs)
+unfolding replicas_seen seats
 seen_back c m [] e = inl e
-seen_back c m (x ∷ xs) e = ⊎_elim (λ b. ⊎_elim inl here (replica-back c m x b)) (λ l. inr (omega arith)) (seen_back c (withReplica m x) xs e)
+seen_back c m (x ∷ xs) e = ⊎_elim (λ b. ⊎_elim inl here (replica-back c m x b)) (λ l. inr (omega arith)) (seen_back c (with_replica m x) xs e)
   where
     here : x ≡ c → (bit c m ≡ true) ⊎ (1 ≤ cond (eqb x c) 1 0 + seats c xs)
     here d = inr (rw (eq-eqb x c d) (omega arith))
@@ -83,10 +83,10 @@ both_ways false true h k = k refl
 both_ways false false h k = refl
 
 -- n seats, no more than there are bits
-pub all-rotation : (n : ℕ) (xs : List ℕ) → length xs ≡ n → n ≤ 16 → allSeen n (replicasSeen 0 xs) ≡ isRotation n xs
-unfolding allSeen
+pub all-rotation : (n : ℕ) (xs : List ℕ) → length xs ≡ n → n ≤ 16 → all_seen n (replicas_seen 0 xs) ≡ is_rotation n xs
+unfolding all_seen
 all-rotation n xs e l =
-    both_ways (eqb (replicasSeen 0 xs % 2 ^ n + 1) (2 ^ n)) (isRotation n xs)
+    both_ways (eqb (replicas_seen 0 xs % 2 ^ n + 1) (2 ^ n)) (is_rotation n xs)
     (λ a. none-lacks n xs e (λ c m. ⊎_elim (λ z. absurd (true≢false (sym z ∙ bit-zero c))) (λ h. h)
-    (seen_back c 0 xs (full_at n (replicasSeen 0 xs) (eqb-true _ _ a) c m))))
-    (λ r. eq-eqb _ _ (full-of n (replicasSeen 0 xs) (λ c m. seen-set c 0 xs (omega arith) (lacks-none n xs r c m))))
+    (seen_back c 0 xs (full_at n (replicas_seen 0 xs) (eqb-true _ _ a) c m))))
+    (λ r. eq-eqb _ _ (full-of n (replicas_seen 0 xs) (λ c m. seen-set c 0 xs (omega arith) (lacks-none n xs r c m))))

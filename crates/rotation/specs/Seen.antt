@@ -1,16 +1,16 @@
 -- The mask of the cards seen in some seats.
 use Rattle.std.specs.Prelude.{ℕ, ◌+◌, ◌%◌, ◌^◌, List, [], ◌∷◌, Bool, cond, eqb, ltb}
-use Rattle.apollo.specs.Masks.{setBit}
+use Rattle.apollo.specs.Masks.{set_bit}
 
 -- with one card more, of those that have a bit
-unfoldable pub withReplica : (m card : ℕ) → ℕ
-withReplica m card = cond (ltb card 16) (setBit card m) m
+unfoldable pub with_replica : (m card : ℕ) → ℕ
+with_replica m card = cond (ltb card 16) (set_bit card m) m
 
 -- with those in the seats
-unfoldable pub replicasSeen : (m : ℕ) (seats : List ℕ) → ℕ
-replicasSeen m [] = m
-replicasSeen m (x ∷ xs) = replicasSeen (withReplica m x) xs
+unfoldable pub replicas_seen : (m : ℕ) (seats : List ℕ) → ℕ
+replicas_seen m [] = m
+replicas_seen m (x ∷ xs) = replicas_seen (with_replica m x) xs
 
 -- all bits below n are set
-unfoldable pub allSeen : (n m : ℕ) → Bool
-allSeen n m = eqb (m % 2 ^ n + 1) (2 ^ n)
+unfoldable pub all_seen : (n m : ℕ) → Bool
+all_seen n m = eqb (m % 2 ^ n + 1) (2 ^ n)

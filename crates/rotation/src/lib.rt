@@ -3,9 +3,9 @@
 
 ghost use Rattle.std.specs.Prelude.{◌≡◌, ◌&&◌, ◌≤◌, take};
 ghost use Rattle.apollo.specs.Bytes.{blank};
-ghost use Rattle.apollo.specs.Rotation.{isRotation, padded};
+ghost use Rattle.apollo.specs.Rotation.{is_rotation, padded};
 ghost use Rattle.apollo.specs.Setup.{leader};
-ghost use Rattle.rotation.specs.Seen.{withReplica, allSeen};
+ghost use Rattle.rotation.specs.Seen.{with_replica, all_seen};
 
 use apollo::Setup;
 
@@ -20,9 +20,9 @@ pub fn leader(s: Setup, round: u32) -> u8
 }
 
 // A mask of cards with one more; a number that has no bit is passed over.
-#[tactic(auto, unfolding(crate::specs::Seen::withReplica))]
+#[tactic(auto, unfolding(crate::specs::Seen::with_replica))]
 fn with_replica(m: u16, card: u8) -> u16
-    ensures { result ≡ withReplica m card }
+    ensures { result ≡ with_replica m card }
 {
     if card < 16 {
         masks::with_bit(m, card)
@@ -32,10 +32,10 @@ fn with_replica(m: u16, card: u8) -> u16
 }
 
 // A mask has all of the n lowest bits.
-#[tactic(auto, unfolding(crate::specs::Seen::allSeen))]
+#[tactic(auto, unfolding(crate::specs::Seen::all_seen))]
 fn all_seen(m: u16, n: usize) -> bool
     requires { n ≤ 15 }
-    ensures { result ≡ allSeen n m }
+    ensures { result ≡ all_seen n m }
 {
     let end = 1u32 << n;
     (m as u32) % end + 1 == end
@@ -44,7 +44,7 @@ fn all_seen(m: u16, n: usize) -> bool
 // The first n of 15 seats are a rotation of n cards, and the others are zero. One pass: n seats that lack no card have none twice.
 #[tactic(auto, using(crate::proofs::Pass::too_many))]
 pub fn valid_rotation(seats: [u8; 15], n: usize) -> bool
-    ensures { result ≡ isRotation n (take n seats) && blank seats n 15 }
+    ensures { result ≡ is_rotation n (take n seats) && blank seats n 15 }
 {
     if 15 < n {
         return false;

@@ -4,13 +4,13 @@
 
 ghost use Rattle.std.specs.Prelude.{◌≡◌, ◌&&◌, List, ℕ, ◌-◌, ◌≤◌, ◌<◌, eqb};
 ghost use Rattle.sha256.specs.Fips.{sha256};
-ghost use Rattle.apollo.specs.Setup.{setupOf};
+ghost use Rattle.apollo.specs.Setup.{setup_of};
 ghost use Rattle.apollo.specs.Masks as Masks;
-ghost use Rattle.apollo.specs.Replica.{withTimer};
+ghost use Rattle.apollo.specs.Replica.{with_timer};
 ghost use Rattle.apollo.specs.Enter as Enter;
-ghost use Rattle.apollo.specs.Enter.{state, commit, hearing, enterRound};
+ghost use Rattle.apollo.specs.Enter.{state, commit, hearing, enter_round};
 ghost use Rattle.apollo.specs.Outcome as Outcome;
-ghost use Rattle.apollo.specs.Outcome.{outcome, nextLeader};
+ghost use Rattle.apollo.specs.Outcome.{outcome, next_leader};
 ghost use Rattle.tip.specs.Ready.{Ready};
 ghost use Rattle.rounds.specs.Rounds.{told};
 
@@ -18,7 +18,7 @@ use apollo::{Answer, Replica};
 
 // The leader of R, 255 when R = T + 1.
 fn next_leader(r: Replica) -> u8
-    ensures { result ≡ nextLeader r }
+    ensures { result ≡ next_leader r }
 {
     let round = r.round.0;
     if r.last_round.0 < round {
@@ -43,7 +43,7 @@ fn taken(r: Replica, frames: u8) -> Answer
 
 // R grew for the last time in its call: the whole wait is left, and committed is renewed.
 fn entered(r: Replica, log: &[u8], frames: u8) -> Answer
-    ensures { result ≡ told (commit (withTimer r r.timeout.0) log.now) frames }
+    ensures { result ≡ told (commit (with_timer r r.timeout.0) log.now) frames }
 {
     let q = record::with_timer(r, r.timeout.0);
     taken(commit::commit(q, log), frames)
@@ -54,7 +54,7 @@ pub fn enter_round(r: Replica, log: &mut [u8], entry: &[u8], out: &mut [u8]) -> 
     requires { Ready r log.old entry.now out.old }
     ensures { (masks : List ℕ)
         → outcome result log.new masks out.new
-        ≡ Outcome.taken (enterRound sha256 entry.now (state r log.old masks)) out.old }
+        ≡ Outcome.taken (enter_round sha256 entry.now (state r log.old masks)) out.old }
 {
     if record::leads(r) {
         let q = tip::propose(r, log, entry, out);
@@ -65,7 +65,7 @@ pub fn enter_round(r: Replica, log: &mut [u8], entry: &[u8], out: &mut [u8]) -> 
 
 // The blames for a round certify R.
 fn certifies(r: Replica, masks: &[u16], round: u32) -> bool
-    ensures { result ≡ eqb round r.round.0 && Masks.certified (setupOf r) masks.now round }
+    ensures { result ≡ eqb round r.round.0 && Masks.certified (setup_of r) masks.now round }
 {
     if round != r.round.0 {
         return false;
@@ -115,7 +115,7 @@ pub fn hear(
 
 // Ticks left lowered by 1; nothing where they are 0.
 pub fn count_down(r: Replica) -> Answer
-    ensures { result ≡ told (withTimer r (r.timer.0 - 1)) 0 }
+    ensures { result ≡ told (with_timer r (r.timer.0 - 1)) 0 }
 {
     let timer = r.timer.0;
     if timer == 0 {

@@ -9,7 +9,7 @@ use slots::Found;
 // The highest filled slot up to the limit, and how many slots were read.
 #[unsafe(no_mangle)]
 pub extern "C" fn apollo_search(log: &[u8], limit: u32) -> Found
-    ensures { (result.round ≡ Log.highest log.now limit) × (result.slots_read ≡ Log.slotsRead log.now limit) }
+    ensures { (result.round ≡ Log.highest log.now limit) × (result.slots_read ≡ Log.slots_read log.now limit) }
 {
     slots::highest(log, limit)
 }

@@ -3,7 +3,7 @@
 
 ghost use Rattle.std.specs.Prelude.{◌≡◌, ◌&&◌};
 ghost use Rattle.apollo.specs.Bytes.{within};
-ghost use Rattle.setup_ranges.specs.Number.{lentNumber};
+ghost use Rattle.setup_ranges.specs.Number.{lent_number};
 
 use apollo::Setup;
 
@@ -16,7 +16,7 @@ pub fn valid_limits(f: u8, last_round: u32) -> bool
 
 // 1 and 17 of a set-up that has the rotation padded, 0 if there is none; `length` is how long that was.
 pub fn refusal(s: Setup, length: usize) -> u8
-    ensures { result ≡ lentNumber s length }
+    ensures { result ≡ lent_number s length }
 {
     if !valid_limits(s.f, s.last_round.0) {
         return apollo::refusal::BAD_SETUP;

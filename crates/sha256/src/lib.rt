@@ -3,14 +3,14 @@
 
 ghost use Rattle.std.specs.Prelude.{◌≡◌, ◌+◌, ◌*◌, ◌≤◌, ◌<◌, ◌/◌, ◌%◌, ◌^◌, length, get_or};
 ghost use Rattle.sha256.specs.Fips as Fips;
-ghost use Rattle.sha256.specs.Words.{putWord};
+ghost use Rattle.sha256.specs.Words.{put_word};
 
 use compression::State;
 
 // Writes the word x into the four bytes from i on.
 fn put_word(d: &mut [u8; 32], i: usize, x: u32)
     requires { i + 4 ≤ 32 }
-    ensures { d.new ≡ putWord d.old i x }
+    ensures { d.new ≡ put_word d.old i x }
 {
     d[i] = (x / 16777216 % 256) as u8;
     d[i + 1] = (x / 65536 % 256) as u8;

@@ -5,10 +5,10 @@ use mathlib.Core.List.{List}
 use Prim.Native.Nat.{ℕ, zero, suc, ◌+◌, ◌-◌, ◌*◌, ◌≤◌, ◌<◌}
 use native.Mathlib.Omega.{arith}
 use lib.Dec.{eqb-suc-zero}
-use Rattle.apollo.specs.Size.{frameSize}
+use Rattle.apollo.specs.Size.{frame_size}
 use Rattle.apollo.specs.Bytes.{part, zeros, number4}
 use Rattle.apollo.specs.Frame.{height}
-use Rattle.apollo.specs.Log.{genesis, slot, filled, highest, slotsRead}
+use Rattle.apollo.specs.Log.{genesis, slot, filled, highest, slots_read}
 
 -- the genesis is not filled, and its height is 0
 pub genesis-empty : (log : List ℕ) (r : ℕ) → r ≡ 0 → false ≡ filled (slot log r)
@@ -20,7 +20,7 @@ unfolding slot genesis zeros number4
 genesis-height log r e = rw e
 
 -- from round 1 on a slot is a part of the log
-pub slot-part : (log : List ℕ) (r : ℕ) → 0 < r → part log (frameSize * (r - 1)) frameSize ≡ slot log r
+pub slot-part : (log : List ℕ) (r : ℕ) → 0 < r → part log (frame_size * (r - 1)) frame_size ≡ slot log r
 unfolding slot
 slot-part log zero h = absurd (omega arith)
 slot-part log (suc k) h =
@@ -46,15 +46,15 @@ highest-none log zero h = refl
 highest-none log (suc r) h = absurd (omega arith)
 
 -- the slots read on the way down to slot r, which is the one found, or to none
-pub read_found : (log : List ℕ) (limit r n : ℕ) → 0 < r → n + r ≡ limit + 1 → r ≡ highest log limit → n ≡ slotsRead log limit
-unfolding slotsRead
+pub read_found : (log : List ℕ) (limit r n : ℕ) → 0 < r → n + r ≡ limit + 1 → r ≡ highest log limit → n ≡ slots_read log limit
+unfolding slots_read
 read_found log limit zero n h e x = absurd (omega arith)
 read_found log limit (suc r) n h e x =
     let d : n ≡ limit + 1 - suc r = omega arith in
     rw (← x, eqb-suc-zero r) d
 
-pub read_none : (log : List ℕ) (limit r n : ℕ) → r ≤ 0 → n + r ≡ limit → r ≡ highest log limit → n ≡ slotsRead log limit
-unfolding slotsRead
+pub read_none : (log : List ℕ) (limit r n : ℕ) → r ≤ 0 → n + r ≡ limit → r ≡ highest log limit → n ≡ slots_read log limit
+unfolding slots_read
 read_none log limit zero n h e x =
     let d : n ≡ limit = omega arith in
     rw (← x) d

@@ -2,9 +2,9 @@
 #![tactic(auto)]
 
 ghost use Rattle.std.specs.Prelude.{◌≡◌, ◌*◌, ◌≤◌, ◌<◌, length};
-ghost use Rattle.apollo.specs.Size.{frameSize};
+ghost use Rattle.apollo.specs.Size.{frame_size};
 ghost use Rattle.apollo.specs.Frame as Frame;
-ghost use Rattle.apollo.specs.Frame.{framesOf};
+ghost use Rattle.apollo.specs.Frame.{frames_of};
 ghost use Rattle.apollo.specs.Log as Log;
 ghost use Rattle.apollo.specs.Branch as Branch;
 ghost use Rattle.slots.specs.Slots.{Slotted};
@@ -21,7 +21,7 @@ pub struct Found {
 
 // The slots above round r are zeroed.
 fn clear_above(log: &mut [u8], r: u32)
-    ensures { log.new ≡ Log.clearAbove log.old r }
+    ensures { log.new ≡ Log.clear_above log.old r }
 {
     let a = FRAME * (r as usize);
     if a < log.len() {
@@ -31,7 +31,7 @@ fn clear_above(log: &mut [u8], r: u32)
 
 // Frame x is stored in slot r.
 pub fn store(log: &mut [u8], r: u32, x: &[u8])
-    requires { (1 ≤ r) × (frameSize * r ≤ length log.old) × (length x.now ≡ frameSize) }
+    requires { (1 ≤ r) × (frame_size * r ≤ length log.old) × (length x.now ≡ frame_size) }
     ensures { log.new ≡ Log.store log.old r x.now }
 {
     let e = FRAME * (r as usize);
@@ -41,7 +41,7 @@ pub fn store(log: &mut [u8], r: u32, x: &[u8])
 
 // Frame x is stored in the slot of its round.
 fn store_frame(log: &mut [u8], x: &[u8])
-    requires { (1 ≤ Frame.round x.now) × (frameSize * Frame.round x.now ≤ length log.old) × (length x.now ≡ frameSize) }
+    requires { (1 ≤ Frame.round x.now) × (frame_size * Frame.round x.now ≤ length log.old) × (length x.now ≡ frame_size) }
     ensures { log.new ≡ Log.store log.old (Frame.round x.now) x.now }
 {
     let r = frame::round(x);
@@ -50,8 +50,8 @@ fn store_frame(log: &mut [u8], x: &[u8])
 
 // Each whole frame is stored in the slot of its round.
 fn store_each(log: &mut [u8], frames: &[u8])
-    requires { Slotted (length log.old) (framesOf frames.now) }
-    ensures { log.new ≡ Branch.storeAll log.old (framesOf frames.now) }
+    requires { Slotted (length log.old) (frames_of frames.now) }
+    ensures { log.new ≡ Branch.store_all log.old (frames_of frames.now) }
 {
     let n = frames.len() / FRAME;
     let mut i = 0;
@@ -65,8 +65,8 @@ fn store_each(log: &mut [u8], frames: &[u8])
 
 // The frames are taken on round a.
 pub fn take_branch(log: &mut [u8], a: u32, frames: &[u8])
-    requires { Slotted (length log.old) (framesOf frames.now) }
-    ensures { log.new ≡ Branch.grown log.old a (framesOf frames.now) }
+    requires { Slotted (length log.old) (frames_of frames.now) }
+    ensures { log.new ≡ Branch.grown log.old a (frames_of frames.now) }
 {
     clear_above(log, a);
     store_each(log, frames);
@@ -103,7 +103,7 @@ pub fn slot_height(log: &[u8], r: u32) -> u32
 
 // The highest filled slot up to the limit, from there downwards, and how many slots were read.
 pub fn highest(log: &[u8], limit: u32) -> Found
-    ensures { (result.round ≡ Log.highest log.now limit) × (result.slots_read ≡ Log.slotsRead log.now limit) }
+    ensures { (result.round ≡ Log.highest log.now limit) × (result.slots_read ≡ Log.slots_read log.now limit) }
 {
     let mut round = limit;
     let mut slots_read = 0;

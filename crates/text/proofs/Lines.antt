@@ -2,7 +2,7 @@
 use Rattle.std.proofs.Common.{◌≡◌, sym, ap, List, ℕ, ◌+◌, ◌≤◌, ◌<◌, min, add-one, length, get_or, drop, drop-cons}
 use Rattle.std.proofs.Math.Seq.{paste, drop-length}
 use Rattle.std.proofs.lemmas.Bool.{le-leb, lt-leb}
-use Rattle.text.specs.Row.{Line, written, put, putNumber, putFrom}
+use Rattle.text.specs.Row.{Line, written, put, put_number, put_from}
 
 pub put-fits : (xs s : List ℕ) (at : ℕ) → at + length s ≤ length xs
     → written (paste xs at s (length s)) (at + length s) ≡ put (written xs at) s
@@ -16,12 +16,12 @@ put-not xs s at h = rw (lt-leb (at + length s) (length xs) h)
 
 -- the number at i is put
 pub from_next : (l : Line) (i : ℕ) (ns : List ℕ) → i < length ns
-    → putFrom l i (drop i ns) ≡ putFrom (putNumber l i (get_or ns i 0)) (i + 1) (drop (i + 1) ns)
-unfolding putFrom
+    → put_from l i (drop i ns) ≡ put_from (put_number l i (get_or ns i 0)) (i + 1) (drop (i + 1) ns)
+unfolding put_from
 from_next l i ns h =
-    rw (drop-cons ns i 0 h) (ap (λ k. putFrom (putNumber l i (get_or ns i 0)) (i + 1) (drop k ns)) (sym (add-one i)))
+    rw (drop-cons ns i 0 h) (ap (λ k. put_from (put_number l i (get_or ns i 0)) (i + 1) (drop k ns)) (sym (add-one i)))
 
 -- all are put
-pub from_end : (l : Line) (i : ℕ) (ns : List ℕ) → i ≡ length ns → putFrom l i (drop i ns) ≡ l
-unfolding putFrom
+pub from_end : (l : Line) (i : ℕ) (ns : List ℕ) → i ≡ length ns → put_from l i (drop i ns) ≡ l
+unfolding put_from
 from_end l i ns e = rw (e, drop-length ns)

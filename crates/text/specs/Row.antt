@@ -18,23 +18,23 @@ put l s =
     (written l.bytes (min l.place (length l.bytes)))
 
 -- n in decimal, with no zero in front: at most k digits
-unfoldable pub digitsTo : (k n : ℕ) → List ℕ
-digitsTo zero n = []
-digitsTo (suc k) n = cond (ltb n 10) ((48 + n) ∷ []) (digitsTo k (n / 10) ++ ((48 + n % 10) ∷ []))
+unfoldable pub digits_to : (k n : ℕ) → List ℕ
+digits_to zero n = []
+digits_to (suc k) n = cond (ltb n 10) ((48 + n) ∷ []) (digits_to k (n / 10) ++ ((48 + n % 10) ∷ []))
 
 -- the digits of a number of 64 bits
 unfoldable pub decimal : ℕ → List ℕ
-decimal n = digitsTo 20 n
+decimal n = digits_to 20 n
 
 -- number i of a row, with a space before it unless it is the first
-unfoldable pub putNumber : Line → (i n : ℕ) → Line
-putNumber l i n = put (put l (take (min i 1) (32 ∷ []))) (decimal n)
+unfoldable pub put_number : Line → (i n : ℕ) → Line
+put_number l i n = put (put l (take (min i 1) (32 ∷ []))) (decimal n)
 
 -- the numbers of a row from number i on
-unfoldable pub putFrom : Line → ℕ → List ℕ → Line
-putFrom l i [] = l
-putFrom l i (n ∷ ns) = putFrom (putNumber l i n) (i + 1) ns
+unfoldable pub put_from : Line → ℕ → List ℕ → Line
+put_from l i [] = l
+put_from l i (n ∷ ns) = put_from (put_number l i n) (i + 1) ns
 
 -- the numbers, and then s
-unfoldable pub putRow : Line → List ℕ → List ℕ → Line
-putRow l ns s = put (putFrom l 0 ns) s
+unfoldable pub put_row : Line → List ℕ → List ℕ → Line
+put_row l ns s = put (put_from l 0 ns) s

@@ -4,7 +4,7 @@
 ghost use Rattle.std.specs.Prelude.{◌≡◌, ◌≤◌, min, length, take};
 ghost use Rattle.std.specs.Io.KnownBytes.{Consumes};
 ghost use Rattle.text.specs.Reading.{taken, Next, came, to_come};
-ghost use Rattle.text.specs.Row.{written, put, putNumber, putRow};
+ghost use Rattle.text.specs.Row.{written, put, put_number, put_row};
 
 use itoa::Buffer;
 use std::io::{Error, Read};
@@ -46,7 +46,7 @@ fn put_bytes(line: &mut [u8], at: usize, s: &[u8]) -> usize
 
 // Puts number i of a row, with a space before it unless it is the first.
 fn put_number(line: &mut [u8], at: usize, i: usize, n: u64) -> usize
-    ensures { written line.new result ≡ putNumber (written line.old at) i n }
+    ensures { written line.new result ≡ put_number (written line.old at) i n }
 {
     let space = [b' '];
     let mut buffer = Buffer::new();
@@ -59,7 +59,7 @@ fn put_number(line: &mut [u8], at: usize, i: usize, n: u64) -> usize
 // Puts the numbers in decimal, a space between any two, and then s. Answers the place after them. A piece that does not
 // fit is left out.
 pub fn put_row(line: &mut [u8], at: usize, ns: &[u64], s: &[u8]) -> usize
-    ensures result_after { written line.new result ≡ putRow (written line.old at) ns.now s.now }
+    ensures result_after { written line.new result ≡ put_row (written line.old at) ns.now s.now }
     ensures upper_bound { result ≤ length line.new }
 {
     let mut e = at;

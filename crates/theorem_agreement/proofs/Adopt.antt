@@ -10,15 +10,15 @@ use lib.ListN.{length}
 use lib.Dec.{eqb}
 use borrow.Author.Tests.{eqb-true, eqb-false, eq-eqb, leb-true}
 use Rattle.sha256.specs.Fips.{sha256}
-use Rattle.apollo.specs.Size.{frameSize}
+use Rattle.apollo.specs.Size.{frame_size}
 use Rattle.apollo.specs.declared.Setup.{Setup}
 use Rattle.apollo.specs.Setup.{leader}
 use Rattle.apollo.specs.Bytes.{same}
-use Rattle.apollo.specs.Frame.{kind, signer, round, height, digest, parent, blockForm, linked, checked}
-use Rattle.apollo.specs.Log.{genesis, slot, filled, store, clearAbove, attach}
+use Rattle.apollo.specs.Frame.{kind, signer, round, height, digest, parent, block_form, linked, checked}
+use Rattle.apollo.specs.Log.{genesis, slot, filled, store, clear_above, attach}
 use Rattle.apollo.specs.Masks.{gap}
-use Rattle.apollo.specs.BlockRun.{last_of, blocks, judgedRun}
-use Rattle.apollo.specs.Branch.{firstUncertified, storeAll, grown}
+use Rattle.apollo.specs.BlockRun.{last_of, blocks, judged_run}
+use Rattle.apollo.specs.Branch.{first_uncertified, store_all, grown}
 use Rattle.theorem_agreement.specs.Run.{Event, In, Seen}
 use Rattle.apollo.proofs.Tests.{both}
 use Rattle.theorem_agreement.proofs.Tests.{and-true, same_true, same_of, by_cond}
@@ -73,14 +73,14 @@ module _ (s : Setup) where
   -- a frame with a right check and the form of a block
   pub record Block (x : List ℕ) : Type 0 where
     pub right : checked sha256 x ≡ true
-    pub form : blockForm s x ≡ true
+    pub form : block_form s x ≡ true
     pub kind-is : kind x ≡ 1
     pub signed : signer x ≡ leader s (round x)
     pub lowest : 1 ≤ round x
     pub highest : round x ≤ s.last_round.0
 
-  pub formed : (x : List ℕ) → checked sha256 x ≡ true → blockForm s x ≡ true → Block x
-  unfolding blockForm
+  pub formed : (x : List ℕ) → checked sha256 x ≡ true → block_form s x ≡ true → Block x
+  unfolding block_form
   formed x c g =
       let p4 = (and-true _ _ g).0 in
       let p3 = (and-true _ _ p4).0 in
@@ -122,7 +122,7 @@ module _ (s : Setup) where
       let b = block-parts s x q.0 in
       (formed x b.0 b.1, run_row x ys q.2)
 
-  pub branch_row : (x : List ℕ) (ys : List (List ℕ)) → (judgedRun sha256 s 0 none (x ∷ ys)).number ≡ 0 → Whole (x ∷ ys) → Block x × Row x ys
+  pub branch_row : (x : List ℕ) (ys : List (List ℕ)) → (judged_run sha256 s 0 none (x ∷ ys)).number ≡ 0 → Whole (x ∷ ys) → Block x × Row x ys
   branch_row x ys e w = blocks-row none x ys (blocks-judged s 0 none (x ∷ ys) e w)
 
   -- the frames handed in that have a right check are seen
@@ -130,14 +130,14 @@ module _ (s : Setup) where
   Known past xs = (x : List ℕ) → In x xs → checked sha256 x ≡ true → Seen x past
 
   module _ (past : List Event) (masks : List ℕ) where
-    certified-parts : (lo : ℕ) (x : List ℕ) (xs : List (List ℕ)) → firstUncertified s masks lo (x ∷ xs) ≡ 0
-        → (gap s masks lo (round x - lo - 1) ≡ 0) × (firstUncertified s masks (round x) xs ≡ 0)
-    unfolding firstUncertified
+    certified-parts : (lo : ℕ) (x : List ℕ) (xs : List (List ℕ)) → first_uncertified s masks lo (x ∷ xs) ≡ 0
+        → (gap s masks lo (round x - lo - 1) ≡ 0) × (first_uncertified s masks (round x) xs ≡ 0)
+    unfolding first_uncertified
     certified-parts lo x xs e =
-        by_cond (λ v. v ≡ 0 → (gap s masks lo (round x - lo - 1) ≡ 0) × (firstUncertified s masks (round x) xs ≡ 0))
+        by_cond (λ v. v ≡ 0 → (gap s masks lo (round x - lo - 1) ≡ 0) × (first_uncertified s masks (round x) xs ≡ 0))
         (eqb (gap s masks lo (round x - lo - 1)) 0) (λ g v. (eqb-true _ _ g, v)) (λ g v. absurd (eqb-false _ _ g v)) e
 
-    store-first : (log : List ℕ) (a h : ℕ) (x : List ℕ) → Stored s past masks log a h → Block x → Seen x past → length x ≡ frameSize
+    store-first : (log : List ℕ) (a h : ℕ) (x : List ℕ) → Stored s past masks log a h → Block x → Seen x past → length x ≡ frame_size
         → Joins (slot log a) x → a < round x → gap s masks a (round x - a - 1) ≡ 0
         → Stored s past masks (store log (round x) x) (round x) (height x)
     store-first log a h x st b k l j up g =
@@ -146,9 +146,9 @@ module _ (s : Setup) where
         (λ q m n. gap-none s masks a (round x - a - 1) g q m (omega arith))
 
     store-row : (xs : List (List ℕ)) (log : List ℕ) (a h : ℕ) (x : List ℕ) → Stored s past masks log a h → Block x → Row x xs
-        → Known past (x ∷ xs) → Whole (x ∷ xs) → Joins (slot log a) x → a < round x → firstUncertified s masks a (x ∷ xs) ≡ 0
-        → Stored s past masks (storeAll log (x ∷ xs)) (round (last_of x xs)) (height (last_of x xs))
-    unfolding storeAll last_of
+        → Known past (x ∷ xs) → Whole (x ∷ xs) → Joins (slot log a) x → a < round x → first_uncertified s masks a (x ∷ xs) ≡ 0
+        → Stored s past masks (store_all log (x ∷ xs)) (round (last_of x xs)) (height (last_of x xs))
+    unfolding store_all last_of
     store-row [] log a h x st b r k w j up u =
         store-first log a h x st b (k x (inl refl) b.right) w.0 j up (certified-parts a x [] u).0
     store-row (y ∷ ys) log a h x st b r k w j up u =
@@ -161,12 +161,12 @@ module _ (s : Setup) where
     -- the log that taking a branch on round a makes
     pub grown-stored : (log : List ℕ) (tip h a : ℕ) (x : List ℕ) (xs : List (List ℕ)) → Stored s past masks log tip h
         → attach log x (round x - 1) ≡ some a → Block x → Row x xs → Known past (x ∷ xs) → Whole (x ∷ xs)
-        → firstUncertified s masks a (x ∷ xs) ≡ 0
+        → first_uncertified s masks a (x ∷ xs) ≡ 0
         → Stored s past masks (grown log a (x ∷ xs)) (round (last_of x xs)) (height (last_of x xs))
     unfolding grown
     grown-stored log tip h a x xs st e b r k w u =
         let t : Attached log x (round x - 1) a = attach-at log x (round x - 1) a e in
         let l : a ≤ tip = within s.last_round.0 _ _ (slot log) tip st.chain a t.1 in
-        store-row xs (clearAbove log a) a _ x (clear-stored s past masks log tip h st a t.1) b r k w
+        store-row xs (clear_above log a) a _ x (clear-stored s past masks log tip h st a t.1) b r k w
         (subst (λ z. Joins z x) (sym (clear-low log a a (omega (arith, st.size, st.chain.low)) (omega arith))) t.2)
         (omega (arith, t.0, b.lowest)) u

@@ -13,11 +13,11 @@ use Rattle.apollo.specs.declared.Setup.{Setup}
 use Rattle.apollo.specs.Setup.{setup, replicas}
 use Rattle.apollo.specs.Frame.{signer, checked}
 use Rattle.apollo.specs.Log.{genesis, slot, chain}
-use Rattle.apollo.specs.Enter.{State, commitLimit}
-use Rattle.apollo.specs.Committed.{committedList, committed, Begins}
+use Rattle.apollo.specs.Enter.{State, commit_limit}
+use Rattle.apollo.specs.Committed.{committed_list, committed, Begins}
 use Rattle.apollo.specs.Outcome.{Outcome}
-use Rattle.theorem_agreement.specs.Run.{Call, opening, act, handed, emitted, In, Seen, World, isOpen, present, start, framesIn, hand, after, opened, answer, call_at, step, run}
-use Rattle.apollo.specs.Calls.{openCall}
+use Rattle.theorem_agreement.specs.Run.{Call, opening, act, handed, emitted, In, Seen, World, is_open, present, start, frames_in, hand, after, opened, answer, call_at, step, run}
+use Rattle.apollo.specs.Calls.{open_call}
 use Rattle.theorem_agreement.specs.Premises.{Each, Lawful, Unforged, Premises}
 use Rattle.theorem_agreement.specs.Claim.{Agreed, Agreement, AllCorrect, Beginnings, ByRound, Near, NeverInvalid, OnlyGrows, OpenedLeadersDiffer}
 use Rattle.theorem_agreement.proofs.Tests.{and-true, by_cond}
@@ -34,7 +34,7 @@ use Rattle.theorem_agreement.proofs.Honest.{Honest, same-limit, committed-near, 
 -- a list begins another with which its replica shares the slots up to the committed round
 begins : (c d : State) → c.replica.committed_round.0 ≤ d.replica.committed_round.0
     → ((q : ℕ) → 1 ≤ q → q ≤ c.replica.committed_round.0 → slot c.log q ≡ slot d.log q) → Begins (committed c) (committed d)
-unfolding committedList
+unfolding committed_list
 begins c d l e =
     let n : ℕ = c.replica.committed_round.0 in
     let r : Begins (chain d.log n) (chain d.log d.replica.committed_round.0) = chain_more d.log n _ l in
@@ -44,24 +44,24 @@ begins c d l e =
 step-grows : (w : World) (i : ℕ) (d : Call) → Grows w.past (step w i d).past
 unfolding step call_at opened after
 step-grows w i (opening id f timeout last rotation log masks entry out) =
-    let o : Outcome = openCall id f timeout last rotation log masks entry out in
+    let o : Outcome = open_call id f timeout last rotation log masks entry out in
     by_cond (λ (u : World). Grows w.past u.past) (eqb o.answer.number 0) (λ _. note-grows i o w.past)
     (λ _. note-grows i o w.past)
 step-grows w i (act a) = go (w.states i)
   where
     go : (c : Option State) → Grows w.past (call_at w i c (act a)).past
     go none e p = p
-    go (some c) e p = note-grows i (answer c a) (hand (framesIn c a) w.past) e (hand-grows (framesIn c a) w.past e p)
+    go (some c) e p = note-grows i (answer c a) (hand (frames_in c a) w.past) e (hand-grows (frames_in c a) w.past e p)
 
 -- a frame handed in was handed in before, or by this call
 abbrev Handed : World → ℕ → Call → List ℕ → Type 0
 Handed w i (opening id f timeout last rotation log masks entry out) x = In (handed x) w.past
-Handed w i (act a) x = In (handed x) w.past ⊎ ((c : State) × (w.states i ≡ some c) × Given (handed x) (framesIn c a))
+Handed w i (act a) x = In (handed x) w.past ⊎ ((c : State) × (w.states i ≡ some c) × Given (handed x) (frames_in c a))
 
 step-handed : (w : World) (i : ℕ) (d : Call) (x : List ℕ) → In (handed x) (step w i d).past → Handed w i d x
 unfolding step call_at opened after
 step-handed w i (opening id f timeout last rotation log masks entry out) x =
-    let o : Outcome = openCall id f timeout last rotation log masks entry out in
+    let o : Outcome = open_call id f timeout last rotation log masks entry out in
     by_cond (λ (u : World). In (handed x) u.past → In (handed x) w.past) (eqb o.answer.number 0)
     (λ _. note-handed i o w.past x) (λ _. note-handed i o w.past x)
 step-handed w i (act a) x = go (w.states i) refl
@@ -70,7 +70,7 @@ step-handed w i (act a) x = go (w.states i) refl
     go none e p = inl p
     go (some c) e p =
         ⊎_elim inl (λ q. inr (c, e, q))
-        (hand-back (framesIn c a) w.past (handed x) (note-handed i (answer c a) (hand (framesIn c a) w.past) x p))
+        (hand-back (frames_in c a) w.past (handed x) (note-handed i (answer c a) (hand (frames_in c a) w.past) x p))
 
 module _ (s : Setup) where
   -- each state stays, and is extended
@@ -102,7 +102,7 @@ module _ (s : Setup) where
         unforged (act a) u (inl q) = h x (inl q) l c
         unforged (act a) u (inr q) =
             let e : q.2.0 ≡ x = cc q.2.3 in
-            u q.0 x q.1 (subst (λ z. In z (framesIn q.0 a)) e q.2.1) (ap (checked sha256) (sym e) ∙ q.2.2) l c
+            u q.0 x q.1 (subst (λ z. In z (frames_in q.0 a)) e q.2.1) (ap (checked sha256) (sym e) ∙ q.2.2) l c
 
     pub run-authentic : (es : List (ℕ × Call)) (w : World) → Each (Lawful s) w es → Each (Unforged s correct) w es → Inv s w → Authentic w
         → Authentic (run w es)
@@ -137,7 +137,7 @@ module _ (s : Setup) (correct : ℕ → Bool) (calls : List (ℕ × Call)) (p : 
 
   -- of two replicas, the second one's R not the lower
   module _ (i j : ℕ) (c d : State) (ec : w.states i ≡ some c) (ed : w.states j ≡ some d) (l : c.replica.round.0 ≤ d.replica.round.0) where
-    same-slots : (q : ℕ) → 1 ≤ q → q ≤ commitLimit c.replica → slot c.log q ≡ slot d.log q
+    same-slots : (q : ℕ) → 1 ≤ q → q ≤ commit_limit c.replica → slot c.log q ≡ slot d.log q
     same-slots = same-limit s correct w.past honest i j c d (invariant.good i c ec) (invariant.good j d ed) l
 
     further : c.replica.committed_round.0 ≤ d.replica.committed_round.0
@@ -148,9 +148,9 @@ module _ (s : Setup) (correct : ℕ → Bool) (calls : List (ℕ × Call)) (p : 
           arith,
           r.committed-is,
           t.committed-is,
-          highest-grows c.log d.log (commitLimit c.replica) (commitLimit d.replica)
+          highest-grows c.log d.log (commit_limit c.replica) (commit_limit d.replica)
               (limit-grows s w.past i c (invariant.good i c ec) j d (invariant.good j d ed) l)
-              (λ q o m. sym (same-slots q o (omega (arith, highest-le c.log (commitLimit c.replica))))),
+              (λ q o m. sym (same-slots q o (omega (arith, highest-le c.log (commit_limit c.replica))))),
         )
 
     pub same-committed : (q : ℕ) → 1 ≤ q → q ≤ c.replica.committed_round.0 → slot c.log q ≡ slot d.log q
@@ -161,7 +161,7 @@ module _ (s : Setup) (correct : ℕ → Bool) (calls : List (ℕ × Call)) (p : 
 
   level_by : (i j : ℕ) (c d : State) → w.states i ≡ some c → w.states j ≡ some d → c.replica.round.0 ≡ d.replica.round.0
       → committed c ≡ committed d
-  unfolding committedList
+  unfolding committed_list
   level_by i j c d ec ed e =
       let k : c.replica.committed_round.0 ≡ d.replica.committed_round.0 =
       omega (arith, further i j c d ec ed (omega arith), further j i d c ed ec (omega arith)) in
@@ -198,9 +198,9 @@ all-correct s calls p =
     w = run start calls
 
     -- who emitted a frame has opened
-    opened-it : (i : ℕ) (x : List ℕ) → In (emitted i x) w.past → (c : Option State) → w.states i ≡ c → isOpen (w.states i) ≡ true
+    opened-it : (i : ℕ) (x : List ℕ) → In (emitted i x) w.past → (c : Option State) → w.states i ≡ c → is_open (w.states i) ≡ true
     opened-it i x e none z = absurd ((run-inv s calls start p.lawful (start-inv s)).asleep i z x e)
-    opened-it i x e (some c) z = ap isOpen z
+    opened-it i x e (some c) z = ap is_open z
 
 pub by-round : ByRound
 by-round s correct calls p i j c d ec ed = (
@@ -283,6 +283,6 @@ pub opened-leaders-differ : OpenedLeadersDiffer
 unfolding start
 opened-leaders-differ id f timeout last rotation log masks entry out e =
     let s : Setup = setup f last rotation in
-    let x : (c : State) × Fine s [] id c (openCall id f timeout last rotation log masks entry out) =
+    let x : (c : State) × Fine s [] id c (open_call id f timeout last rotation log masks entry out) =
     (open-fine s [] id id f timeout last rotation log masks entry out).fine e refl refl refl refl (λ y p. p) (start-inv s).tidy in
     leaders-differ s x.1.standing.good.fixed.turns

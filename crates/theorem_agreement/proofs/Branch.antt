@@ -9,16 +9,16 @@ use lib.ListN.{length, take}
 use lib.Dec.{eqb, ltb}
 use borrow.Author.Tests.{eqb-true, ltb-false}
 use Rattle.sha256.specs.Fips.{sha256}
-use Rattle.apollo.specs.Size.{frameSize}
+use Rattle.apollo.specs.Size.{frame_size}
 use Rattle.apollo.specs.declared.Setup.{Setup}
-use Rattle.apollo.specs.Setup.{setupOf}
+use Rattle.apollo.specs.Setup.{setup_of}
 use Rattle.apollo.specs.Bytes.{same}
-use Rattle.apollo.specs.Frame.{round, height, framesOf, wholeFrames}
+use Rattle.apollo.specs.Frame.{round, height, frames_of, whole_frames}
 use Rattle.apollo.specs.Log.{attach}
 use Rattle.apollo.specs.Enter.{State, tipped, holding}
 use Rattle.apollo.specs.Outcome.{taken}
-use Rattle.apollo.specs.BlockRun.{last_of, judgedRun}
-use Rattle.apollo.specs.Branch.{firstUncertified, grown, adopting, placed, branched, branchWith}
+use Rattle.apollo.specs.BlockRun.{last_of, judged_run}
+use Rattle.apollo.specs.Branch.{first_uncertified, grown, adopting, placed, branched, branch_with}
 use Rattle.theorem_agreement.specs.Run.{Event}
 use Rattle.theorem_agreement.proofs.Tests.{clash, same_true, same_of, by_cond}
 use Rattle.theorem_agreement.proofs.Slots.{slots-take}
@@ -42,14 +42,14 @@ module _ (s : Setup) (past : List Event) (i : ℕ) (entry : List ℕ)
     abbrev New : ℕ → Type 0
     New a = Stored s past c.masks (grown c.log a (x ∷ xs)) (round (last_of x xs)) (height (last_of x xs))
 
-    adopted : (out : List ℕ) (a : ℕ) → New a → take (frameSize * done) (grown c.log a (x ∷ xs)) ≡ take (frameSize * done) c.log
+    adopted : (out : List ℕ) (a : ℕ) → New a → take (frame_size * done) (grown c.log a (x ∷ xs)) ≡ take (frame_size * done) c.log
         → Fine s past i c (taken (adopting sha256 entry c a x xs) out)
     unfolding adopting
     adopted out a new keep =
         let log : List ℕ = grown c.log a (x ∷ xs) in
         let t : ℕ = round (last_of x xs) in
         let h : ℕ = height (last_of x xs) in
-        let fit : frameSize * done ≤ frameSize * s.last_round.0 =
+        let fit : frame_size * done ≤ frame_size * s.last_round.0 =
         omega (arith, committed-tip s past i c st.good rests.renewed, st.good.stored.chain.low) in
         let slots = slots-take log c.log done (omega (arith, new.size)) (omega (arith, st.good.stored.size)) keep in
         taken_fine s past i c _ out
@@ -61,8 +61,8 @@ module _ (s : Setup) (past : List Event) (i : ℕ) (entry : List ℕ)
     unfolding placed
     placed-fine out none e = refused-plain s past i c st rests out 11 0 refl refl
     placed-fine out (some a) e =
-        by_cond (Fine s past i c) (eqb (firstUncertified (setupOf c.replica) c.masks a (x ∷ xs)) 0)
-        (λ u. by_cond (Fine s past i c) (same (take (frameSize * done) (grown c.log a (x ∷ xs))) (take (frameSize * done) c.log))
+        by_cond (Fine s past i c) (eqb (first_uncertified (setup_of c.replica) c.masks a (x ∷ xs)) 0)
+        (λ u. by_cond (Fine s past i c) (same (take (frame_size * done) (grown c.log a (x ∷ xs))) (take (frame_size * done) c.log))
         (λ k. adopted out a (new (eqb-true _ _ u)) (same_true _ _ k))
         (λ k. refused-fine s past i c st rests out 12 0 (λ z. omega (arith, z))
         (λ _. record {
@@ -76,34 +76,34 @@ module _ (s : Setup) (past : List Event) (i : ℕ) (entry : List ℕ)
         })))
         (λ u. refused-plain s past i c st rests out 13 _ refl refl)
       where
-        new : firstUncertified (setupOf c.replica) c.masks a (x ∷ xs) ≡ 0 → New a
+        new : first_uncertified (setup_of c.replica) c.masks a (x ∷ xs) ≡ 0 → New a
         new u =
             grown-stored s past c.masks c.log _ _ a x xs st.good.stored e block row known whole
-            (ap (λ k. firstUncertified k c.masks a (x ∷ xs)) (sym (setup-is s i c.replica st.good.fixed)) ∙ u)
+            (ap (λ k. first_uncertified k c.masks a (x ∷ xs)) (sym (setup-is s i c.replica st.good.fixed)) ∙ u)
 
   branched-fine : (out : List ℕ) (fs : List (List ℕ)) → length entry ≤ 400 → Known s past fs → Whole fs
       → Fine s past i c (branched sha256 entry out c fs)
   unfolding branched
   branched-fine out [] fits known whole = refused-plain s past i c st rests out 6 0 refl refl
   branched-fine out (x ∷ xs) fits known whole =
-      by_cond (Fine s past i c) (eqb (judgedRun sha256 (setupOf c.replica) 0 none (x ∷ xs)).number 0)
+      by_cond (Fine s past i c) (eqb (judged_run sha256 (setup_of c.replica) 0 none (x ∷ xs)).number 0)
       (λ j. by_cond (Fine s past i c) (ltb (round (last_of x xs)) c.replica.round.0)
       (λ _. refused-plain s past i c st rests out 10 0 refl refl)
       (λ l. let r : Block s x × Row s x xs = rows (eqb-true _ _ j) in
       placed-fine fits x xs r.0 r.1 known whole (ltb-false _ _ l) out _ refl))
-      (λ j. let l : Low (judgedRun sha256 (setupOf c.replica) 0 none (x ∷ xs)).number = run-low (setupOf c.replica) 0 none (x ∷ xs) in
+      (λ j. let l : Low (judged_run sha256 (setup_of c.replica) 0 none (x ∷ xs)).number = run-low (setup_of c.replica) 0 none (x ∷ xs) in
       refused-plain s past i c st rests out _ _ l.0 l.1)
     where
-      rows : (judgedRun sha256 (setupOf c.replica) 0 none (x ∷ xs)).number ≡ 0 → Block s x × Row s x xs
+      rows : (judged_run sha256 (setup_of c.replica) 0 none (x ∷ xs)).number ≡ 0 → Block s x × Row s x xs
       rows e =
           branch_row s x xs
-          (ap (λ k. (judgedRun sha256 k 0 none (x ∷ xs)).number) (sym (setup-is s i c.replica st.good.fixed)) ∙ e) whole
+          (ap (λ k. (judged_run sha256 k 0 none (x ∷ xs)).number) (sym (setup-is s i c.replica st.good.fixed)) ∙ e) whole
 
-  pub branch-fine : (bytes out : List ℕ) → (wholeFrames c.replica.last_round.0 bytes ≡ true → Known s past (framesOf bytes))
-      → Fine s past i c (branchWith sha256 c bytes entry out)
-  unfolding branchWith
+  pub branch-fine : (bytes out : List ℕ) → (whole_frames c.replica.last_round.0 bytes ≡ true → Known s past (frames_of bytes))
+      → Fine s past i c (branch_with sha256 c bytes entry out)
+  unfolding branch_with
   branch-fine bytes out known =
       guarded-fine s past i c st rests entry out _
-      (λ low fits. by_cond (Fine s past i c) (wholeFrames c.replica.last_round.0 bytes)
-      (λ e. branched-fine out (framesOf bytes) fits (known e) (frames-whole (length bytes / frameSize) bytes (omega arith)))
+      (λ low fits. by_cond (Fine s past i c) (whole_frames c.replica.last_round.0 bytes)
+      (λ e. branched-fine out (frames_of bytes) fits (known e) (frames-whole (length bytes / frame_size) bytes (omega arith)))
       (λ _. refused-plain s past i c st rests out 6 0 refl refl))

@@ -9,15 +9,15 @@ use lib.ListN.{length}
 use lib.Dec.{eqb, leb}
 use borrow.Author.Tests.{eqb-true, eq-eqb, leb-true}
 use Rattle.sha256.specs.Fips.{sha256}
-use Rattle.apollo.specs.Size.{frameSize}
+use Rattle.apollo.specs.Size.{frame_size}
 use Rattle.apollo.specs.declared.Setup.{Setup}
-use Rattle.apollo.specs.Setup.{setupOf, leader}
+use Rattle.apollo.specs.Setup.{setup_of, leader}
 use Rattle.apollo.specs.Frame.{kind, signer, round, height, parent, digest}
 use Rattle.apollo.specs.Log.{slot, store}
 use Rattle.apollo.specs.Masks.{certified}
 use Rattle.apollo.specs.Replica.{leads}
 use Rattle.apollo.specs.BlockRun.{block}
-use Rattle.apollo.specs.Enter.{State, Effect, commit, tipped, waiting, hearing, holding, entered, ownBlock, proposing, enterRound, settle}
+use Rattle.apollo.specs.Enter.{State, Effect, commit, tipped, waiting, hearing, holding, entered, own_block, proposing, enter_round, settle}
 use Rattle.apollo.proofs.Tests.{both}
 use Rattle.theorem_agreement.specs.Run.{Event, emitted, In, emit}
 use Rattle.theorem_agreement.proofs.Tests.{clash, either, and-true, by_cond}
@@ -102,7 +102,7 @@ module _ (s : Setup) where
   unfolding leads
   leads-parts past i c g e =
       let p : (leb c.replica.round.0 c.replica.last_round.0 ≡ true)
-      × (eqb (leader (setupOf c.replica) c.replica.round.0) c.replica.id ≡ true) = and-true _ _ e in
+      × (eqb (leader (setup_of c.replica) c.replica.round.0) c.replica.id ≡ true) = and-true _ _ e in
       let l : c.replica.round.0 ≤ c.replica.last_round.0 = leb-true _ _ p.0 in (
         omega (arith, g.fixed.last-is),
         ap (λ k. leader k c.replica.round.0) (sym (setup-is s i c.replica g.fixed)) ∙ eqb-true _ _ p.1 ∙ g.fixed.id-is,
@@ -115,7 +115,7 @@ module _ (s : Setup) (entry : List ℕ) (fits : length entry ≤ 400) where
     R = c.replica.round.0
 
     abbrev z : List ℕ
-    z = ownBlock sha256 entry c
+    z = own_block sha256 entry c
 
     abbrev now : List Event
     now = emitted i z ∷ past
@@ -144,32 +144,32 @@ module _ (s : Setup) (entry : List ℕ) (fits : length entry ≤ 400) where
     z-level = omega (arith, g.stored.level-is, tip-level s past _ _ _ _ g.stored)
 
     z-kind : kind z ≡ 1
-    unfolding ownBlock
+    unfolding own_block
     z-kind = block-kind _ _ _ _ _ up-length fits
 
     z-signer : signer z ≡ i
-    unfolding ownBlock
+    unfolding own_block
     z-signer = block-signer _ _ _ _ _ up-length fits ∙ g.fixed.id-is
 
     z-round : round z ≡ R
-    unfolding ownBlock
+    unfolding own_block
     z-round = block-round _ _ _ _ _ up-length fits (omega (arith, R-low, short))
 
     z-height : height z ≡ c.replica.tip_height.0 + 1
-    unfolding ownBlock
+    unfolding own_block
     z-height =
         block-height _ _ _ _ _ up-length fits (omega (arith, z-level, g.tip-below, R-low, short))
 
     z-parent : parent z ≡ digest (slot c.log c.replica.tip_round.0)
-    unfolding ownBlock
+    unfolding own_block
     z-parent = block-parent _ _ _ _ _ up-length fits
 
-    z-length : length z ≡ frameSize
-    unfolding ownBlock
+    z-length : length z ≡ frame_size
+    unfolding own_block
     z-length = block-length _ _ _ _ _ up-length fits
 
     z-block : block s z ≡ true
-    unfolding ownBlock
+    unfolding own_block
     z-block =
         block_made _ _ _ _ _ up-length fits s (g.fixed.id-is ∙ sym R-led) one R-low (omega (arith, R-low, short)) (omega arith)
         (omega (arith, z-level, g.tip-below))
@@ -268,8 +268,8 @@ module _ (s : Setup) (entry : List ℕ) (fits : length entry ≤ 400) where
 
   -- a call on state b led to state c, which enters R
   pub enter-kept : (past : List Event) (i : ℕ) (b c : State) → Renewed b.replica b.log → Extends b c → Standing s past i c → Ahead c
-      → Kept s past i b (enterRound sha256 entry c)
-  unfolding enterRound emit
+      → Kept s past i b (enter_round sha256 entry c)
+  unfolding enter_round emit
   enter-kept past i b c r x st a =
       by_cond (Kept s past i b) (leads c.replica) (λ e. propose-kept past i c st e b r x a)
       (λ e. entered-kept s past i b c [] r x st e a tt)
@@ -279,21 +279,21 @@ module _ (s : Setup) (entry : List ℕ) (fits : length entry ≤ 400) where
       → Kept s past i c (settle sha256 entry c r)
   unfolding settle
   settle-kept past i c r low hears st =
-      by_cond (Kept s past i c) (eqb r c.replica.round.0 && certified (setupOf c.replica) c.masks r)
+      by_cond (Kept s past i c) (eqb r c.replica.round.0 && certified (setup_of c.replica) c.masks r)
       (λ e. pass (and-true _ _ e)) (λ e. silent s past i c c st (hears-rested r c hears (stays e)) (extends-refl c))
     where
-      stays : (eqb r c.replica.round.0 && certified (setupOf c.replica) c.masks r) ≡ false → r ≡ c.replica.round.0 → Open c r
-      stays e here = go (either (certified (setupOf c.replica) c.masks r))
+      stays : (eqb r c.replica.round.0 && certified (setup_of c.replica) c.masks r) ≡ false → r ≡ c.replica.round.0 → Open c r
+      stays e here = go (either (certified (setup_of c.replica) c.masks r))
         where
-          go : (certified (setupOf c.replica) c.masks r ≡ true) ⊎ (Open c r) → Open c r
+          go : (certified (setup_of c.replica) c.masks r ≡ true) ⊎ (Open c r) → Open c r
           go (inr o) = o
           go (inl t) = absurd (clash (both _ _ (eq-eqb r c.replica.round.0 here) t) e)
 
       d : State
       d = waiting c (r + 1) c.replica.timer.0
 
-      pass : (eqb r c.replica.round.0 ≡ true) × (certified (setupOf c.replica) c.masks r ≡ true)
-          → Kept s past i c (enterRound sha256 entry d)
+      pass : (eqb r c.replica.round.0 ≡ true) × (certified (setup_of c.replica) c.masks r ≡ true)
+          → Kept s past i c (enter_round sha256 entry d)
       pass p =
           let here : r ≡ c.replica.round.0 = eqb-true _ _ p.0 in
           let cert : certified s c.masks r ≡ true =

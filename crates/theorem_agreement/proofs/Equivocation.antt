@@ -9,23 +9,23 @@ use lib.ListN.{length}
 use lib.Dec.{eqb}
 use borrow.Author.Tests.{eqb-true, not-true}
 use Rattle.sha256.specs.Fips.{sha256}
-use Rattle.apollo.specs.Size.{frameSize}
+use Rattle.apollo.specs.Size.{frame_size}
 use Rattle.apollo.specs.declared.Setup.{Setup}
 use Rattle.apollo.specs.declared.Marked.{Marked}
 use Rattle.apollo.specs.Bytes.{same}
-use Rattle.apollo.specs.Setup.{setupOf, replicas, leader}
-use Rattle.apollo.specs.Frame.{round, digest, frames, framesOf, firstFrame, blockForm}
-use Rattle.apollo.specs.Replica.{withMark}
+use Rattle.apollo.specs.Setup.{setup_of, replicas, leader}
+use Rattle.apollo.specs.Frame.{round, digest, frames, frames_of, first_frame, block_form}
+use Rattle.apollo.specs.Replica.{with_mark}
 use Rattle.apollo.specs.Enter.{State}
-use Rattle.apollo.specs.Judging.{judgedEach}
+use Rattle.apollo.specs.Judging.{judged_each}
 use Rattle.apollo.specs.Outcome.{refused}
-use Rattle.apollo.specs.Equivocation.{marked, isPair, second, conflicting, equivocationWith}
+use Rattle.apollo.specs.Equivocation.{marked, is_pair, second, conflicting, equivocation_with}
 use Rattle.apollo.proofs.Fault.{Passes}
 use Rattle.apollo.proofs.Rotation.{leader-low}
 use Rattle.apollo.proofs.BlockRun.{block_of}
 use Rattle.apollo.proofs.Equivocation.{judged, Case, invalid-record, not-pair, faulty-frame, not-conflicting, leader-marked, by-case}
 use Rattle.apollo.proofs.Frames.{pair-frames}
-use Rattle.theorem_agreement.specs.Run.{Event, emit, emittedBy, recordOnly}
+use Rattle.theorem_agreement.specs.Run.{Event, emit, emitted_by, record_only}
 use Rattle.theorem_agreement.specs.Marks.{Equivocated}
 use Rattle.theorem_agreement.proofs.Tests.{clash, and-true, same_of}
 use Rattle.theorem_agreement.proofs.Frames.{Whole, frames-whole}
@@ -38,21 +38,21 @@ use Rattle.theorem_agreement.proofs.Outcomes.{Fine, refused-plain}
 
 module _ (s : Setup) (past : List Event) (i : ℕ) (c : State) (st : Standing s past i c) (rests : Rested c) where
   abbrev FineBy : Marked → Type 0
-  FineBy m = Fine s past i c (recordOnly c m)
+  FineBy m = Fine s past i c (record_only c m)
 
   abbrev form : List ℕ → Bool
-  form = blockForm (setupOf c.replica)
+  form = block_form (setup_of c.replica)
 
-  abbrev own : setupOf c.replica ≡ s
+  abbrev own : setup_of c.replica ≡ s
   own = setup-is s i c.replica st.good.fixed
 
   refusal : (k p : ℕ) → eqb k 2 ≡ false → eqb k 12 ≡ false → FineBy (marked k p c.replica)
-  unfolding recordOnly refused
+  unfolding record_only refused
   refusal k p a b = refused-plain s past i c st rests [] k p a b
 
   -- a card is marked for two blocks that were seen
-  marked-fine : (k : ℕ) → k < replicas s → Equivocated s past k → FineBy (marked 0 0 (withMark c.replica k))
-  unfolding recordOnly emittedBy frames emit
+  marked-fine : (k : ℕ) → k < replicas s → Equivocated s past k → FineBy (marked 0 0 (with_mark c.replica k))
+  unfolding record_only emitted_by frames emit
   marked-fine k low d =
       record {
         standing = record { good = mark-good s past i c st.good k low d; mine = st.mine; tidy = st.tidy };
@@ -64,8 +64,8 @@ module _ (s : Setup) (past : List Event) (i : ℕ) (c : State) (st : Standing s 
 
   module _ (x y : List ℕ) (known : Known s past (x ∷ y ∷ [])) (whole : Whole (x ∷ y ∷ [])) where
     -- what two frames that pass 7, 8 and 18 show
-    equivocated : (judgedEach sha256 form 0 (x ∷ y ∷ [])).number ≡ 0 → conflicting x y ≡ true
-        → Equivocated s past (leader (setupOf c.replica) (round x))
+    equivocated : (judged_each sha256 form 0 (x ∷ y ∷ [])).number ≡ 0 → conflicting x y ≡ true
+        → Equivocated s past (leader (setup_of c.replica) (round x))
     unfolding conflicting
     equivocated e d =
         let p : Passes sha256 form x = each_none sha256 form 0 (x ∷ y ∷ []) e x (inl refl) in
@@ -76,33 +76,33 @@ module _ (s : Setup) (past : List Event) (i : ℕ) (c : State) (st : Standing s 
           other = y;
           one_seen = known x (inl refl) p.0;
           other-seen = known y (inr (inl refl)) q.0;
-          one_block = block_of s x whole.0 p.0 (ap (λ k. blockForm k x) (sym own) ∙ p.1);
-          other_block = block_of s y whole.1.0 q.0 (ap (λ k. blockForm k y) (sym own) ∙ q.1);
+          one_block = block_of s x whole.0 p.0 (ap (λ k. block_form k x) (sym own) ∙ p.1);
+          other_block = block_of s y whole.1.0 q.0 (ap (λ k. block_form k y) (sym own) ∙ q.1);
           one-round = eqb-true _ _ t.0;
           names-differ = λ z. clash (same_of z) (not-true _ t.1);
           led = ap (λ k. leader k (round x)) (sym own);
         }
 
-  pub equivocation-fine : (bytes : List ℕ) → (isPair bytes ≡ true → Known s past (framesOf bytes))
-      → FineBy (equivocationWith sha256 c.replica bytes)
+  pub equivocation-fine : (bytes : List ℕ) → (is_pair bytes ≡ true → Known s past (frames_of bytes))
+      → FineBy (equivocation_with sha256 c.replica bytes)
   equivocation-fine bytes known = go _ (by-case sha256 c.replica bytes)
     where
-      known_two : isPair bytes ≡ true → Known s past (firstFrame bytes ∷ second bytes ∷ [])
+      known_two : is_pair bytes ≡ true → Known s past (first_frame bytes ∷ second bytes ∷ [])
       known_two e = subst (Known s past) (pair-frames bytes (eqb-true _ _ e)) (known e)
 
-      whole-two : isPair bytes ≡ true → Whole (firstFrame bytes ∷ second bytes ∷ [])
+      whole-two : is_pair bytes ≡ true → Whole (first_frame bytes ∷ second bytes ∷ [])
       whole-two e =
           let n : length bytes ≡ 1024 = eqb-true _ _ e in
-          subst Whole (pair-frames bytes n) (frames-whole (length bytes / frameSize) bytes (omega arith))
+          subst Whole (pair-frames bytes n) (frames-whole (length bytes / frame_size) bytes (omega arith))
 
       go : (m : Marked) → Case sha256 c.replica bytes m → FineBy m
       go m (invalid-record v) = absurd (clash (valid-own s past i c st.good rests) v)
       go m (not-pair v p) = refusal 6 0 refl refl
       go m (faulty-frame v p j) =
-          let l : Low (judged sha256 c.replica bytes).number = each-low sha256 form 0 (firstFrame bytes ∷ second bytes ∷ []) in
+          let l : Low (judged sha256 c.replica bytes).number = each-low sha256 form 0 (first_frame bytes ∷ second bytes ∷ []) in
           refusal _ _ l.0 l.1
       go m (not-conflicting v p j d) = refusal 18 0 refl refl
       go m (leader-marked v p j d) =
-          marked-fine (leader (setupOf c.replica) (round (firstFrame bytes)))
-          (subst (λ k. leader k (round (firstFrame bytes)) < replicas s) (sym own) (leader-low s st.good.fixed.turns (round (firstFrame bytes))))
-          (equivocated (firstFrame bytes) (second bytes) (known_two p) (whole-two p) j d)
+          marked-fine (leader (setup_of c.replica) (round (first_frame bytes)))
+          (subst (λ k. leader k (round (first_frame bytes)) < replicas s) (sym own) (leader-low s st.good.fixed.turns (round (first_frame bytes))))
+          (equivocated (first_frame bytes) (second bytes) (known_two p) (whole-two p) j d)

@@ -4,14 +4,14 @@ use mathlib.Core.Path.{◌≡◌, refl}
 use mathlib.Core.List.{List, [], ◌∷◌, ◌++◌, append_assoc, flatten}
 use lib.ListN.{length, take, drop, length-take, length-drop}
 use lib.Seq.{drop_at, take_at}
-use Rattle.apollo.specs.Size.{frameSize}
+use Rattle.apollo.specs.Size.{frame_size}
 use Rattle.apollo.specs.Bytes.{number4, zeros}
 use Rattle.apollo.specs.Frame.{round, height, digest, frames}
 use Rattle.apollo.specs.Log.{genesis}
 pub use Rattle.apollo.proofs.Slots.{slot-length}
 pub use Rattle.apollo.proofs.Frames.{Whole, frames-whole}
 
-pub digest-width : (x : List ℕ) → length x ≡ frameSize → length (digest x) ≡ 32
+pub digest-width : (x : List ℕ) → length x ≡ frame_size → length (digest x) ≡ 32
 digest-width x e = simp (length-take, length-drop, e) refl
 
 pub height-genesis : height genesis ≡ 0
@@ -27,7 +27,7 @@ unfolding frames flatten
 frames-flatten [] rest w = refl
 frames-flatten (x ∷ xs) rest w =
     let a : x ++ flatten xs ++ rest ≡ x ++ (flatten xs ++ rest) = append_assoc x (flatten xs) rest in
-    let t : take frameSize (x ++ flatten xs ++ rest) ≡ x = rw a (take_at x _ frameSize w.0) in
-    let d : drop frameSize (x ++ flatten xs ++ rest) ≡ flatten xs ++ rest = rw a (drop_at x _ frameSize w.0) in
+    let t : take frame_size (x ++ flatten xs ++ rest) ≡ x = rw a (take_at x _ frame_size w.0) in
+    let d : drop frame_size (x ++ flatten xs ++ rest) ≡ flatten xs ++ rest = rw a (drop_at x _ frame_size w.0) in
     let i : frames (length xs) (flatten xs ++ rest) ≡ xs = frames-flatten xs rest w.1 in
     rw (t, d, i)

@@ -10,13 +10,13 @@ use lib.Dec.{eqb, leb}
 use borrow.Author.Tests.{eqb-true, eqb-false, leb-true, leb-false}
 use Rattle.apollo.specs.declared.Replica.{Replica}
 use Rattle.apollo.specs.declared.Setup.{Setup}
-use Rattle.apollo.specs.Setup.{setupOf, replicas, validRotation}
+use Rattle.apollo.specs.Setup.{setup_of, replicas, valid_rotation}
 use Rattle.apollo.specs.Frame.{kind, signer, round, height}
 use Rattle.apollo.specs.Log.{slot, filled, highest}
-use Rattle.apollo.specs.Masks.{bit, setBit, mask, certified}
-use Rattle.apollo.specs.Replica.{leads, withMark}
+use Rattle.apollo.specs.Masks.{bit, set_bit, mask, certified}
+use Rattle.apollo.specs.Replica.{leads, with_mark}
 use Rattle.apollo.proofs.Masks.{bit-set-other, bit_kept, set_below}
-use Rattle.apollo.specs.Enter.{State, commitLimit, commit, tipped, waiting, hearing, holding, entered}
+use Rattle.apollo.specs.Enter.{State, commit_limit, commit, tipped, waiting, hearing, holding, entered}
 use Rattle.theorem_agreement.specs.Run.{Event, Seen}
 use Rattle.theorem_agreement.specs.Marks.{Equivocated}
 use Rattle.theorem_agreement.proofs.Masks.{mask-set, length-blame, certified-kept, certified-other}
@@ -31,12 +31,12 @@ Blamed past k q = (x : List ℕ) × Seen x past × (kind x ≡ 2) × (signer x �
 
 -- committed is what the log and R make it
 pub record Renewed (r : Replica) (log : List ℕ) : Type 0 where
-  pub committed-is : r.committed_round.0 ≡ highest log (commitLimit r)
+  pub committed-is : r.committed_round.0 ≡ highest log (commit_limit r)
   pub committed-height : r.committed_height.0 ≡ height (slot log r.committed_round.0)
 
 -- round q is not certified, by the state's own set-up
 abbrev pub Open : State → ℕ → Type 0
-Open c q = certified (setupOf c.replica) c.masks q ≡ false
+Open c q = certified (setup_of c.replica) c.masks q ≡ false
 
 -- no round from R on is certified: blames for later ones come early, and R is passed as soon as it is
 abbrev pub Ahead : State → Type 0
@@ -70,7 +70,7 @@ hear-hears r k c h =
       idle = h.idle;
       renewed = h.renewed;
       ahead = λ q m ne.
-          certified-other (setupOf c.replica) c.masks r k q (λ e. ne (omega (arith, e, h.least, h.most))) ∙ h.ahead q m ne;
+          certified-other (setup_of c.replica) c.masks r k q (λ e. ne (omega (arith, e, h.least, h.most))) ∙ h.ahead q m ne;
     }
 
 -- a state that hears round r, where that round is not R or not certified
@@ -81,12 +81,12 @@ hears-rested r c h o =
     go : (q : ℕ) → c.replica.round.0 ≤ q → (b : Bool) → eqb q r ≡ b → Open c q
     go q m true e =
         let z : q ≡ r = eqb-true _ _ e in
-        ap (certified (setupOf c.replica) c.masks) z ∙ o (omega (arith, h.most))
+        ap (certified (setup_of c.replica) c.masks) z ∙ o (omega (arith, h.most))
     go q m false e = h.ahead q m (eqb-false _ _ e)
 
 -- only the ticks left change
 pub rest-rested : (c : State) (timer : ℕ) → Rested c → Rested (waiting c c.replica.round.0 timer)
-unfolding waiting leads commitLimit
+unfolding waiting leads commit_limit
 rest-rested c timer r =
     record {
       idle = r.idle;
@@ -101,20 +101,20 @@ wait-ahead c R timer h = h
 
 -- a replica that does not lead the R that it enters
 pub enter-rested : (c : State) → leads c.replica ≡ false → Ahead c → Rested (entered c)
-unfolding entered commit leads commitLimit
+unfolding entered commit leads commit_limit
 enter-rested c e a = record { idle = e; renewed = record { committed-is = refl; committed-height = refl }; ahead = a }
 
-pub committed-low : {r : Replica} {log : List ℕ} → Renewed r log → r.committed_round.0 ≤ commitLimit r
-committed-low {r} {log} h = omega (arith, h.committed-is, highest-le log (commitLimit r))
+pub committed-low : {r : Replica} {log : List ℕ} → Renewed r log → r.committed_round.0 ≤ commit_limit r
+committed-low {r} {log} h = omega (arith, h.committed-is, highest-le log (commit_limit r))
 
 pub committed-held : {r : Replica} {log : List ℕ} → Renewed r log → Held (slot log) r.committed_round.0
-committed-held {r} {log} h = subst (Held (slot log)) (sym h.committed-is) (highest-filled log (commitLimit r))
+committed-held {r} {log} h = subst (Held (slot log)) (sym h.committed-is) (highest-filled log (commit_limit r))
 
 -- A later state, also within a call, keeps the slots up to the committed round and every mark; neither that round nor the limit of
 -- commit falls.
 pub record Extends (c d : State) : Type 0 where
   pub further : c.replica.committed_round.0 ≤ d.replica.committed_round.0
-  pub limit : commitLimit c.replica ≤ commitLimit d.replica
+  pub limit : commit_limit c.replica ≤ commit_limit d.replica
   pub marks : (k : ℕ) → bit k c.replica.equivocators ≡ true → bit k d.replica.equivocators ≡ true
   pub same-slots : (q : ℕ) → 1 ≤ q → q ≤ c.replica.committed_round.0 → slot d.log q ≡ slot c.log q
 
@@ -131,7 +131,7 @@ extends-trans c d e g h =
     }
 
 pub wait-extends : (c : State) (R timer : ℕ) → c.replica.round.0 ≤ R → Extends c (waiting c R timer)
-unfolding waiting commitLimit
+unfolding waiting commit_limit
 wait-extends c R timer up = record { further = omega arith; limit = omega arith; marks = λ k e. e; same-slots = λ q o l. refl }
 
 pub hear-extends : (c : State) (r k : ℕ) → Extends c (hearing c r k)
@@ -141,20 +141,20 @@ hear-extends c r k = record { further = omega arith; limit = omega arith; marks 
 -- a log that keeps the committed slots is held
 pub hold-extends : (c d : State) → Extends c d → (log : List ℕ) (t n : ℕ) → d.replica.round.0 ≤ t
     → ((q : ℕ) → 1 ≤ q → q ≤ c.replica.committed_round.0 → slot log q ≡ slot c.log q) → Extends c (holding d log t n)
-unfolding holding tipped commitLimit
+unfolding holding tipped commit_limit
 hold-extends c d x log t n up keep =
     record { further = x.further; limit = omega (arith, x.limit); marks = x.marks; same-slots = keep }
 
 -- committed is renewed at the end of a call on c
 pub enter-extends : (c d : State) → Renewed c.replica c.log → Extends c d → Extends c (entered d)
-unfolding entered commit commitLimit
+unfolding entered commit commit_limit
 enter-extends c d r x =
     record {
       further =
           omega (
             arith,
             r.committed-is,
-            highest-grows c.log d.log (commitLimit c.replica) (commitLimit d.replica) x.limit
+            highest-grows c.log d.log (commit_limit c.replica) (commit_limit d.replica) x.limit
                 (λ q o l. x.same-slots q o (omega (arith, r.committed-is))),
           );
       limit = x.limit;
@@ -164,10 +164,10 @@ enter-extends c d r x =
 
 -- the state with card k marked
 abbrev pub marking : State → (k : ℕ) → State
-marking c k = record { replica = withMark c.replica k; log = c.log; masks = c.masks }
+marking c k = record { replica = with_mark c.replica k; log = c.log; masks = c.masks }
 
 pub mark-extends : (c : State) (k : ℕ) → Extends c (marking c k)
-unfolding commitLimit
+unfolding commit_limit
 mark-extends c k =
     record {
       further = omega arith;
@@ -177,7 +177,7 @@ mark-extends c k =
     }
 
 pub mark-rested : (c : State) (k : ℕ) → Rested c → Rested (marking c k)
-unfolding leads commitLimit
+unfolding leads commit_limit
 mark-rested c k r =
     record {
       idle = r.idle;
@@ -213,13 +213,13 @@ module _ (s : Setup) where
     pub timeout-top : timeout ≤ 60000
     pub last_one : 1 ≤ last
     pub last-top : last ≤ 4096
-    pub turns : validRotation s ≡ true
+    pub turns : valid_rotation s ≡ true
 
   -- of a record
   abbrev pub FixedIn : ℕ → Replica → Type 0
   FixedIn i r = Fixed i r.id r.f r.timeout.0 r.last_round.0 r.rotation
 
-  pub setup-is : (i : ℕ) (r : Replica) → FixedIn i r → setupOf r ≡ s
+  pub setup-is : (i : ℕ) (r : Replica) → FixedIn i r → setup_of r ≡ s
   setup-is i r x = λ k. record { f = x.f-is k; last_round = record { 0 = x.last-is k }; rotation = x.rotation-is k }
 
   -- A state after a call, or within one. `waits` and `stored` together: every round below R is filled or certified.
@@ -312,7 +312,7 @@ module _ (s : Setup) where
           marks = λ j e. go j e (eqb j k) refl;
         }
       where
-        go : (j : ℕ) → bit j (setBit k c.replica.equivocators) ≡ true → (b : Bool) → eqb j k ≡ b → Equivocated s past j
+        go : (j : ℕ) → bit j (set_bit k c.replica.equivocators) ≡ true → (b : Bool) → eqb j k ≡ b → Equivocated s past j
         go j e true z = subst (Equivocated s past) (sym (eqb-true _ _ z)) d
         go j e false z = h.marks j (sym (bit-set-other j k c.replica.equivocators (eqb-false _ _ z)) ∙ e)
 
@@ -359,14 +359,14 @@ module _ (s : Setup) where
         go false z = h.waits q (leb-false _ _ z) l
 
     -- a round up to the limit of commit, and the f rounds above it, are below R
-    pub limit-low : (q : ℕ) → 1 ≤ q → q ≤ commitLimit c.replica → q + s.f < c.replica.round.0
-    unfolding commitLimit
+    pub limit-low : (q : ℕ) → 1 ≤ q → q ≤ commit_limit c.replica → q + s.f < c.replica.round.0
+    unfolding commit_limit
     limit-low q o l = omega (arith, h.fixed.f-is)
 
     -- the limit grows with R
     pub limit-grows : (j : ℕ) (d : State) → Good past j d → c.replica.round.0 ≤ d.replica.round.0
-        → commitLimit c.replica ≤ commitLimit d.replica
-    unfolding commitLimit
+        → commit_limit c.replica ≤ commit_limit d.replica
+    unfolding commit_limit
     limit-grows j d g l = omega (arith, h.fixed.f-is, g.fixed.f-is)
 
     -- the limit may be above the tip, the committed round is not: its slot is filled

@@ -10,13 +10,13 @@ use native.Mathlib.Omega.{arith}
 use lib.ListN.{length, length-append}
 use lib.Dec.{leb, ltb}
 use borrow.Author.Tests.{leb-true, leb-false, lt-ltb}
-use Rattle.apollo.specs.Size.{frameSize}
+use Rattle.apollo.specs.Size.{frame_size}
 use Rattle.apollo.specs.declared.Setup.{Setup}
 use Rattle.apollo.specs.Frame.{round, linked}
 use Rattle.apollo.specs.Log.{genesis, slot, filled, store, chain}
 use Rattle.apollo.specs.Enter.{State}
-use Rattle.apollo.specs.BlockRun.{last_of, childOf, blocks}
-use Rattle.apollo.specs.Branch.{storeAll}
+use Rattle.apollo.specs.BlockRun.{last_of, child_of, blocks}
+use Rattle.apollo.specs.Branch.{store_all}
 use Rattle.apollo.specs.Fetch.{fetchable}
 use Rattle.apollo.proofs.Tests.{both}
 use Rattle.apollo.proofs.BlockRun.{block-length, block-parts, child-parts, blocks-parts, blocks-of, blocks-none, blocks-any, blocks-front}
@@ -46,16 +46,16 @@ in-front z (x ∷ xs) zs (inr p) = inr (in-front z xs zs p)
 module _ (s : Setup) where
   -- the slots up to p's round are kept where a run on p is stored
   pub stored_low : (xs : List (List ℕ)) (log p : List ℕ) → blocks s (some p) xs ≡ true → (q : ℕ) → q ≤ round p
-      → length log ≡ frameSize * s.last_round.0 → slot (storeAll log xs) q ≡ slot log q
-  unfolding storeAll
+      → length log ≡ frame_size * s.last_round.0 → slot (store_all log xs) q ≡ slot log q
+  unfolding store_all
   stored_low [] log p f q l size = refl
   stored_low (x ∷ xs) log p f q l size =
       let u = blocks-parts s (some p) x xs f in
       let t = block-parts s x u.0 in
       let b : Block s x = formed s x t.0 t.1 in
       let up : round p < round x = (child-parts p x u.1).1 in
-      let wide : length x ≡ frameSize = block-length s x u.0 in
-      let fit : frameSize * round x ≤ length log = omega (arith, b.highest) in
+      let wide : length x ≡ frame_size = block-length s x u.0 in
+      let fit : frame_size * round x ≤ length log = omega (arith, b.highest) in
       stored_low xs (store log (round x) x) x u.2 q (omega arith) (length-store log (round x) x b.lowest fit wide ∙ size)
       ∙ store_other log (round x) x q b.lowest fit wide (λ e. omega arith)
 
@@ -66,8 +66,8 @@ module _ (s : Setup) where
     held-round k (inr f) = (c.fact k f).round_is
 
     child : (k q : ℕ) → filled (slot log q) ≡ true → k < q → Held (slot log) k → ((r : ℕ) → k < r → r < q → filled (slot log r) ≡ false)
-        → childOf (slot log k) (slot log q) ≡ true
-    unfolding childOf
+        → child_of (slot log k) (slot log q) ≡ true
+    unfolding child_of
     child k q f l hk gap =
         let m : Link (slot log) q = c.link q f in
         let e : m.below ≡ k = below-is _ _ _ log a c q k f l hk gap m in

@@ -9,11 +9,11 @@ use native.Mathlib.Omega.{arith}
 use lib.Dec.{leb}
 use borrow.Author.Tests.{leb-true, leb-false}
 use Rattle.apollo.specs.declared.Setup.{Setup}
-use Rattle.apollo.specs.Setup.{replicas, leader, validRotation}
+use Rattle.apollo.specs.Setup.{replicas, leader, valid_rotation}
 use Rattle.apollo.specs.Frame.{kind, signer, round}
 use Rattle.apollo.specs.Log.{slot, filled}
 use Rattle.apollo.specs.Masks.{count, bit, mask, certified}
-use Rattle.apollo.specs.Enter.{State, commitLimit}
+use Rattle.apollo.specs.Enter.{State, commit_limit}
 use Rattle.apollo.specs.Suspect.{suspect}
 use Rattle.theorem_agreement.specs.Run.{Event, emitted, In, Seen}
 use Rattle.theorem_agreement.specs.Premises.{Distinct}
@@ -56,7 +56,7 @@ module _ (s : Setup) (correct : ℕ → Bool) (past : List Event) (h : Honest s 
   good-passed i c g q o l e = certified-incorrect i c g q o (good-certified s past i c g q o l e)
 
   -- the block in a slot of a correct leader's round is one that it emitted
-  leader-emitted : validRotation s ≡ true → (q : ℕ) (x : List ℕ) → Fact s past q x → correct (leader s q) ≡ true → In (emitted (leader s q) x) past
+  leader-emitted : valid_rotation s ≡ true → (q : ℕ) (x : List ℕ) → Fact s past q x → correct (leader s q) ≡ true → In (emitted (leader s q) x) past
   leader-emitted v q x t ok =
       let by : signer x ≡ leader s q = led-by s past q x t in
       subst (λ k. In (emitted k x) past) by
@@ -67,7 +67,7 @@ module _ (s : Setup) (correct : ℕ → Bool) (past : List Event) (h : Honest s 
   Warranted masks = (q : ℕ) → 1 ≤ q → certified s masks q ≡ true → correct (leader s q) ≡ false
 
   -- two linked logs with such masks
-  module _ (v : validRotation s ≡ true) (a m b n : List ℕ) (t u : ℕ) (c : Linked s past m a t) (d : Linked s past n b u) (ma : Warranted m)
+  module _ (v : valid_rotation s ≡ true) (a m b n : List ℕ) (t u : ℕ) (c : Linked s past m a t) (d : Linked s past n b u) (ma : Warranted m)
       (mb : Warranted n) where
     -- a round of a correct leader is not suspect
     led-clear : (q : ℕ) → 1 ≤ q → correct (leader s q) ≡ true → Reason s a m b n q → ⊥
@@ -87,9 +87,9 @@ module _ (s : Setup) (correct : ℕ → Bool) (past : List Event) (h : Honest s 
 
   -- two replicas hold the same frames up to the round that the one with the lower R may commit
   pub same-limit : (i j : ℕ) (c d : State) → Good s past i c → Good s past j d → c.replica.round.0 ≤ d.replica.round.0 → (q : ℕ)
-      → 1 ≤ q → q ≤ commitLimit c.replica → slot c.log q ≡ slot d.log q
+      → 1 ≤ q → q ≤ commit_limit c.replica → slot c.log q ≡ slot d.log q
   same-limit i j c d g k l q o m =
-      let n : ℕ = commitLimit c.replica in
+      let n : ℕ = commit_limit c.replica in
       let low : n + s.f < c.replica.round.0 = limit-low s past i c g n (omega arith) (omega arith) in
       ⊎_elim (λ same. same q m)
       (λ all. absurd (no_run g.fixed.turns c.log c.masks d.log d.masks _ _ g.stored.chain k.stored.chain
@@ -99,7 +99,7 @@ module _ (s : Setup) (correct : ℕ → Bool) (past : List Event) (h : Honest s 
   -- one of the f + 1 rounds up to the limit of commit is filled
   pub committed-near : (i : ℕ) (c : State) → Good s past i c → Renewed c.replica c.log
       → c.replica.round.0 ≤ c.replica.committed_round.0 + 2 * s.f + 1
-  unfolding commitLimit
+  unfolding commit_limit
   committed-near i c g r = go (leb c.replica.round.0 (2 * s.f + 1)) refl
     where
       n : ℕ
@@ -119,7 +119,7 @@ module _ (s : Setup) (correct : ℕ → Bool) (past : List Event) (h : Honest s 
             q.1,
             r.committed-is,
             g.fixed.f-is,
-            highest-max c.log (commitLimit c.replica) q.0 full (omega (arith, q.2, g.fixed.f-is)),
+            highest-max c.log (commit_limit c.replica) q.0 full (omega (arith, q.2, g.fixed.f-is)),
           )
 
   -- a branch that passed 13 keeps what was committed

@@ -10,8 +10,8 @@ use borrow.Author.Tests.{eqb-true, eqb-false}
 use Rattle.sha256.specs.Fips.{sha256}
 use Rattle.apollo.specs.declared.Verdict.{Verdict}
 use Rattle.apollo.specs.declared.Setup.{Setup}
-use Rattle.apollo.specs.Judging.{fault, judgedEach}
-use Rattle.apollo.specs.BlockRun.{judgedRun}
+use Rattle.apollo.specs.Judging.{fault, judged_each}
+use Rattle.apollo.specs.BlockRun.{judged_run}
 use Rattle.apollo.proofs.Fault.{Passes, fault-none, each_number}
 use Rattle.apollo.proofs.BlockRun.{run-number}
 use Rattle.theorem_agreement.specs.Run.{In}
@@ -22,15 +22,15 @@ abbrev pub Low : ℕ → Type 0
 Low k = (eqb k 2 ≡ false) × (eqb k 12 ≡ false) × (eqb k 6 ≡ false)
 
 -- a run of blocks
-pub run-low : (s : Setup) (k : ℕ) (p : Option (List ℕ)) (xs : List (List ℕ)) → Low (judgedRun sha256 s k p xs).number
+pub run-low : (s : Setup) (k : ℕ) (p : Option (List ℕ)) (xs : List (List ℕ)) → Low (judged_run sha256 s k p xs).number
 run-low = run-number Low (refl, refl, refl) (refl, refl, refl) (refl, refl, refl) (refl, refl, refl)
 
 module _ (hash : List ℕ → List ℕ) (form : List ℕ → Bool) where
-  pub each-low : (k : ℕ) (xs : List (List ℕ)) → Low (judgedEach hash form k xs).number
+  pub each-low : (k : ℕ) (xs : List (List ℕ)) → Low (judged_each hash form k xs).number
   each-low = each_number Low (refl, refl, refl) (refl, refl, refl) (refl, refl, refl) hash form
 
-  pub each_none : (k : ℕ) (xs : List (List ℕ)) → (judgedEach hash form k xs).number ≡ 0 → (x : List ℕ) → In x xs → Passes hash form x
-  unfolding judgedEach
+  pub each_none : (k : ℕ) (xs : List (List ℕ)) → (judged_each hash form k xs).number ≡ 0 → (x : List ℕ) → In x xs → Passes hash form x
+  unfolding judged_each
   each_none k [] e x p = absurd p
   each_none k (y ∷ ys) e x p =
       by_cond (λ (v : Verdict). v.number ≡ 0 → Passes hash form x) (eqb (fault hash form y) 0)

@@ -10,7 +10,7 @@ use lib.Dec.{leb, ltb}
 use lib.ListN.{get_or}
 use borrow.Author.Tests.{leb-true, leb-false, ltb-true, ltb-false, not-false}
 use Rattle.apollo.specs.declared.Setup.{Setup}
-use Rattle.apollo.specs.Setup.{replicas, leader, validRotation}
+use Rattle.apollo.specs.Setup.{replicas, leader, valid_rotation}
 use Rattle.apollo.specs.Masks.{count}
 use Rattle.apollo.proofs.Rotation.{seats-differ, seated, seat, leader-low}
 use Rattle.theorem_agreement.specs.Claim.{LeadersDiffer}
@@ -34,7 +34,7 @@ apart-mod n a d pos low e = go (leb ((a + d) / n) (a / n)) refl
         )
 
 -- two seats of a valid rotation have different cards
-module _ (s : Setup) (v : validRotation s ≡ true) where
+module _ (s : Setup) (v : valid_rotation s ≡ true) where
   apart : (j k : ℕ) → j ≢ k → j < replicas s → k < replicas s → get_or s.rotation j 0 ≢ get_or s.rotation k 0
   apart j k ne a b e = go (ltb j k) refl
     where
@@ -63,7 +63,7 @@ module _ (s : Setup) (correct : ℕ → Bool) (mostly : count (replicas s) (λ i
       (r.0, r.1, r.2, not-false _ r.3)
 
   -- of the f + 1 rounds from r on one has a correct leader
-  pub correct-round : validRotation s ≡ true → (r : ℕ) → 1 ≤ r → (q : ℕ) × (r ≤ q) × (q ≤ r + s.f) × (correct (leader s q) ≡ true)
+  pub correct-round : valid_rotation s ≡ true → (r : ℕ) → 1 ≤ r → (q : ℕ) × (r ≤ q) × (q ≤ r + s.f) × (correct (leader s q) ≡ true)
   correct-round v r one = go (row (λ q. correct (leader s q)) r (suc s.f))
     where
       others : ((q : ℕ) → r ≤ q → q < r + suc s.f → correct (leader s q) ≡ false) → suc s.f ≤ count (replicas s) (λ i. not (correct i))

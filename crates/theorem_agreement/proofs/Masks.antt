@@ -11,29 +11,29 @@ use lib.Dec.{eqb, leb}
 use borrow.Author.Tests.{eqb-true, eqb-false, leb-true, leb-false, le-leb}
 use Rattle.apollo.specs.declared.Setup.{Setup}
 use Rattle.apollo.specs.Setup.{replicas}
-use Rattle.apollo.specs.Masks.{count, bit, setBit, mask, addBlame, certified, gap}
+use Rattle.apollo.specs.Masks.{count, bit, set_bit, mask, add_blame, certified, gap}
 use Rattle.apollo.proofs.Masks.{bit-set-other, bit_kept}
 use Rattle.theorem_agreement.proofs.Tests.{by_cond}
 use Rattle.theorem_agreement.proofs.Counts.{count-mono}
 
 -- a bit that is set after a blame was set before, or is the blame's
-mask-other : (masks : List ℕ) (r i q : ℕ) → q - 1 ≢ r - 1 → mask (addBlame masks r i) q ≡ mask masks q
+mask-other : (masks : List ℕ) (r i q : ℕ) → q - 1 ≢ r - 1 → mask (add_blame masks r i) q ≡ mask masks q
 mask-other masks r i q ne = get_or-set_other masks (r - 1) (q - 1) _ 0 ne
 
-mask-here : (masks : List ℕ) (r i : ℕ) → r - 1 < length masks → mask (addBlame masks r i) r ≡ setBit i (mask masks r)
+mask-here : (masks : List ℕ) (r i : ℕ) → r - 1 < length masks → mask (add_blame masks r i) r ≡ set_bit i (mask masks r)
 mask-here masks r i l = get_or-set_same masks (r - 1) _ 0 l
 
-mask-out : (masks : List ℕ) (r i : ℕ) → length masks ≤ r - 1 → addBlame masks r i ≡ masks
+mask-out : (masks : List ℕ) (r i : ℕ) → length masks ≤ r - 1 → add_blame masks r i ≡ masks
 mask-out masks r i l = set_out masks (r - 1) _ l
 
-pub certified-other : (s : Setup) (masks : List ℕ) (r i q : ℕ) → q - 1 ≢ r - 1 → certified s (addBlame masks r i) q ≡ certified s masks q
+pub certified-other : (s : Setup) (masks : List ℕ) (r i q : ℕ) → q - 1 ≢ r - 1 → certified s (add_blame masks r i) q ≡ certified s masks q
 unfolding certified
 certified-other s masks r i q ne = ap (λ m. leb (s.f + 1) (count (replicas s) (λ k. bit k m))) (mask-other masks r i q ne)
 
-pub length-blame : (masks : List ℕ) (r i : ℕ) → length (addBlame masks r i) ≡ length masks
+pub length-blame : (masks : List ℕ) (r i : ℕ) → length (add_blame masks r i) ≡ length masks
 length-blame masks r i = length-set masks (r - 1) _
 
-pub mask-set : (masks : List ℕ) (r i q k : ℕ) → 1 ≤ r → 1 ≤ q → bit k (mask (addBlame masks r i) q) ≡ true
+pub mask-set : (masks : List ℕ) (r i q k : ℕ) → 1 ≤ r → 1 ≤ q → bit k (mask (add_blame masks r i) q) ≡ true
     → (bit k (mask masks q) ≡ true) ⊎ ((q ≡ r) × (k ≡ i))
 mask-set masks r i q k o p e = go (eqb q r) refl (leb (length masks) (r - 1)) refl (eqb k i) refl
   where
@@ -47,32 +47,32 @@ mask-set masks r i q k o p e = go (eqb q r) refl (leb (length masks) (r - 1)) re
     go true ez false ey false ex =
         let z : q ≡ r = eqb-true _ _ ez in
         let l : r - 1 < length masks = leb-false _ _ ey in
-        let b : bit k (setBit i (mask masks r)) ≡ true =
-        ap (bit k) (sym (mask-here masks r i l)) ∙ ap (λ m. bit k (mask (addBlame masks r i) m)) (sym z) ∙ e in
+        let b : bit k (set_bit i (mask masks r)) ≡ true =
+        ap (bit k) (sym (mask-here masks r i l)) ∙ ap (λ m. bit k (mask (add_blame masks r i) m)) (sym z) ∙ e in
         inl (ap (λ m. bit k (mask masks m)) z ∙ sym (bit-set-other k i (mask masks r) (eqb-false _ _ ex)) ∙ b)
 
 -- a bit that is set stays set, and a certified round stays certified
 mask-same : (masks : List ℕ) (r q : ℕ) → q - 1 ≡ r - 1 → mask masks q ≡ mask masks r
 mask-same masks r q e = ap (λ k. get_or masks k 0) e
 
-mask-kept : (masks : List ℕ) (r i q k : ℕ) → bit k (mask masks q) ≡ true → bit k (mask (addBlame masks r i) q) ≡ true
+mask-kept : (masks : List ℕ) (r i q k : ℕ) → bit k (mask masks q) ≡ true → bit k (mask (add_blame masks r i) q) ≡ true
 mask-kept masks r i q k e = go (eqb (q - 1) (r - 1)) refl (leb (length masks) (r - 1)) refl
   where
-    go : (z : Bool) → eqb (q - 1) (r - 1) ≡ z → (y : Bool) → leb (length masks) (r - 1) ≡ y → bit k (mask (addBlame masks r i) q) ≡ true
+    go : (z : Bool) → eqb (q - 1) (r - 1) ≡ z → (y : Bool) → leb (length masks) (r - 1) ≡ y → bit k (mask (add_blame masks r i) q) ≡ true
     go z ez true ey = ap (λ m. bit k (mask m q)) (mask-out masks r i (leb-true _ _ ey)) ∙ e
     go false ez false ey = ap (bit k) (mask-other masks r i q (eqb-false _ _ ez)) ∙ e
     go true ez false ey =
         let s : q - 1 ≡ r - 1 = eqb-true _ _ ez in
-        ap (bit k) (mask-same (addBlame masks r i) r q s ∙ mask-here masks r i (leb-false _ _ ey))
+        ap (bit k) (mask-same (add_blame masks r i) r q s ∙ mask-here masks r i (leb-false _ _ ey))
         ∙ bit_kept i k (mask masks r) (ap (bit k) (sym (mask-same masks r q s)) ∙ e)
 
-pub certified-kept : (s : Setup) (masks : List ℕ) (r i q : ℕ) → certified s masks q ≡ true → certified s (addBlame masks r i) q ≡ true
+pub certified-kept : (s : Setup) (masks : List ℕ) (r i q : ℕ) → certified s masks q ≡ true → certified s (add_blame masks r i) q ≡ true
 unfolding certified
 certified-kept s masks r i q e =
-    le-leb (s.f + 1) (count (replicas s) (λ k. bit k (mask (addBlame masks r i) q))) (omega (
+    le-leb (s.f + 1) (count (replicas s) (λ k. bit k (mask (add_blame masks r i) q))) (omega (
       arith,
       leb-true (s.f + 1) (count (replicas s) (λ k. bit k (mask masks q))) e,
-      count-mono (replicas s) (λ k. bit k (mask masks q)) (λ k. bit k (mask (addBlame masks r i) q)) (λ k. mask-kept masks r i q k),
+      count-mono (replicas s) (λ k. bit k (mask masks q)) (λ k. bit k (mask (add_blame masks r i) q)) (λ k. mask-kept masks r i q k),
     ))
 
 -- the first of some rounds above lo that is not certified is none: each is certified

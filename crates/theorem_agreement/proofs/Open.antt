@@ -10,22 +10,22 @@ use lib.Dec.{leb, ltb, eqb}
 use lib.Pow.{pow_pos}
 use borrow.Author.Tests.{lt-leb, leb-true, leb-false, ltb-false, eqb-true, eqb-false, not-true, not-false}
 use Rattle.sha256.specs.Fips.{sha256}
-use Rattle.apollo.specs.Size.{frameSize}
+use Rattle.apollo.specs.Size.{frame_size}
 use Rattle.apollo.specs.declared.Setup.{Setup}
 use Rattle.apollo.specs.Bytes.{zeros}
-use Rattle.apollo.specs.Rotation.{isRotation, padded}
-use Rattle.apollo.specs.Setup.{setupNumber}
+use Rattle.apollo.specs.Rotation.{is_rotation, padded}
+use Rattle.apollo.specs.Setup.{setup_number}
 use Rattle.apollo.specs.Frame.{height, frames}
 use Rattle.apollo.specs.Log.{genesis, slot, filled}
 use Rattle.apollo.specs.Masks.{count, bit, mask, certified}
 use Rattle.apollo.proofs.Masks.{bit-zero}
-use Rattle.apollo.specs.Replica.{fresh, validOwn, validLog, validMasks}
-use Rattle.apollo.specs.Enter.{State, commitLimit, enterRound}
+use Rattle.apollo.specs.Replica.{fresh, valid_own, valid_log, valid_masks}
+use Rattle.apollo.specs.Enter.{State, commit_limit, enter_round}
 use Rattle.apollo.specs.Outcome.{Outcome, refused, taken}
-use Rattle.apollo.specs.Open.{openWith}
+use Rattle.apollo.specs.Open.{open_with}
 use Rattle.apollo.proofs.Rotation.{padded-valid}
 use Rattle.apollo.proofs.Validity.{ValidOpening, setup-number, setup-good, valid-opening}
-use Rattle.theorem_agreement.specs.Run.{Event, emitted, In, emittedBy}
+use Rattle.theorem_agreement.specs.Run.{Event, emitted, In, emitted_by}
 use Rattle.theorem_agreement.proofs.Tests.{clash, and-true, by_cond}
 use Rattle.theorem_agreement.proofs.Counts.{count_none}
 use Rattle.theorem_agreement.proofs.Slots.{length-zeros, part-zeros, filled-genesis, filled-nil, slot-beyond, highest-le}
@@ -43,15 +43,15 @@ mask-zero n q = go (leb n (q - 1)) refl
     go true e = get_or-eq_default (replicate n 0) 0 (omega (arith, length-replicate {A = ℕ} n 0, leb-true n (q - 1) e))
     go false e = get_or-replicate n (q - 1) 0 0 (leb-false _ _ e)
 
-slot-zero : (T q : ℕ) → q ≤ T → slot (zeros (frameSize * T)) q ≡ genesis
+slot-zero : (T q : ℕ) → q ≤ T → slot (zeros (frame_size * T)) q ≡ genesis
 unfolding slot genesis
 slot-zero T zero l = refl
-slot-zero T (suc k) l = part-zeros (frameSize * T) (frameSize * k) frameSize (omega arith)
+slot-zero T (suc k) l = part-zeros (frame_size * T) (frame_size * k) frame_size (omega arith)
 
 module _ (s : Setup) (past : List Event) (i : ℕ) where
   module _ (id f timeout last : ℕ) (rotation : List ℕ) (fixed : Fixed s i id f timeout last (padded rotation)) where
     abbrev log : List ℕ
-    log = zeros (frameSize * last)
+    log = zeros (frame_size * last)
 
     unfilled : (q : ℕ) → filled (slot log q) ≡ false
     unfilled q = go (leb q last) refl
@@ -90,7 +90,7 @@ module _ (s : Setup) (past : List Event) (i : ℕ) where
               record {
                 chain = first-chain;
                 level-is = height-zero;
-                size = length-zeros (frameSize * last) ∙ ap (λ k. frameSize * k) fixed.last-is;
+                size = length-zeros (frame_size * last) ∙ ap (λ k. frame_size * k) fixed.last-is;
               };
           tip-below = omega arith;
           reach = omega arith;
@@ -102,7 +102,7 @@ module _ (s : Setup) (past : List Event) (i : ℕ) where
         }
 
     first-renewed : Renewed first.replica log
-    unfolding fresh commitLimit
+    unfolding fresh commit_limit
     first-renewed = record { committed-is = omega (arith, highest-le log (0 - f)); committed-height = sym height-zero }
 
     first-ahead : Ahead first
@@ -115,13 +115,13 @@ module _ (s : Setup) (past : List Event) (i : ℕ) where
   pub record OpenFine (id f last : ℕ) (rotation : List ℕ) (o : Outcome) : Type 0 where
     pub valid-ok : o.answer.number ≢ 2
     pub kept-ok : o.answer.number ≢ 12
-    pub quiet : o.answer.number ≢ 0 → emittedBy o ≡ []
+    pub quiet : o.answer.number ≢ 0 → emitted_by o ≡ []
     pub fine : o.answer.number ≡ 0 → id ≡ i → f ≡ s.f → last ≡ s.last_round.0 → padded rotation ≡ s.rotation
         → ((x : List ℕ) → In (emitted i x) past → ⊥) → Tidy s past → (c : State) × Fine s past i c o
 
   refusal : (id f last : ℕ) (rotation : List ℕ) (c : State) (out : List ℕ) (k : ℕ) → eqb k 2 ≡ false → eqb k 12 ≡ false → eqb k 0 ≡ false
       → OpenFine id f last rotation (refused c out k 0)
-  unfolding refused emittedBy frames
+  unfolding refused emitted_by frames
   refusal id f last rotation c out k a b d =
       record {
         valid-ok = eqb-false k 2 a;
@@ -131,9 +131,9 @@ module _ (s : Setup) (past : List Event) (i : ℕ) where
       }
 
   ranges : (id f timeout last : ℕ) (rotation log masks : List ℕ)
-      → (validOwn (fresh id f timeout last rotation) && validLog (fresh id f timeout last rotation) log
-      && validMasks (fresh id f timeout last rotation) masks) ≡ true
-      → setupNumber f last rotation ≡ 0 → id ≡ i → f ≡ s.f → last ≡ s.last_round.0 → padded rotation ≡ s.rotation
+      → (valid_own (fresh id f timeout last rotation) && valid_log (fresh id f timeout last rotation) log
+      && valid_masks (fresh id f timeout last rotation) masks) ≡ true
+      → setup_number f last rotation ≡ 0 → id ≡ i → f ≡ s.f → last ≡ s.last_round.0 → padded rotation ≡ s.rotation
       → Fixed s i id f timeout last (padded rotation)
   unfolding fresh
   ranges id f timeout last rotation log masks v n ei ef el er =
@@ -152,15 +152,15 @@ module _ (s : Setup) (past : List Event) (i : ℕ) where
         timeout-top = x.timeout-most;
         last_one = x.last-least;
         last-top = x.last-most;
-        turns = padded-valid s rotation (ap (λ k. isRotation (2 * k + 1) rotation) (sym ef) ∙ t.1) (omega (arith, x.f-most)) (sym er);
+        turns = padded-valid s rotation (ap (λ k. is_rotation (2 * k + 1) rotation) (sym ef) ∙ t.1) (omega (arith, x.f-most)) (sym er);
       }
 
   module _ (id f timeout last : ℕ) (rotation log masks entry out : List ℕ) where
     abbrev new : State
-    new = record { replica = fresh id f timeout last rotation; log = zeros (frameSize * last); masks = zeros last }
+    new = record { replica = fresh id f timeout last rotation; log = zeros (frame_size * last); masks = zeros last }
 
-    made : (validOwn new.replica && validLog new.replica log && validMasks new.replica masks) ≡ true → setupNumber f last rotation ≡ 0
-        → length entry ≤ 400 → OpenFine id f last rotation (taken (enterRound sha256 entry new) out)
+    made : (valid_own new.replica && valid_log new.replica log && valid_masks new.replica masks) ≡ true → setup_number f last rotation ≡ 0
+        → length entry ≤ 400 → OpenFine id f last rotation (taken (enter_round sha256 entry new) out)
     unfolding taken
     made v t fits =
         record {
@@ -170,7 +170,7 @@ module _ (s : Setup) (past : List Event) (i : ℕ) where
           fine = λ _ ei ef el er none tidy.
               let x : Fixed s i id f timeout last (padded rotation) = ranges id f timeout last rotation log masks v t ei ef el er in (
                 new,
-                taken_fine s past i new (enterRound sha256 entry new) out
+                taken_fine s past i new (enter_round sha256 entry new) out
                     (enter-kept s entry fits past i new new (first-renewed id f timeout last rotation x) (extends-refl new)
                     (record { good = first_good id f timeout last rotation x; mine = λ y p k. absurd (none y p); tidy = tidy })
                     (first-ahead id f timeout last rotation x)),
@@ -180,12 +180,12 @@ module _ (s : Setup) (past : List Event) (i : ℕ) where
     abbrev Opens : Outcome → Type 0
     Opens = OpenFine id f last rotation
 
-    pub open-fine : Opens (openWith sha256 id f timeout last rotation log masks entry out)
-    unfolding openWith fresh
+    pub open-fine : Opens (open_with sha256 id f timeout last rotation log masks entry out)
+    unfolding open_with fresh
     open-fine =
-        by_cond Opens (not (validOwn new.replica && validLog new.replica log && validMasks new.replica masks))
+        by_cond Opens (not (valid_own new.replica && valid_log new.replica log && valid_masks new.replica masks))
         (λ _. refusal id f last rotation _ out 1 refl refl refl)
-        (λ v. by_cond Opens (not (eqb (setupNumber f last rotation) 0))
+        (λ v. by_cond Opens (not (eqb (setup_number f last rotation) 0))
         (λ e. refusal id f last rotation _ out _ (setup-number f last rotation (λ k. eqb k 2 ≡ false) refl refl refl)
         (setup-number f last rotation (λ k. eqb k 12 ≡ false) refl refl refl) (not-true _ e))
         (λ t. by_cond Opens (ltb (length out) 1024) (λ _. refusal id f last rotation _ out 4 refl refl refl)

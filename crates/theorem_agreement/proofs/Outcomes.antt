@@ -8,13 +8,13 @@ use native.Mathlib.Omega.{arith}
 use lib.ListN.{length, take, drop}
 use lib.Dec.{eqb, ltb}
 use borrow.Author.Tests.{eqb-false, ltb-false, not-true}
-use Rattle.apollo.specs.Size.{frameSize}
+use Rattle.apollo.specs.Size.{frame_size}
 use Rattle.apollo.specs.declared.Setup.{Setup}
 use Rattle.apollo.specs.Frame.{frames}
-use Rattle.apollo.specs.Replica.{validReplica, validMasks}
+use Rattle.apollo.specs.Replica.{valid_replica, valid_masks}
 use Rattle.apollo.specs.Enter.{State, Effect}
 use Rattle.apollo.specs.Outcome.{Outcome, refused, taken, guarded, state_of}
-use Rattle.theorem_agreement.specs.Run.{Event, emit, emittedBy}
+use Rattle.theorem_agreement.specs.Run.{Event, emit, emitted_by}
 use Rattle.theorem_agreement.proofs.Tests.{clash, by_cond}
 use Rattle.theorem_agreement.proofs.Frames.{frames-flatten}
 use Rattle.theorem_agreement.proofs.Stored.{Stored}
@@ -31,11 +31,11 @@ module _ (s : Setup) where
     pub stored : Stored s past c.masks log tip level
     pub beyond : c.replica.round.0 ≤ tip
     pub renewed : Renewed c.replica c.log
-    pub differs : take (frameSize * c.replica.committed_round.0) log ≢ take (frameSize * c.replica.committed_round.0) c.log
+    pub differs : take (frame_size * c.replica.committed_round.0) log ≢ take (frame_size * c.replica.committed_round.0) c.log
 
   -- replica i's call leaves state c as the outcome says
   pub record Fine (past : List Event) (i : ℕ) (c : State) (o : Outcome) : Type 0 where
-    pub standing : Standing s (emit i (emittedBy o) past) i (state_of o)
+    pub standing : Standing s (emit i (emitted_by o) past) i (state_of o)
     pub rests : Rested (state_of o)
     pub extends : Extends c (state_of o)
     pub valid-ok : o.answer.number ≢ 2
@@ -43,9 +43,9 @@ module _ (s : Setup) where
 
   module _ (past : List Event) (i : ℕ) (c : State) where
     pub taken_fine : (e : Effect) (out : List ℕ) → Kept s past i c e → Fine past i c (taken e out)
-    unfolding taken emittedBy
+    unfolding taken emitted_by
     taken_fine e out k =
-        let q : frames (length e.emitted) (flatten e.emitted ++ drop (frameSize * length e.emitted) out) ≡ e.emitted =
+        let q : frames (length e.emitted) (flatten e.emitted ++ drop (frame_size * length e.emitted) out) ≡ e.emitted =
         frames-flatten e.emitted _ k.whole in
         record {
           standing = subst (λ xs. Standing s (emit i xs past) i e.state) (sym q) k.standing;
@@ -57,7 +57,7 @@ module _ (s : Setup) where
 
     module _ (st : Standing s past i c) (rests : Rested c) where
       pub refused-fine : (out : List ℕ) (k p : ℕ) → k ≢ 2 → (k ≡ 12 → Reverts past c) → Fine past i c (refused c out k p)
-      unfolding refused frames emit emittedBy
+      unfolding refused frames emit emitted_by
       refused-fine out k p a b =
           record { standing = st; rests = rests; extends = extends-refl c; valid-ok = a; reverts = b }
 
@@ -69,7 +69,7 @@ module _ (s : Setup) where
           → (c.replica.round.0 ≤ s.last_round.0 → length entry ≤ 400 → Fine past i c o) → Fine past i c (guarded c entry out o)
       unfolding guarded
       guarded-fine entry out o h =
-          by_cond (Fine past i c) (not (validReplica c.replica c.log && validMasks c.replica c.masks))
+          by_cond (Fine past i c) (not (valid_replica c.replica c.log && valid_masks c.replica c.masks))
           (λ e. absurd (clash (valid s past i c st.good rests) (not-true _ e)))
           (λ _. by_cond (Fine past i c) (eqb c.replica.round.0 (c.replica.last_round.0 + 1)) (λ _. refused-plain out 3 0 refl refl)
           (λ e. by_cond (Fine past i c) (ltb (length out) 1024) (λ _. refused-plain out 4 0 refl refl)

@@ -8,17 +8,17 @@ use native.Mathlib.Omega.{arith}
 use lib.ListN.{length, take, drop_of_length-le}
 use lib.Dec.{leb}
 use borrow.Author.Tests.{leb-true, leb-false}
-use Rattle.apollo.specs.Size.{frameSize}
+use Rattle.apollo.specs.Size.{frame_size}
 use Rattle.apollo.specs.Bytes.{part, zeros}
 use Rattle.apollo.specs.Log.{genesis, slot, filled, highest, chain}
 use Rattle.apollo.specs.Committed.{Begins}
 use Rattle.theorem_agreement.proofs.Tests.{clash, by_cond}
 pub use Rattle.apollo.proofs.Slots.{length-zeros, part_left, part_right, part-take, part-drop, part-zeros, length-store, store_same, store_other, length-clear, clear-low, clear-high, take-slots}
 
-pub slot-beyond : (log : List ℕ) (T q : ℕ) → length log ≡ frameSize * T → T < q → slot log q ≡ []
+pub slot-beyond : (log : List ℕ) (T q : ℕ) → length log ≡ frame_size * T → T < q → slot log q ≡ []
 unfolding slot
 slot-beyond log T zero e l = absurd (omega arith)
-slot-beyond log T (suc k) e l = ap (take frameSize) (drop_of_length-le log {i = frameSize * k} (omega arith))
+slot-beyond log T (suc k) e l = ap (take frame_size) (drop_of_length-le log {i = frame_size * k} (omega arith))
 
 pub filled-genesis : filled genesis ≡ false
 unfolding genesis zeros
@@ -28,13 +28,13 @@ pub filled-nil : filled [] ≡ false
 filled-nil = refl
 
 -- equal beginnings have equal slots, and equal slots make equal beginnings
-pub slots-take : (a b : List ℕ) (c : ℕ) → frameSize * c ≤ length a → frameSize * c ≤ length b → take (frameSize * c) a ≡ take (frameSize * c) b → (q : ℕ) → 1 ≤ q
+pub slots-take : (a b : List ℕ) (c : ℕ) → frame_size * c ≤ length a → frame_size * c ≤ length b → take (frame_size * c) a ≡ take (frame_size * c) b → (q : ℕ) → 1 ≤ q
     → q ≤ c → slot a q ≡ slot b q
 unfolding slot
 slots-take a b c la lb e zero o l = absurd (omega arith)
 slots-take a b c la lb e (suc k) o l =
-    sym (part-take a (frameSize * c) (frameSize * k) frameSize (omega arith) la) ∙ ap (λ ys. part ys (frameSize * k) frameSize) e
-    ∙ part-take b (frameSize * c) (frameSize * k) frameSize (omega arith) lb
+    sym (part-take a (frame_size * c) (frame_size * k) frame_size (omega arith) la) ∙ ap (λ ys. part ys (frame_size * k) frame_size) e
+    ∙ part-take b (frame_size * c) (frame_size * k) frame_size (omega arith) lb
 
 pub chain-slots : (a b : List ℕ) (c : ℕ) → ((q : ℕ) → 1 ≤ q → q ≤ c → slot a q ≡ slot b q) → chain a c ≡ chain b c
 unfolding chain

@@ -5,10 +5,10 @@ use mathlib.Core.List.{List}
 use mathlib.Core.Bool.{true}
 use native.Mathlib.Omega.{arith}
 use lib.ListN.{length}
-use Rattle.apollo.specs.Size.{frameSize}
+use Rattle.apollo.specs.Size.{frame_size}
 use Rattle.apollo.specs.declared.Setup.{Setup}
 use Rattle.apollo.specs.Frame.{kind, round, height}
-use Rattle.apollo.specs.Log.{slot, filled, store, clearAbove}
+use Rattle.apollo.specs.Log.{slot, filled, store, clear_above}
 use Rattle.apollo.specs.Masks.{certified}
 use Rattle.apollo.specs.BlockRun.{block}
 use Rattle.theorem_agreement.specs.Run.{Event, Seen}
@@ -31,7 +31,7 @@ module _ (s : Setup) where
   pub record Stored (past : List Event) (masks log : List ℕ) (tip h : ℕ) : Type 0 where
     pub chain : Linked past masks log tip
     pub level-is : height (slot log tip) ≡ h
-    pub size : length log ≡ frameSize * s.last_round.0
+    pub size : length log ≡ frame_size * s.last_round.0
 
   pub stored-map : (past now : List Event) (masks masks' log : List ℕ) (tip h : ℕ) → Grows past now
       → ((q : ℕ) → certified s masks q ≡ true → certified s masks' q ≡ true) → Stored past masks log tip h → Stored now masks' log tip h
@@ -49,11 +49,11 @@ module _ (s : Setup) where
     tip-level = held-level s.last_round.0 _ _ (slot log) a st.chain a st.chain.top
 
     -- a block stored above the tip
-    pub store_stored : (r : ℕ) (x : List ℕ) → a < r → r ≤ s.last_round.0 → kind x ≡ 1 → length x ≡ frameSize → Fact past r x → Joins (slot log a) x
+    pub store_stored : (r : ℕ) (x : List ℕ) → a < r → r ≤ s.last_round.0 → kind x ≡ 1 → length x ≡ frame_size → Fact past r x → Joins (slot log a) x
         → ((q : ℕ) → a < q → q < r → certified s masks q ≡ true) → Stored past masks (store log r x) r (height x)
     store_stored r x up low k l fact j skips =
         let one : 1 ≤ r = omega arith in
-        let fit : frameSize * r ≤ length log = omega (arith, st.size) in
+        let fit : frame_size * r ≤ length log = omega (arith, st.size) in
         record {
           chain =
               extend s.last_round.0 _ (Fact past) (slot (store log r x)) (slot log) a r x st.chain up low (store_same log r x one fit l)
@@ -63,16 +63,16 @@ module _ (s : Setup) where
         }
 
     -- the slots above a held round cleared
-    pub clear-stored : (b : ℕ) → Held (slot log) b → Stored past masks (clearAbove log b) b (height (slot log b))
+    pub clear-stored : (b : ℕ) → Held (slot log) b → Stored past masks (clear_above log b) b (height (slot log b))
     clear-stored b held =
         let l : b ≤ a = within s.last_round.0 _ _ (slot log) a st.chain b held in
-        let fit : frameSize * b ≤ length log = omega (arith, st.size, st.chain.low) in
-        let size : length (clearAbove log b) ≡ frameSize * s.last_round.0 = length-clear log b fit ∙ st.size in
+        let fit : frame_size * b ≤ length log = omega (arith, st.size, st.chain.low) in
+        let size : length (clear_above log b) ≡ frame_size * s.last_round.0 = length-clear log b fit ∙ st.size in
         record {
           chain =
-              cut s.last_round.0 _ (Fact past) (slot (clearAbove log b)) (slot log) a b st.chain l held (λ q m. clear-low log b q fit m)
+              cut s.last_round.0 _ (Fact past) (slot (clear_above log b)) (slot log) a b st.chain l held (λ q m. clear-low log b q fit m)
               (λ q m n. clear-high log b q m (omega (arith, st.size)))
-              (λ q m. ap filled (slot-beyond (clearAbove log b) s.last_round.0 q size m) ∙ filled-nil);
+              (λ q m. ap filled (slot-beyond (clear_above log b) s.last_round.0 q size m) ∙ filled-nil);
           level-is = ap height (clear-low log b b fit (omega arith));
           size = size;
         }

@@ -8,9 +8,9 @@ use lib.ListN.{length}
 use lib.Dec.{eqb}
 use Rattle.sha256.specs.Fips.{sha256}
 use Rattle.apollo.specs.declared.Setup.{Setup}
-use Rattle.apollo.specs.Frame.{kind, signer, round, makeBlame}
+use Rattle.apollo.specs.Frame.{kind, signer, round, make_blame}
 use Rattle.apollo.specs.Enter.{State, waiting, hearing, settle}
-use Rattle.apollo.specs.Tick.{blaming, ticked, tickWith}
+use Rattle.apollo.specs.Tick.{blaming, ticked, tick_with}
 use Rattle.theorem_agreement.specs.Run.{Event, emitted, In, emit}
 use Rattle.theorem_agreement.proofs.Tests.{by_cond}
 use Rattle.apollo.proofs.Made.{blame-kind, blame-signer, blame-round-alone, blame-length}
@@ -25,7 +25,7 @@ module _ (s : Setup) (past : List Event) (i : ℕ) (entry : List ℕ)
   R = c.replica.round.0
 
   abbrev x : List ℕ
-  x = makeBlame sha256 c.replica.id R
+  x = make_blame sha256 c.replica.id R
 
   -- a blame emitted changes no block
   blame-standing : Standing s (emitted i x ∷ past) i c
@@ -81,6 +81,6 @@ module _ (s : Setup) (past : List Event) (i : ℕ) (entry : List ℕ)
         (rest-standing s past i c st (c.replica.timer.0 - 1) (omega (arith, st.good.timer-low)))
         (rest-rested c (c.replica.timer.0 - 1) rests) (wait-extends c R (c.replica.timer.0 - 1) (omega arith))))
 
-  pub tick-fine : (out : List ℕ) → Fine s past i c (tickWith sha256 c entry out)
-  unfolding tickWith
+  pub tick-fine : (out : List ℕ) → Fine s past i c (tick_with sha256 c entry out)
+  unfolding tick_with
   tick-fine out = guarded-fine s past i c st rests entry out _ (λ low fits. taken_fine s past i c _ out (ticked-kept low fits))

@@ -5,11 +5,11 @@ use mathlib.Core.List.{List}
 use mathlib.Core.Bool.{true, ◌&&◌}
 use native.Mathlib.Omega.{arith}
 use borrow.Author.Tests.{eq-eqb}
-use Rattle.apollo.specs.Size.{frameSize}
+use Rattle.apollo.specs.Size.{frame_size}
 use Rattle.apollo.specs.declared.Setup.{Setup}
-use Rattle.apollo.specs.Setup.{validRotation}
+use Rattle.apollo.specs.Setup.{valid_rotation}
 use Rattle.apollo.specs.Log.{slot}
-use Rattle.apollo.specs.Replica.{validRecord, validLog, validReplica, validMasks}
+use Rattle.apollo.specs.Replica.{valid_record, valid_log, valid_replica, valid_masks}
 use Rattle.apollo.specs.Enter.{State}
 use Rattle.apollo.proofs.Tests.{and-true, both}
 use Rattle.apollo.proofs.Validity.{ValidOpening, Valid, valid-of}
@@ -49,14 +49,14 @@ module _ (s : Setup) (past : List Event) (i : ℕ) (c : State) (g : Good s past 
         timeout-most = g.fixed.timeout-top;
         last-least = g.fixed.last_one;
         last-most = g.fixed.last-top;
-        size = g.stored.size ∙ ap (λ k. frameSize * k) (sym g.fixed.last-is);
+        size = g.stored.size ∙ ap (λ k. frame_size * k) (sym g.fixed.last-is);
       }
 
   valid-record : Valid c.replica c.log
   valid-record =
       record {
         setup = valid-opening;
-        rotation = ap validRotation (setup-is s i c.replica g.fixed) ∙ g.fixed.turns;
+        rotation = ap valid_rotation (setup-is s i c.replica g.fixed) ∙ g.fixed.turns;
         round-least = omega (arith, g.tip-below);
         round-most = omega (arith, g.reach, g.fixed.last-is);
         timer-most = g.timer-low;
@@ -69,12 +69,12 @@ module _ (s : Setup) (past : List Event) (i : ℕ) (c : State) (g : Good s past 
         waits = rests.idle;
       }
 
-  pub valid : (validReplica c.replica c.log && validMasks c.replica c.masks) ≡ true
+  pub valid : (valid_replica c.replica c.log && valid_masks c.replica c.masks) ≡ true
   valid =
-      both (validReplica c.replica c.log) (validMasks c.replica c.masks) (valid-of c.replica c.log valid-record)
+      both (valid_replica c.replica c.log) (valid_masks c.replica c.masks) (valid-of c.replica c.log valid-record)
       (eq-eqb _ _ (g.masks-length ∙ sym g.fixed.last-is))
 
   -- and the record by itself
-  pub valid-own : validRecord c.replica ≡ true
-  unfolding validReplica
-  valid-own = (and-true (validRecord c.replica) (validLog c.replica c.log) (valid-of c.replica c.log valid-record)).0
+  pub valid-own : valid_record c.replica ≡ true
+  unfolding valid_replica
+  valid-own = (and-true (valid_record c.replica) (valid_log c.replica c.log) (valid-of c.replica c.log valid-record)).0

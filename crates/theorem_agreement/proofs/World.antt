@@ -9,12 +9,12 @@ use native.Mathlib.Omega.{arith}
 use lib.Dec.{eqb}
 use borrow.Author.Tests.{eqb-true, eqb-false}
 use Rattle.apollo.specs.declared.Setup.{Setup}
-use Rattle.apollo.specs.Frame.{kind, round, framesOf, wholeFrames}
+use Rattle.apollo.specs.Frame.{kind, round, frames_of, whole_frames}
 use Rattle.apollo.specs.Enter.{State}
 use Rattle.apollo.specs.Outcome.{Outcome, state_of}
-use Rattle.apollo.specs.Equivocation.{isPair}
-use Rattle.apollo.specs.Calls.{openCall}
-use Rattle.theorem_agreement.specs.Run.{Act, branch, blame, blames, tick, equivocation, Call, opening, act, Event, handed, emitted, answered, In, World, start, uncut, framesIn, hand, emit, emittedBy, note, after, opened, answer, call_at, step, run}
+use Rattle.apollo.specs.Equivocation.{is_pair}
+use Rattle.apollo.specs.Calls.{open_call}
+use Rattle.theorem_agreement.specs.Run.{Act, branch, blame, blames, tick, equivocation, Call, opening, act, Event, handed, emitted, answered, In, World, start, uncut, frames_in, hand, emit, emitted_by, note, after, opened, answer, call_at, step, run}
 use Rattle.theorem_agreement.specs.Premises.{Each, Lawful}
 use Rattle.theorem_agreement.proofs.Tests.{by_cond, cond-true}
 use Rattle.theorem_agreement.proofs.Past.{Grows, emitted-is, emit-grows, emit-back, hand-grows, hand_in, Given, hand-back}
@@ -32,13 +32,13 @@ use Rattle.theorem_agreement.proofs.Open.{OpenFine, open-fine}
 -- what an answer adds to the past: itself, and frames that its replica emitted
 pub note-grows : (i : ℕ) (o : Outcome) (past : List Event) → Grows past (note i o past)
 unfolding note
-note-grows i o past e p = inr (emit-grows i (emittedBy o) past e p)
+note-grows i o past e p = inr (emit-grows i (emitted_by o) past e p)
 
 note-back : (i : ℕ) (o : Outcome) (past : List Event) (e : Event) → In e (note i o past)
     → In e past ⊎ ((e ≡ answered o.answer.number) ⊎ ((x : List ℕ) × (e ≡ emitted i x)))
 unfolding note
 note-back i o past e (inl p) = inr (inl p)
-note-back i o past e (inr p) = ⊎_elim inl (λ q. inr (inr q)) (emit-back i (emittedBy o) past e p)
+note-back i o past e (inr p) = ⊎_elim inl (λ q. inr (inr q)) (emit-back i (emitted_by o) past e p)
 
 note-answered : (i : ℕ) (o : Outcome) (past : List Event) (k : ℕ) → In (answered k) (note i o past)
     → (o.answer.number ≡ k) ⊎ In (answered k) past
@@ -153,11 +153,11 @@ module _ (s : Setup) where
         go true e h x p = let z : ◌≡◌ {A = ℕ} 0 1 = cc in omega arith
         go false e h x p = v.asleep j h x (note-other i o w.past j x (λ z. eqb-false _ _ e (sym z)) p)
 
-    sealed : (e : Event) → In e (emit i (emittedBy o) w.past) → In e now
+    sealed : (e : Event) → In e (emit i (emitted_by o) w.past) → In e now
     unfolding note
     sealed e p = inr p
 
-    opens : (j : ℕ) (x : List ℕ) → In (emitted j x) now → In (emitted j x) (emit i (emittedBy o) w.past)
+    opens : (j : ℕ) (x : List ℕ) → In (emitted j x) now → In (emitted j x) (emit i (emitted_by o) w.past)
     unfolding note
     opens j x (inl e) = let z : ◌≡◌ {A = ℕ} 0 1 = cc in absurd (omega arith)
     opens j x (inr p) = p
@@ -187,22 +187,22 @@ module _ (s : Setup) where
 
   -- the frames of a buffer that is not cut are seen
   known-uncut : (past : List Event) (whole : Bool) (bytes : List ℕ) → Known s past (uncut whole bytes) → whole ≡ true
-      → Known s past (framesOf bytes)
+      → Known s past (frames_of bytes)
   unfolding uncut
   known-uncut past whole bytes k e = subst (Known s past) (cond-true _ _ e) k
 
   -- each call other than open keeps the state: the one place that names them
-  act-fine : (past : List Event) (i : ℕ) (c : State) (a : Act) → Known s past (framesIn c a) → Standing s past i c
+  act-fine : (past : List Event) (i : ℕ) (c : State) (a : Act) → Known s past (frames_in c a) → Standing s past i c
       → Rested c → Fine s past i c (answer c a)
-  unfolding answer framesIn
+  unfolding answer frames_in
   act-fine past i c (branch bytes entry out) k st r =
-      branch-fine s past i entry c st r bytes out (known-uncut past (wholeFrames c.replica.last_round.0 bytes) bytes k)
+      branch-fine s past i entry c st r bytes out (known-uncut past (whole_frames c.replica.last_round.0 bytes) bytes k)
   act-fine past i c (blame bytes entry out) k st r =
-      handing-fine s past i entry c st r 1 bytes out (known-uncut past (wholeFrames 1 bytes) bytes k)
+      handing-fine s past i entry c st r 1 bytes out (known-uncut past (whole_frames 1 bytes) bytes k)
   act-fine past i c (blames bytes entry out) k st r =
-      handing-fine s past i entry c st r 15 bytes out (known-uncut past (wholeFrames 15 bytes) bytes k)
+      handing-fine s past i entry c st r 15 bytes out (known-uncut past (whole_frames 15 bytes) bytes k)
   act-fine past i c (tick entry out) k st r = tick-fine s past i entry c st r out
-  act-fine past i c (equivocation bytes) k st r = equivocation-fine s past i c st r bytes (known-uncut past (isPair bytes) bytes k)
+  act-fine past i c (equivocation bytes) k st r = equivocation-fine s past i c st r bytes (known-uncut past (is_pair bytes) bytes k)
 
   -- What a call does to the states: each that was there is still there, and extended.
   abbrev pub Grown : World → World → Type 0
@@ -226,13 +226,13 @@ module _ (s : Setup) where
 
     open-stepped : (id f timeout last : ℕ) (rotation log masks entry out : List ℕ)
         → Lawful s w i (opening id f timeout last rotation log masks entry out)
-        → Stepped w (opened w i (openCall id f timeout last rotation log masks entry out))
+        → Stepped w (opened w i (open_call id f timeout last rotation log masks entry out))
     unfolding opened
     open-stepped id f timeout last rotation log masks entry out l =
         by_cond (Stepped w) _ (λ e. yes-case (eqb-true _ _ e)) (λ e. no-case (eqb-false _ _ e))
       where
         o : Outcome
-        o = openCall id f timeout last rotation log masks entry out
+        o = open_call id f timeout last rotation log masks entry out
 
         r : OpenFine s w.past i id f last rotation o
         r = open-fine s w.past i id f timeout last rotation log masks entry out
@@ -256,7 +256,7 @@ module _ (s : Setup) where
               grown = λ j c e. (c, e, extends-refl c);
             }
           where
-            silent : emittedBy o ≡ [] → (j : ℕ) (x : List ℕ) → In (emitted j x) (note i o w.past) → In (emitted j x) w.past
+            silent : emitted_by o ≡ [] → (j : ℕ) (x : List ℕ) → In (emitted j x) (note i o w.past) → In (emitted j x) w.past
             silent z j x p =
                 quiet (subst (λ xs. In (emitted j x) (answered o.answer.number ∷ emit i xs w.past)) z (unfold note in p))
               where
@@ -265,14 +265,14 @@ module _ (s : Setup) where
                 quiet (inr q) = unfold emit in q
 
     act-stepped : (c : State) (a : Act) → w.states i ≡ some c
-        → Stepped w (after (record { states = w.states; past = hand (framesIn c a) w.past }) i (answer c a))
+        → Stepped w (after (record { states = w.states; past = hand (frames_in c a) w.past }) i (answer c a))
     unfolding after
     act-stepped c a e =
-        let past : List Event = hand (framesIn c a) w.past in
+        let past : List Event = hand (frames_in c a) w.past in
         let u : World = record { states = w.states; past = past } in
-        let h : Inv u = hand-inv w (framesIn c a) v in
+        let h : Inv u = hand-inv w (frames_in c a) v in
         let fine : Fine s past i c (answer c a) =
-        act-fine past i c a (λ x p r. inl (hand_in (framesIn c a) w.past x p r))
+        act-fine past i c a (λ x p r. inl (hand_in (frames_in c a) w.past x p r))
         (record { good = h.good i c e; mine = h.mine i c e; tidy = h.tidy }) (h.rests i c e) in
         record {
           inv = after-inv u i (answer c a) h c fine (λ _. h.good i c e);

@@ -2,15 +2,15 @@
 use Rattle.std.specs.Prelude.{ℕ, ◌+◌, ◌*◌, ◌≤◌, ◌<◌, ◌≡◌, ◌⊎◌, ◌≢◌, List, [], ◌++◌, Bool, true}
 use Rattle.std.proofs.Math.Option.{some}
 use Rattle.apollo.specs.declared.Setup.{Setup}
-use Rattle.apollo.specs.Setup.{setup, replicas, leader, validRotation}
+use Rattle.apollo.specs.Setup.{setup, replicas, leader, valid_rotation}
 use Rattle.apollo.specs.Frame.{kind, round}
 use Rattle.apollo.specs.Log.{slot, filled}
-use Rattle.apollo.specs.Replica.{validReplica, validMasks}
+use Rattle.apollo.specs.Replica.{valid_replica, valid_masks}
 use Rattle.apollo.specs.Enter.{State}
 use Rattle.apollo.specs.Committed.{committed, Begins}
-use Rattle.apollo.specs.Calls.{openCall}
-use Rattle.apollo.specs.Refusal.{badReplica, badLength, revertsCommitted}
-use Rattle.theorem_agreement.specs.Run.{Act, Call, emitted, answered, In, World, present, start, framesIn, answer, run}
+use Rattle.apollo.specs.Calls.{open_call}
+use Rattle.apollo.specs.Refusal.{bad_replica, bad_length, reverts_committed}
+use Rattle.theorem_agreement.specs.Run.{Act, Call, emitted, answered, In, World, present, start, frames_in, answer, run}
 use Rattle.theorem_agreement.specs.Premises.{Each, Lawful, Premises}
 use Rattle.theorem_agreement.specs.Cases.{OfLawful, OfPremises, EachState, TwoStates}
 
@@ -20,7 +20,7 @@ pub record Agreed (correct : ℕ → Bool) (w : World) : Type 0 where
   pub prefixes : (i j : ℕ) (c d : State) → w.states i ≡ some c → w.states j ≡ some d
       → Begins (committed c) (committed d) ⊎ Begins (committed d) (committed c)
   -- no call met refusal 12
-  pub kept : In (answered revertsCommitted) w.past → ⊥
+  pub kept : In (answered reverts_committed) w.past → ⊥
   -- a block that a correct replica emitted stands in the chain of every replica that has a block of that round or a later one
   pub stands : (i j : ℕ) (x : List ℕ) (c : State) (q : ℕ) → correct i ≡ true → In (emitted i x) w.past → kind x ≡ 1
       → w.states j ≡ some c → round x ≤ q → filled (slot c.log q) ≡ true → slot c.log (round x) ≡ x
@@ -59,9 +59,9 @@ Near =
 pub record Valid (w : World) : Type 0 where
   -- the record of each replica is valid with its log and its masks
   pub states : (i : ℕ) (c : State) → w.states i ≡ some c
-      → (validReplica c.replica c.log ≡ true) × (validMasks c.replica c.masks ≡ true)
+      → (valid_replica c.replica c.log ≡ true) × (valid_masks c.replica c.masks ≡ true)
   -- so no call of the list met it
-  pub answers : In (answered badReplica) w.past → ⊥
+  pub answers : In (answered bad_replica) w.past → ⊥
 
 abbrev pub NeverInvalid : Type 0
 NeverInvalid = OfLawful (λ s calls. Valid (run start calls))
@@ -75,7 +75,7 @@ OnlyGrows =
 
 -- The frames of a buffer that a call refuses with 6 are not handed in: what `Unforged` and `Distinct` presume does not speak of them.
 abbrev pub CutHandsNothing : Type 0
-CutHandsNothing = (c : State) (a : Act) → (answer c a).answer.number ≡ badLength → framesIn c a ≡ []
+CutHandsNothing = (c : State) (a : Act) → (answer c a).answer.number ≡ bad_length → frames_in c a ≡ []
 
 -- Document 02, F-4: "f + 1 rounds in a row have different leaders", and n even do
 abbrev pub DifferentLeaders : Setup → Type 0
@@ -83,11 +83,11 @@ DifferentLeaders s = (r q : ℕ) → 1 ≤ r → r < q → q < r + replicas s �
 
 -- It is one law for every n and every rotation that passes 17 at open and 2 later, and no list of calls is in it
 abbrev pub LeadersDiffer : Type 0
-LeadersDiffer = (s : Setup) → validRotation s ≡ true → DifferentLeaders s
+LeadersDiffer = (s : Setup) → valid_rotation s ≡ true → DifferentLeaders s
 
 -- so for the rotation that is lent to any open that is taken
 abbrev pub OpenedLeadersDiffer : Type 0
 OpenedLeadersDiffer =
-    (id f timeout lastRound : ℕ) (rotation log masks entry out : List ℕ)
-    → (openCall id f timeout lastRound rotation log masks entry out).answer.number ≡ 0
-    → DifferentLeaders (setup f lastRound rotation)
+    (id f timeout last_round : ℕ) (rotation log masks entry out : List ℕ)
+    → (open_call id f timeout last_round rotation log masks entry out).answer.number ≡ 0
+    → DifferentLeaders (setup f last_round rotation)

@@ -9,8 +9,8 @@ use Rattle.apollo.specs.Frame.{kind, signer, round, digest, checked}
 use Rattle.apollo.specs.Masks.{count}
 use Rattle.apollo.specs.Log.{genesis}
 use Rattle.apollo.specs.Enter.{State}
-use Rattle.apollo.specs.Calls.{openCall}
-use Rattle.theorem_agreement.specs.Run.{Call, opening, act, Event, emitted, In, Seen, World, start, framesIn, step, run}
+use Rattle.apollo.specs.Calls.{open_call}
+use Rattle.theorem_agreement.specs.Run.{Call, opening, act, Event, emitted, In, Seen, World, start, frames_in, step, run}
 
 -- P holds of each call, in the world before it
 abbrev pub Each : (World → ℕ → Call → Type 0) → World → List (ℕ × Call) → Type 0
@@ -27,9 +27,9 @@ module _ (s : Setup) where
   -- common f, T and rotation ("Sound cards also share one seating", document 02, F-4); any other call finds it opened. A refused open
   -- counts for nothing. That each call gets the state that the last one left is the definition of `step`.
   abbrev pub Lawful : World → ℕ → Call → Type 0
-  Lawful w i (opening id f timeout lastRound rotation log masks entry out) =
-      (openCall id f timeout lastRound rotation log masks entry out).answer.number ≡ 0
-      → (w.states i ≡ none) × (id ≡ i) × (f ≡ s.f) × (lastRound ≡ s.last_round.0)
+  Lawful w i (opening id f timeout last_round rotation log masks entry out) =
+      (open_call id f timeout last_round rotation log masks entry out).answer.number ≡ 0
+      → (w.states i ≡ none) × (id ≡ i) × (f ≡ s.f) × (last_round ≡ s.last_round.0)
       × (padded rotation ≡ s.rotation)
   Lawful w i (act a) = (c : State) × (w.states i ≡ some c)
 
@@ -42,9 +42,9 @@ module _ (s : Setup) where
 
     -- nothing is "forged": a frame handed in with a right check that names a correct signer was emitted by it earlier
     abbrev pub Unforged : World → ℕ → Call → Type 0
-    Unforged w i (opening id f timeout lastRound rotation log masks entry out) = Unit {0}
+    Unforged w i (opening id f timeout last_round rotation log masks entry out) = Unit {0}
     Unforged w i (act a) =
-        (c : State) (x : List ℕ) → w.states i ≡ some c → In x (framesIn c a) → checked sha256 x ≡ true → signer x < replicas s
+        (c : State) (x : List ℕ) → w.states i ≡ some c → In x (frames_in c a) → checked sha256 x ≡ true → signer x < replicas s
         → correct (signer x) ≡ true → In (emitted (signer x) x) w.past
 
     -- no correct replica "blamed" (emitted a blame for) a round whose leader is correct

@@ -4,11 +4,11 @@ use Rattle.std.specs.Prelude.{ℕ, ◌≡◌, ◌⊎◌, List, [], ◌∷◌, Bo
 use Rattle.std.proofs.Math.Option.{Option, none, some}
 use Rattle.sha256.specs.Fips.{sha256}
 use Rattle.apollo.specs.declared.Marked.{Marked}
-use Rattle.apollo.specs.Frame.{frames, framesOf, wholeFrames, checked}
+use Rattle.apollo.specs.Frame.{frames, frames_of, whole_frames, checked}
 use Rattle.apollo.specs.Enter.{State}
 use Rattle.apollo.specs.Outcome.{Outcome, state_of}
-use Rattle.apollo.specs.Equivocation.{isPair}
-use Rattle.apollo.specs.Calls.{openCall, branchCall, blameCall, blamesCall, tickCall, equivocationCall}
+use Rattle.apollo.specs.Equivocation.{is_pair}
+use Rattle.apollo.specs.Calls.{open_call, branch_call, blame_call, blames_call, tick_call, equivocation_call}
 
 -- a call other than open, with the bytes handed in and the buffers lent, whatever they hold
 pub data Act : Type 0 where
@@ -22,7 +22,7 @@ pub data Act : Type 0 where
 
 -- a call
 pub data Call : Type 0 where
-  opening : (id f timeout lastRound : ℕ) (rotation log masks entry out : List ℕ) → Call
+  opening : (id f timeout last_round : ℕ) (rotation log masks entry out : List ℕ) → Call
   act : Act → Call
 
 -- what comes to pass: a frame with a right check is handed in; a replica emits a frame (puts it out); a call is answered
@@ -46,12 +46,12 @@ pub record World : Type 0 where
   pub past : List Event
 
 -- the replicas of a world: those that have opened
-abbrev pub isOpen : Option State → Bool
-isOpen none = false
-isOpen (some c) = true
+abbrev pub is_open : Option State → Bool
+is_open none = false
+is_open (some c) = true
 
 unfoldable pub present : World → ℕ → Bool
-present w i = isOpen (w.states i)
+present w i = is_open (w.states i)
 
 -- before the first call
 unfoldable pub start : World
@@ -59,15 +59,15 @@ start = record { states = λ i. none; past = [] }
 
 -- the frames of a buffer that is whole, as its call asks; any other is cut (refusal 6), and no frame is handed in by it
 unfoldable pub uncut : (whole : Bool) (bytes : List ℕ) → List (List ℕ)
-uncut whole bytes = cond whole (framesOf bytes) []
+uncut whole bytes = cond whole (frames_of bytes) []
 
 -- the frames that a call hands in at a replica in state c, whatever it answers
-unfoldable pub framesIn : State → Act → List (List ℕ)
-framesIn c (branch bytes entry out) = uncut (wholeFrames c.replica.last_round.0 bytes) bytes
-framesIn c (blame bytes entry out) = uncut (wholeFrames 1 bytes) bytes
-framesIn c (blames bytes entry out) = uncut (wholeFrames 15 bytes) bytes
-framesIn c (tick entry out) = []
-framesIn c (equivocation bytes) = uncut (isPair bytes) bytes
+unfoldable pub frames_in : State → Act → List (List ℕ)
+frames_in c (branch bytes entry out) = uncut (whole_frames c.replica.last_round.0 bytes) bytes
+frames_in c (blame bytes entry out) = uncut (whole_frames 1 bytes) bytes
+frames_in c (blames bytes entry out) = uncut (whole_frames 15 bytes) bytes
+frames_in c (tick entry out) = []
+frames_in c (equivocation bytes) = uncut (is_pair bytes) bytes
 
 -- the past after some frames were handed in: those with a right check count
 unfoldable pub hand : List (List ℕ) → List Event → List Event
@@ -80,12 +80,12 @@ emit i [] past = past
 emit i (x ∷ xs) past = emit i xs (emitted i x ∷ past)
 
 -- the frames that a call emits: the first of its out buffer
-unfoldable pub emittedBy : Outcome → List (List ℕ)
-emittedBy o = frames o.answer.frames o.out
+unfoldable pub emitted_by : Outcome → List (List ℕ)
+emitted_by o = frames o.answer.frames o.out
 
 -- the past after replica i's answer
 unfoldable pub note : ℕ → Outcome → List Event → List Event
-note i o past = answered o.answer.number ∷ emit i (emittedBy o) past
+note i o past = answered o.answer.number ∷ emit i (emitted_by o) past
 
 -- the world after a call at replica i: its state is the one that the call left
 unfoldable pub after : World → ℕ → Outcome → World
@@ -96,8 +96,8 @@ unfoldable pub opened : World → ℕ → Outcome → World
 opened w i o = cond (eqb o.answer.number 0) (after w i o) (record { states = w.states; past = note i o w.past })
 
 -- the outcome of a call that is lent the record alone: log and masks stay, nothing is emitted, and no leader is told
-unfoldable pub recordOnly : State → Marked → Outcome
-recordOnly c m =
+unfoldable pub record_only : State → Marked → Outcome
+record_only c m =
     record {
       answer = record { number = m.number; frames = 0; leader = 255; place = m.place; replica = m.replica };
       log = c.log;
@@ -107,20 +107,20 @@ recordOnly c m =
 
 -- what a call answers at a replica in state c
 unfoldable pub answer : State → Act → Outcome
-answer c (branch bytes entry out) = branchCall c bytes entry out
-answer c (blame bytes entry out) = blameCall c bytes entry out
-answer c (blames bytes entry out) = blamesCall c bytes entry out
-answer c (tick entry out) = tickCall c entry out
-answer c (equivocation bytes) = recordOnly c (equivocationCall c.replica bytes)
+answer c (branch bytes entry out) = branch_call c bytes entry out
+answer c (blame bytes entry out) = blame_call c bytes entry out
+answer c (blames bytes entry out) = blames_call c bytes entry out
+answer c (tick entry out) = tick_call c entry out
+answer c (equivocation bytes) = record_only c (equivocation_call c.replica bytes)
 
 -- A call at replica i with the state that its last call left: its frames are handed in, and it is answered. Without a state
 -- nothing happens, and the premises rule it out.
 unfoldable pub call_at : World → ℕ → Option State → Call → World
-call_at w i c (opening id f timeout lastRound rotation log masks entry out) =
-    opened w i (openCall id f timeout lastRound rotation log masks entry out)
+call_at w i c (opening id f timeout last_round rotation log masks entry out) =
+    opened w i (open_call id f timeout last_round rotation log masks entry out)
 call_at w i none (act a) = w
 call_at w i (some c) (act a) =
-    after (record { states = w.states; past = hand (framesIn c a) w.past }) i (answer c a)
+    after (record { states = w.states; past = hand (frames_in c a) w.past }) i (answer c a)
 
 -- one call at replica i
 unfoldable pub step : World → ℕ → Call → World

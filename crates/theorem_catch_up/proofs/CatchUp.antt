@@ -10,20 +10,20 @@ use lib.ListN.{length, take}
 use lib.Dec.{eqb, leb, ltb}
 use borrow.Author.Tests.{eqb-true, eqb-false, eq-eqb, ltb-true, ltb-false, leb-true, leb-false}
 use Rattle.sha256.specs.Fips.{sha256}
-use Rattle.apollo.specs.Size.{frameSize}
+use Rattle.apollo.specs.Size.{frame_size}
 use Rattle.apollo.specs.declared.Setup.{Setup}
-use Rattle.apollo.specs.Setup.{setupOf}
+use Rattle.apollo.specs.Setup.{setup_of}
 use Rattle.apollo.specs.Bytes.{same}
 use Rattle.apollo.specs.Frame.{round, height, linked}
-use Rattle.apollo.specs.Log.{slot, filled, clearAbove, attach}
-use Rattle.apollo.specs.Replica.{validReplica, validMasks}
+use Rattle.apollo.specs.Log.{slot, filled, clear_above, attach}
+use Rattle.apollo.specs.Replica.{valid_replica, valid_masks}
 use Rattle.apollo.specs.Enter.{State}
 use Rattle.apollo.specs.Judging.{verdict}
 use Rattle.apollo.specs.Outcome.{refused, taken, guarded}
 use Rattle.apollo.specs.BlockRun.{last_of, blocks}
-use Rattle.apollo.specs.Branch.{firstUncertified, grown, adopting, placed, branchWith}
+use Rattle.apollo.specs.Branch.{first_uncertified, grown, adopting, placed, branch_with}
 use Rattle.apollo.specs.Fetch.{fetchable}
-use Rattle.apollo.specs.Calls.{branchCall}
+use Rattle.apollo.specs.Calls.{branch_call}
 use Rattle.apollo.specs.BenchSheet.{Callable}
 use Rattle.apollo.proofs.Tests.{both}
 use Rattle.apollo.proofs.Validity as Validity
@@ -46,80 +46,80 @@ use Rattle.theorem_agreement.proofs.GoodRun.{stored_low, held-round, parts, fron
 use Rattle.theorem_agreement.proofs.Honest.{Honest, same-limit, no-revert}
 use Rattle.theorem_agreement.proofs.Agreement.{honest}
 use Rattle.theorem_agreement.proofs.Earlier.{has, had-good, had-rested, had-extends}
-use Rattle.theorem_catch_up.specs.CatchUp.{verdictOf, lacking, received, Answers, Continues, Common, CatchUp, CatchUpLater}
+use Rattle.theorem_catch_up.specs.CatchUp.{verdict_of, lacking, received, Answers, Continues, Common, CatchUp, CatchUpLater}
 
 -- a branch attaches to round k and, where all that it skips is certified, keeps what is committed
 pub record Extending (c : State) (k : ℕ) (x : List ℕ) (ys : List (List ℕ)) : Type 0 where
   pub attached : attach c.log x (round x - 1) ≡ some k
   pub keeps :
       lacking c k x ys ≡ 0
-      → take (frameSize * c.replica.committed_round.0) (grown c.log k (x ∷ ys)) ≡ take (frameSize * c.replica.committed_round.0) c.log
+      → take (frame_size * c.replica.committed_round.0) (grown c.log k (x ∷ ys)) ≡ take (frame_size * c.replica.committed_round.0) c.log
 
 -- the answer to a branch of good frames, where it attaches so unless it is stale
 module _ (c : State) (entry out : List ℕ) (fits : length entry ≤ 400) (room : 1024 ≤ length out)
-    (valid : validReplica c.replica c.log ≡ true) (lent : validMasks c.replica c.masks ≡ true)
+    (valid : valid_replica c.replica c.log ≡ true) (lent : valid_masks c.replica c.masks ≡ true)
     (x : List ℕ) (ys : List (List ℕ)) (few : length (x ∷ ys) ≤ c.replica.last_round.0)
-    (good : blocks (setupOf c.replica) none (x ∷ ys) ≡ true) (k : ℕ) where
+    (good : blocks (setup_of c.replica) none (x ∷ ys) ≡ true) (k : ℕ) where
   abbrev R : ℕ
   R = c.replica.round.0
 
   abbrev T : ℕ
   T = c.replica.last_round.0
 
-  over : R ≡ T + 1 → verdictOf (branchCall c (flatten (x ∷ ys)) entry out) ≡ verdict 3 0
-  unfolding branchWith guarded refused
+  over : R ≡ T + 1 → verdict_of (branch_call c (flatten (x ∷ ys)) entry out) ≡ verdict 3 0
+  unfolding branch_with guarded refused
   over e =
-      let v : not (validReplica c.replica c.log && validMasks c.replica c.masks) ≡ false =
-      ap not (both (validReplica c.replica c.log) (validMasks c.replica c.masks) valid lent) in
-      ap verdictOf (cond-false _ _ v ∙ cond-true _ _ (eq-eqb R (T + 1) e))
+      let v : not (valid_replica c.replica c.log && valid_masks c.replica c.masks) ≡ false =
+      ap not (both (valid_replica c.replica c.log) (valid_masks c.replica c.masks) valid lent) in
+      ap verdict_of (cond-false _ _ v ∙ cond-true _ _ (eq-eqb R (T + 1) e))
 
   module _ (runs : R ≢ T + 1) where
     callable : Callable c out
     callable =
         record { valid = valid; lent = lent; running = omega (arith, runs, (Validity.valid c.replica c.log valid).round-most); room = room }
 
-    ends_low : round (last_of x ys) < R → verdictOf (branchCall c (flatten (x ∷ ys)) entry out) ≡ verdict 10 0
+    ends_low : round (last_of x ys) < R → verdict_of (branch_call c (flatten (x ∷ ys)) entry out) ≡ verdict 10 0
     unfolding refused
-    ends_low l = ap verdictOf (stale-branch callable entry fits x ys few good l)
+    ends_low l = ap verdict_of (stale-branch callable entry fits x ys few good l)
 
     module _ (high : R ≤ round (last_of x ys)) (e : Extending c k x ys) where
-      comes : branchCall c (flatten (x ∷ ys)) entry out ≡ placed sha256 entry out c x ys (some k)
+      comes : branch_call c (flatten (x ∷ ys)) entry out ≡ placed sha256 entry out c x ys (some k)
       comes = fresh-branch callable entry fits x ys few good high ∙ ap (placed sha256 entry out c x ys) e.attached
 
       uncertified : eqb (lacking c k x ys) 0 ≡ false
-          → verdictOf (branchCall c (flatten (x ∷ ys)) entry out) ≡ verdict 13 (lacking c k x ys)
+          → verdict_of (branch_call c (flatten (x ∷ ys)) entry out) ≡ verdict 13 (lacking c k x ys)
       unfolding placed refused
-      uncertified z = ap verdictOf (comes ∙ cond-false _ _ z)
+      uncertified z = ap verdict_of (comes ∙ cond-false _ _ z)
 
-      pub all-certified : eqb (lacking c k x ys) 0 ≡ true → branchCall c (flatten (x ∷ ys)) entry out ≡ taken (adopting sha256 entry c k x ys) out
+      pub all-certified : eqb (lacking c k x ys) 0 ≡ true → branch_call c (flatten (x ∷ ys)) entry out ≡ taken (adopting sha256 entry c k x ys) out
       unfolding placed
       all-certified z = comes ∙ cond-true _ _ z ∙ cond-true _ _ (same_of (e.keeps (eqb-true _ _ z)))
 
-  pub answered-so : (R ≤ round (last_of x ys) → Extending c k x ys) → verdictOf (branchCall c (flatten (x ∷ ys)) entry out) ≡ received c k x ys
+  pub answered-so : (R ≤ round (last_of x ys) → Extending c k x ys) → verdict_of (branch_call c (flatten (x ∷ ys)) entry out) ≡ received c k x ys
   unfolding received taken
   answered-so h =
-      by_cond (λ v. verdictOf (branchCall c (flatten (x ∷ ys)) entry out) ≡ v) (eqb R (T + 1)) (λ z. over (eqb-true _ _ z))
-      (λ z. by_cond (λ v. verdictOf (branchCall c (flatten (x ∷ ys)) entry out) ≡ v) (ltb (round (last_of x ys)) R)
+      by_cond (λ v. verdict_of (branch_call c (flatten (x ∷ ys)) entry out) ≡ v) (eqb R (T + 1)) (λ z. over (eqb-true _ _ z))
+      (λ z. by_cond (λ v. verdict_of (branch_call c (flatten (x ∷ ys)) entry out) ≡ v) (ltb (round (last_of x ys)) R)
       (λ l. ends_low (eqb-false _ _ z) (ltb-true _ _ l))
-      (λ l. by_cond (λ v. verdictOf (branchCall c (flatten (x ∷ ys)) entry out) ≡ v) (eqb (lacking c k x ys) 0)
-      (λ a. ap verdictOf (all-certified (eqb-false _ _ z) (ltb-false _ _ l) (h (ltb-false _ _ l)) a))
+      (λ l. by_cond (λ v. verdict_of (branch_call c (flatten (x ∷ ys)) entry out) ≡ v) (eqb (lacking c k x ys) 0)
+      (λ a. ap verdict_of (all-certified (eqb-false _ _ z) (ltb-false _ _ l) (h (ltb-false _ _ l)) a))
       (uncertified (eqb-false _ _ z) (ltb-false _ _ l) (h (ltb-false _ _ l)))))
 
 -- c, which answers, and d, from which it fetched, are good in one world; c's state is one that a call left
 module _ (s : Setup) (past : List Event) (i j : ℕ) (c d : State) (gc : Good s past i c) (rc : Rested c) (gd : Good s past j d) where
   -- the setup of c is the common one
-  pub own : (k : ℕ) (xs : List (List ℕ)) → firstUncertified (setupOf c.replica) c.masks k xs ≡ firstUncertified s c.masks k xs
-  own k xs = ap (λ u. firstUncertified u c.masks k xs) (setup-is s i c.replica gc.fixed)
+  pub own : (k : ℕ) (xs : List (List ℕ)) → first_uncertified (setup_of c.replica) c.masks k xs ≡ first_uncertified s c.masks k xs
+  own k xs = ap (λ u. first_uncertified u c.masks k xs) (setup-is s i c.replica gc.fixed)
 
   -- what d has above a height
   module _ (h : ℕ) (x : List ℕ) (ys zs : List (List ℕ)) (m : fetchable d.replica d.log h ≡ x ∷ (ys ++ zs)) where
-    good : blocks (setupOf c.replica) none (x ∷ ys) ≡ true
+    good : blocks (setup_of c.replica) none (x ∷ ys) ≡ true
     good = ap (λ u. blocks u none (x ∷ ys)) (setup-is s i c.replica gc.fixed) ∙ front-good s past j d gd h (x ∷ ys) zs m
 
     few : length (x ∷ ys) ≤ c.replica.last_round.0
     few = omega (arith, run_short s past j d gd h x ys zs m, gc.fixed.last-is, gd.fixed.last-is)
 
-    valid-c : (validReplica c.replica c.log ≡ true) × (validMasks c.replica c.masks ≡ true)
+    valid-c : (valid_replica c.replica c.log ≡ true) × (valid_masks c.replica c.masks ≡ true)
     valid-c = and-true _ _ (valid s past i c gc rc)
 
     -- it is answered so, where it attaches to round k and keeps what is committed unless it is stale
@@ -129,7 +129,7 @@ module _ (s : Setup) (past : List Event) (i j : ℕ) (c d : State) (gc : Good s 
 
     pub taken-so : (k : ℕ) (entry out : List ℕ) → length entry ≤ 400 → 1024 ≤ length out → c.replica.round.0 ≢ c.replica.last_round.0 + 1
         → c.replica.round.0 ≤ round (last_of x ys) → Extending c k x ys → lacking c k x ys ≡ 0
-        → branchCall c (flatten (x ∷ ys)) entry out ≡ taken (adopting sha256 entry c k x ys) out
+        → branch_call c (flatten (x ∷ ys)) entry out ≡ taken (adopting sha256 entry c k x ys) out
     taken-so k entry out fits room runs late e u =
         all-certified c entry out fits room valid-c.0 valid-c.1 x ys few good k runs late e (eq-eqb (lacking c k x ys) 0 u)
 
@@ -193,8 +193,8 @@ module _ (s : Setup) (past : List Event) (i j : ℕ) (c d : State) (gc : Good s 
         → slot (grown c.log k (x ∷ ys)) q ≡ slot c.log q
     unfolding grown
     kept above q o u =
-        let fit : frameSize * k ≤ length c.log = omega (arith, low, gc.stored.size) in
-        stored_low s (x ∷ ys) (clearAbove c.log k) (slot d.log k) run_on q (omega (arith, round-d))
+        let fit : frame_size * k ≤ length c.log = omega (arith, low, gc.stored.size) in
+        stored_low s (x ∷ ys) (clear_above c.log k) (slot d.log k) run_on q (omega (arith, round-d))
         (length-clear c.log k fit ∙ gc.stored.size)
         ∙ clear-low c.log k q fit (omega arith)
 
@@ -216,7 +216,7 @@ module _ (s : Setup) (past : List Event) (i j : ℕ) (c d : State) (gc : Good s 
           grown-stored s past c.masks c.log _ _ k x ys gc.stored attached r.0 r.1 (λ z p _. run-seen s past j d gd h x ys zs m z p)
           (blocks-whole s (some (slot d.log k)) (x ∷ ys) run_on) (sym (own k (x ∷ ys)) ∙ u)
 
-      keeps-all : lacking c k x ys ≡ 0 → take (frameSize * c.replica.committed_round.0) new ≡ take (frameSize * c.replica.committed_round.0) c.log
+      keeps-all : lacking c k x ys ≡ 0 → take (frame_size * c.replica.committed_round.0) new ≡ take (frame_size * c.replica.committed_round.0) c.log
       keeps-all u =
           ⊎_elim (same_true _ _)
           (λ e. absurd (no-revert s correct past sound i c gc
@@ -229,7 +229,7 @@ module _ (s : Setup) (past : List Event) (i j : ℕ) (c d : State) (gc : Good s 
             renewed = rc.renewed;
             differs = λ z. clash (same_of z) e;
           })))
-          (either (same (take (frameSize * c.replica.committed_round.0) new) (take (frameSize * c.replica.committed_round.0) c.log)))
+          (either (same (take (frame_size * c.replica.committed_round.0) new) (take (frame_size * c.replica.committed_round.0) c.log)))
 
       pub extending-late : Extending c k x ys
       extending-late = record { attached = attached; keeps = keeps-all }

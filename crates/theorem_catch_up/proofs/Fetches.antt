@@ -9,13 +9,13 @@ use native.Mathlib.Omega.{arith}
 use lib.ListN.{length, take, drop, length-append, length-take, take-append-drop}
 use lib.Seq.{take_at}
 use lib.Dec.{eqb, ltb}
-use Rattle.apollo.specs.Size.{frameSize}
+use Rattle.apollo.specs.Size.{frame_size}
 use Rattle.apollo.specs.Frame.{height, frames}
 use Rattle.apollo.specs.Log.{slot, chain}
-use Rattle.apollo.specs.Replica.{validReplica}
-use Rattle.apollo.specs.Fetch.{FetchOutcome, above, fetchCount, fetchCall}
+use Rattle.apollo.specs.Replica.{valid_replica}
+use Rattle.apollo.specs.Fetch.{FetchOutcome, above, fetch_count, fetch_call}
 use Rattle.apollo.proofs.Fetch.{above-append}
-use Rattle.apollo.specs.Calls.{branchCall}
+use Rattle.apollo.specs.Calls.{branch_call}
 use Rattle.apollo.proofs.Frames.{Whole}
 use Rattle.apollo.proofs.BlockRun.{blocks-whole}
 use Rattle.theorem_agreement.specs.Run.{Event, start, run}
@@ -25,7 +25,7 @@ use Rattle.theorem_agreement.proofs.Good.{Good}
 use Rattle.theorem_agreement.proofs.Above.{After, segment-after, cut-from, segment}
 use Rattle.theorem_agreement.proofs.World.{start-inv, run-inv}
 use Rattle.theorem_agreement.proofs.GoodRun.{parts, above-run}
-use Rattle.theorem_catch_up.specs.CatchUp.{missing, verdictOf, received, GoesOn, GrowsOn, OneFetch}
+use Rattle.theorem_catch_up.specs.CatchUp.{missing, verdict_of, received, GoesOn, GrowsOn, OneFetch}
 use Rattle.theorem_catch_up.proofs.CatchUp.{catch-up}
 
 pub goes_on : GoesOn
@@ -45,7 +45,7 @@ pub grows-on : GrowsOn
 grows-on d e b h = (above h b.0, ap (above h) b.1 ∙ above-append h (chain d.log d.replica.last_round.0) b.0)
 
 -- frames of 512 bytes each, end to end
-flatten-length : (xs : List (List ℕ)) → Whole xs → length (flatten xs) ≡ frameSize * length xs
+flatten-length : (xs : List (List ℕ)) → Whole xs → length (flatten xs) ≡ frame_size * length xs
 unfolding flatten
 flatten-length [] w = refl
 flatten-length (x ∷ xs) w = length-append x (flatten xs) ∙ omega (arith, w.0, flatten-length xs w.1)
@@ -63,18 +63,18 @@ module _ (n : ℕ) (xs : List (List ℕ)) (rest : List ℕ) (w : Whole xs) (l : 
   wrote : frames n (flatten (take n xs) ++ rest) ≡ take n xs
   wrote = ap (λ k. frames k (flatten (take n xs) ++ rest)) (sym size) ∙ frames-flatten (take n xs) rest (whole_take n xs w)
 
-  bytes : take (frameSize * n) (flatten (take n xs) ++ rest) ≡ flatten (take n xs)
-  bytes = take_at (flatten (take n xs)) rest (frameSize * n) (flatten-length (take n xs) (whole_take n xs w) ∙ ap (λ k. frameSize * k) size)
+  bytes : take (frame_size * n) (flatten (take n xs) ++ rest) ≡ flatten (take n xs)
+  bytes = take_at (flatten (take n xs)) rest (frame_size * n) (flatten-length (take n xs) (whole_take n xs w) ∙ ap (λ k. frame_size * k) size)
 
 pub one-fetch : OneFetch
-unfolding fetchCall frames
+unfolding fetch_call frames
 one-fetch s correct calls p i j c d ec ed tray o e x ys m entry out fits room = go o e m
   where
     xs : List (List ℕ)
     xs = missing c d
 
     n : ℕ
-    n = fetchCount d.replica d.log c.replica.committed_height.0 tray
+    n = fetch_count d.replica d.log c.replica.committed_height.0 tray
 
     g : Good s (run start calls).past j d
     g = (run-inv s calls start p.lawful (start-inv s)).good j d ed
@@ -84,21 +84,21 @@ one-fetch s correct calls p i j c d ec ed tray o e x ys m entry out fits room = 
         (above-run s (run start calls).past j d g c.replica.committed_height.0)
 
     Answered : FetchOutcome → Type 0
-    Answered u = frames u.answer.count u.out ≡ x ∷ ys → verdictOf (branchCall c (take (frameSize * u.answer.count) u.out) entry out) ≡ received c c.replica.committed_round.0 x ys
+    Answered u = frames u.answer.count u.out ≡ x ∷ ys → verdict_of (branch_call c (take (frame_size * u.answer.count) u.out) entry out) ≡ received c c.replica.committed_round.0 x ys
 
     none : (k : ℕ) → Answered (record { answer = record { number = k; count = 0 }; out = tray })
     none k v = let z : ◌≡◌ {A = ℕ} 0 1 = cc in absurd (omega arith)
 
-    copied : Answered (record { answer = record { number = 0; count = n }; out = flatten (take n xs) ++ drop (frameSize * n) tray })
+    copied : Answered (record { answer = record { number = 0; count = n }; out = flatten (take n xs) ++ drop (frame_size * n) tray })
     copied v =
-        let t : take n xs ≡ x ∷ ys = sym (wrote n xs (drop (frameSize * n) tray) whole (omega arith)) ∙ v in
-        let b : take (frameSize * n) (flatten (take n xs) ++ drop (frameSize * n) tray) ≡ flatten (x ∷ ys) = bytes n xs (drop (frameSize * n) tray) whole (omega arith) ∙ ap flatten t in
-        ap (λ u. verdictOf (branchCall c u entry out)) b
+        let t : take n xs ≡ x ∷ ys = sym (wrote n xs (drop (frame_size * n) tray) whole (omega arith)) ∙ v in
+        let b : take (frame_size * n) (flatten (take n xs) ++ drop (frame_size * n) tray) ≡ flatten (x ∷ ys) = bytes n xs (drop (frame_size * n) tray) whole (omega arith) ∙ ap flatten t in
+        ap (λ u. verdict_of (branch_call c u entry out)) b
         ∙ catch-up s correct calls p i j c d ec ed x ys (drop n xs) (sym (take-append-drop n xs) ∙ ap (λ us. us ++ drop n xs) t) entry out fits room
 
-    go : (u : FetchOutcome) → u ≡ fetchCall d.replica d.log c.replica.committed_height.0 tray → Answered u
+    go : (u : FetchOutcome) → u ≡ fetch_call d.replica d.log c.replica.committed_height.0 tray → Answered u
     go u e =
         subst Answered (sym e)
-        (by_cond Answered (not (validReplica d.replica d.log)) (λ _. none 2)
+        (by_cond Answered (not (valid_replica d.replica d.log)) (λ _. none 2)
         (λ _. by_cond Answered (ltb (length tray) 1024) (λ _. none 4)
         (λ _. by_cond Answered (eqb (length xs) 0) (λ _. none 15) (λ _. copied))))

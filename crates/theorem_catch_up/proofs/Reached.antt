@@ -11,7 +11,7 @@ use Rattle.apollo.specs.Judging.{verdict}
 use Rattle.apollo.specs.Fetch.{above}
 use Rattle.apollo.specs.Log.{chain}
 use Rattle.apollo.specs.Outcome.{refused}
-use Rattle.apollo.specs.Calls.{branchCall, blamesCall}
+use Rattle.apollo.specs.Calls.{branch_call, blames_call}
 use Rattle.apollo.specs.BenchSheet.{number}
 use Rattle.theorem_agreement.specs.Run.{Call, start, run}
 use Rattle.theorem_agreement.specs.Premises.{Premises}
@@ -20,11 +20,11 @@ use Rattle.theorem_witness.proofs.Answers.{out, all, opened-1, blaming-2, heard-
 use Rattle.theorem_witness.proofs.Witness.{setup, correct, first-five, first-seven, first-eight, first-ten, five-premises, seven-premises, eight-premises, ten-premises, five-leave, seven-leave, eight-leave, ten-leave, had-waited}
 use Rattle.theorem_catch_up.specs.CatchUp.{missing, received, beneath, Comes, VerdictsCome, TakenLater}
 
-early-blames : number (blamesCall opened-1 (m2 ++ m0) [] out) ≡ 14
+early-blames : number (blames_call opened-1 (m2 ++ m0) [] out) ≡ 14
 unfolding all opened-1 refused
 early-blames = rw (checked-m2, checked-m0) refl
 
-first_taken : number (branchCall opened-1 (flatten (beneath 2 (b1 ∷ b3 ∷ []))) [] out) ≡ 0
+first_taken : number (branch_call opened-1 (flatten (beneath 2 (b1 ∷ b3 ∷ []))) [] out) ≡ 0
 unfolding all opened-1 beneath flatten
 first_taken = rw checked1 refl
 

@@ -16,14 +16,14 @@ use Rattle.apollo.specs.Frame.{round, height}
 use Rattle.apollo.specs.Log.{slot}
 use Rattle.apollo.specs.Masks.{certified, gap}
 use Rattle.apollo.specs.Replica.{leads}
-use Rattle.apollo.specs.Enter.{State, Effect, commit, tipped, holding, entered, proposing, enterRound}
+use Rattle.apollo.specs.Enter.{State, Effect, commit, tipped, holding, entered, proposing, enter_round}
 use Rattle.apollo.specs.Judging.{verdict}
 use Rattle.apollo.specs.Outcome.{taken}
 use Rattle.apollo.specs.BlockRun.{last_of, blocks}
-use Rattle.apollo.specs.Branch.{firstUncertified, adopting}
+use Rattle.apollo.specs.Branch.{first_uncertified, adopting}
 use Rattle.apollo.specs.Fetch.{fetchable}
-use Rattle.apollo.specs.Calls.{branchCall}
-use Rattle.apollo.specs.BenchSheet.{number, newRound}
+use Rattle.apollo.specs.Calls.{branch_call}
+use Rattle.apollo.specs.BenchSheet.{number, new_round}
 use Rattle.apollo.proofs.BlockRun.{child-parts, blocks-parts}
 use Rattle.theorem_agreement.specs.Run.{Event, start, run}
 use Rattle.theorem_agreement.proofs.Tests.{clash, by_cond, cond-true}
@@ -70,13 +70,13 @@ beneath-front q (x ∷ xs) =
 module _ (s : Setup) (masks : List ℕ) (q : ℕ) (is : q ≢ 0) where
   record Below (lo : ℕ) (us : List (List ℕ)) : Type 0 where
     before : lo < q
-    none : firstUncertified s masks lo us ≡ 0
+    none : first_uncertified s masks lo us ≡ 0
     ends : end_of lo us < q
     between : (r : ℕ) → end_of lo us < r → r < q → certified s masks r ≡ true
 
-  below : (xs : List (List ℕ)) (p : List ℕ) → blocks s (some p) xs ≡ true → (lo : ℕ) → round p ≡ lo → firstUncertified s masks lo xs ≡ q
+  below : (xs : List (List ℕ)) (p : List ℕ) → blocks s (some p) xs ≡ true → (lo : ℕ) → round p ≡ lo → first_uncertified s masks lo xs ≡ q
       → Below lo (beneath q xs)
-  unfolding firstUncertified beneath
+  unfolding first_uncertified beneath
   below [] p f lo e u = absurd (is (sym u))
   below (x ∷ xs) p f lo e u =
       by_cond (λ v. v ≡ q → Below lo (cond (ltb (round x) q) (x ∷ beneath q xs) [])) (eqb (gap s masks lo (round x - lo - 1)) 0)
@@ -119,8 +119,8 @@ lacks c k x ys q =
 
 -- a taken branch leaves R above its last round
 round-after : (c : State) (a : ℕ) (x : List ℕ) (ys : List (List ℕ)) (entry out : List ℕ)
-    → round (last_of x ys) < newRound (taken (adopting sha256 entry c a x ys) out)
-unfolding taken adopting enterRound
+    → round (last_of x ys) < new_round (taken (adopting sha256 entry c a x ys) out)
+unfolding taken adopting enter_round
 round-after c a x ys entry out =
     by_cond (λ (e : Effect). round (last_of x ys) < e.state.replica.round.0) (leads (holding c _ _ _).replica)
     (λ _. unfold entered commit proposing holding tipped in omega arith) (λ _. unfold entered commit holding tipped in omega arith)
@@ -163,7 +163,7 @@ module _ (s : Setup) (past : List Event) (i j : ℕ) (c d : State) (gc : Good s 
   module _ (ext : (z : List ℕ) (vs rest : List (List ℕ)) → fetchable d.replica d.log (height (slot c.log k)) ≡ z ∷ (vs ++ rest)
       → R ≤ round (last_of z vs) → Extending c k z vs) (entry out : List ℕ) (fits : length entry ≤ 400) (room : 1024 ≤ length out) where
     abbrev Taken : List (List ℕ) → Type 0
-    Taken vs = (number (branchCall c (flatten vs) entry out) ≡ 0) × (q ≤ newRound (branchCall c (flatten vs) entry out))
+    Taken vs = (number (branch_call c (flatten vs) entry out) ≡ 0) × (q ≤ new_round (branch_call c (flatten vs) entry out))
 
     those : R < q → (vs : List (List ℕ)) → us ≡ vs → Taken vs
     those high [] e =
@@ -175,12 +175,12 @@ module _ (s : Setup) (past : List Event) (i j : ℕ) (c d : State) (gc : Good s 
         let end : round (last_of z vs) + 1 ≡ q = ap (λ t. t + 1) (sym (end-last k z vs) ∙ ap (end_of k) (sym e)) ∙ ends-right high in
         let late : R ≤ round (last_of z vs) = omega (arith, end) in
         let none : lacking c k z vs ≡ 0 =
-        own s past i j c d gc rc gd k (z ∷ vs) ∙ ap (firstUncertified s c.masks k) (sym e) ∙ under.none in
-        let o : branchCall c (flatten (z ∷ vs)) entry out ≡ taken (adopting sha256 entry c k z vs) out =
+        own s past i j c d gc rc gd k (z ∷ vs) ∙ ap (first_uncertified s c.masks k) (sym e) ∙ under.none in
+        let o : branch_call c (flatten (z ∷ vs)) entry out ≡ taken (adopting sha256 entry c k z vs) out =
         taken-so s past i j c d gc rc gd (height (slot c.log k)) z vs (r.0 ++ zs) n k entry out fits room w.runs late
         (ext z vs (r.0 ++ zs) n late) none in (
           ap number o ∙ (unfold taken in refl),
-          subst (λ t. q ≤ newRound t) (sym o) (omega (arith, end, round-after c k z vs entry out)),
+          subst (λ t. q ≤ new_round t) (sym o) (omega (arith, end, round-after c k z vs entry out)),
         )
 
     no-dead-end : (q ≤ R) ⊎ Taken us

@@ -3,21 +3,21 @@
 use Rattle.std.specs.Prelude.{ℕ, ◌+◌, ◌*◌, ◌≤◌, ◌<◌, ◌≡◌, ◌⊎◌, ◌≢◌, true, cond, length, take, eqb, ltb}
 use Rattle.std.proofs.Math.Option.{some}
 use mathlib.Core.List.{List, [], ◌∷◌, ◌++◌, flatten}
-use Rattle.apollo.specs.Size.{entryMost, frameSize, outLeast, pairSize}
+use Rattle.apollo.specs.Size.{entry_most, frame_size, out_least, pair_size}
 use Rattle.apollo.specs.declared.Verdict.{Verdict}
-use Rattle.apollo.specs.Setup.{setupOf}
+use Rattle.apollo.specs.Setup.{setup_of}
 use Rattle.apollo.specs.Frame.{round, height, frames}
 use Rattle.apollo.specs.Log.{slot, filled, chain}
 use Rattle.apollo.specs.Committed.{Begins}
 use Rattle.apollo.specs.Enter.{State}
-use Rattle.apollo.specs.Judging.{verdict, noRefusal}
+use Rattle.apollo.specs.Judging.{verdict, no_refusal}
 use Rattle.apollo.specs.Outcome.{Outcome}
 use Rattle.apollo.specs.BlockRun.{last_of}
-use Rattle.apollo.specs.Branch.{firstUncertified}
-use Rattle.apollo.specs.Fetch.{FetchOutcome, fetchable, fetchCall}
-use Rattle.apollo.specs.Calls.{branchCall, blamesCall}
-use Rattle.apollo.specs.Refusal.{roundsOver, stale, notCertified, early}
-use Rattle.apollo.specs.BenchSheet.{number, newRound}
+use Rattle.apollo.specs.Branch.{first_uncertified}
+use Rattle.apollo.specs.Fetch.{FetchOutcome, fetchable, fetch_call}
+use Rattle.apollo.specs.Calls.{branch_call, blames_call}
+use Rattle.apollo.specs.Refusal.{rounds_over, stale, not_certified, early}
+use Rattle.apollo.specs.BenchSheet.{number, new_round}
 use Rattle.theorem_agreement.specs.Run.{start, run}
 use Rattle.theorem_agreement.specs.Cases.{OfLawful, OfPremises, EachState, TwoStates, Had, PremisesMet, StateLeft}
 
@@ -30,19 +30,19 @@ abbrev pub beyond : (c d : State) (k : ℕ) → List (List ℕ)
 beyond c d k = fetchable d.replica d.log (height (slot c.log k))
 
 -- number and place of an answer
-abbrev pub verdictOf : Outcome → Verdict
-verdictOf o = verdict o.answer.number o.answer.place
+abbrev pub verdict_of : Outcome → Verdict
+verdict_of o = verdict o.answer.number o.answer.place
 
 -- the first round above k that x and the frames after it skip and that is not certified (shown) at c; 0 if none
 abbrev pub lacking : State → (k : ℕ) (x : List ℕ) (ys : List (List ℕ)) → ℕ
-lacking c k x ys = firstUncertified (setupOf c.replica) c.masks k (x ∷ ys)
+lacking c k x ys = first_uncertified (setup_of c.replica) c.masks k (x ∷ ys)
 
 -- how c answers them as a branch on its block of round k: 3, 10, 13 with that round, or taken
 unfoldable pub received : State → (k : ℕ) (x : List ℕ) (ys : List (List ℕ)) → Verdict
 received c k x ys =
-    cond (eqb c.replica.round.0 (c.replica.last_round.0 + 1)) (verdict roundsOver 0)
+    cond (eqb c.replica.round.0 (c.replica.last_round.0 + 1)) (verdict rounds_over 0)
     (cond (ltb (round (last_of x ys)) c.replica.round.0) (verdict stale 0)
-    (cond (eqb (lacking c k x ys) 0) noRefusal (verdict notCertified (lacking c k x ys))))
+    (cond (eqb (lacking c k x ys) 0) no_refusal (verdict not_certified (lacking c k x ys))))
 
 -- c and d hold the same block in round k, not below c's committed round; or k is 0, the genesis of both
 pub record Shared (c d : State) (k : ℕ) : Type 0 where
@@ -58,7 +58,7 @@ beneath q (x ∷ xs) = cond (ltb (round x) q) (x ∷ beneath q xs) []
 -- c answers a branch with v, for any entry and out buffer that pass 4 and 5
 abbrev pub Answers : (c : State) (bytes : List ℕ) → Verdict → Type 0
 Answers c bytes v =
-    (entry out : List ℕ) → length entry ≤ entryMost → outLeast ≤ length out → verdictOf (branchCall c bytes entry out) ≡ v
+    (entry out : List ℕ) → length entry ≤ entry_most → out_least ≤ length out → verdict_of (branch_call c bytes entry out) ≡ v
 
 -- A fetch that goes on from the height of a frame of d's chain copies from those after it: fetches one after another give all, while d
 -- stays. They pass 7, 8 and 9 (`GoodRun`)
@@ -87,10 +87,10 @@ Continues = OfShared (λ c k x ys. Answers c (flatten (x ∷ ys)) (received c k 
 -- that round, handed in by themselves, are taken, and then it is
 abbrev pub NoDeadEnd : (c : State) (k : ℕ) (x : List ℕ) (ys : List (List ℕ)) → Type 0
 NoDeadEnd c k x ys =
-    (q : ℕ) → received c k x ys ≡ verdict notCertified q → (entry out : List ℕ) → length entry ≤ entryMost → outLeast ≤ length out
+    (q : ℕ) → received c k x ys ≡ verdict not_certified q → (entry out : List ℕ) → length entry ≤ entry_most → out_least ≤ length out
     → (q ≤ c.replica.round.0)
-    ⊎ ((number (branchCall c (flatten (beneath q (x ∷ ys))) entry out) ≡ 0)
-    × (q ≤ newRound (branchCall c (flatten (beneath q (x ∷ ys))) entry out)))
+    ⊎ ((number (branch_call c (flatten (beneath q (x ∷ ys))) entry out) ≡ 0)
+    × (q ≤ new_round (branch_call c (flatten (beneath q (x ∷ ys))) entry out)))
 
 abbrev pub Split : Type 0
 Split = OfShared NoDeadEnd
@@ -111,9 +111,9 @@ CatchUp =
 abbrev pub OneFetch : Type 0
 OneFetch =
     OfPremises (λ s calls. TwoStates calls (λ c d. (tray : List ℕ) (o : FetchOutcome)
-    → o ≡ fetchCall d.replica d.log c.replica.committed_height.0 tray
+    → o ≡ fetch_call d.replica d.log c.replica.committed_height.0 tray
     → (x : List ℕ) (ys : List (List ℕ)) → frames o.answer.count o.out ≡ x ∷ ys
-    → Answers c (take (frameSize * o.answer.count) o.out) (received c c.replica.committed_round.0 x ys)))
+    → Answers c (take (frame_size * o.answer.count) o.out) (received c c.replica.committed_round.0 x ys)))
 
 -- Of what was fetched earlier: c is a replica's state now, c₀ one that it had, and d one that any replica had. x and ys are what d had
 -- above the height that c₀ had committed, all of it or a beginning; P speaks of c, of the round that c₀ had committed, and of these frames
@@ -142,26 +142,26 @@ pub record Comes (v : Verdict) : Type 0 where
   pub verdict-is : received back.c back.c.replica.committed_round.0 x ys ≡ v
 
 pub record VerdictsCome : Type 0 where
-  pub over : Comes (verdict roundsOver 0)
+  pub over : Comes (verdict rounds_over 0)
   pub behind : Comes (verdict stale 0)
-  pub taken : Comes noRefusal
+  pub taken : Comes no_refusal
   -- the round named is R: its blames go in at once
-  pub waits : Comes (verdict notCertified 2)
+  pub waits : Comes (verdict not_certified 2)
   pub waits-for : waits.back.c.replica.round.0 ≡ 2
   -- both hold the block of round 1 there, and c has committed nothing: from that block on d has one frame for it
   pub shared : Shared waits.back.c waits.other.c 1
   pub uncommitted : waits.back.c.replica.committed_round.0 ≡ 0
   pub one_more : length (beyond waits.back.c waits.other.c 1) ≡ 1
   -- The split is needed: the round named is above R, its two blames, f + 1 of them, are early, and the frames below it are taken
-  pub far : Comes (verdict notCertified 2)
+  pub far : Comes (verdict not_certified 2)
   pub far_from : far.back.c.replica.round.0 ≡ 1
   pub f-one : far.list.s.f ≡ 1
   pub blames : List ℕ
   pub of-round : round blames ≡ 2
-  pub two : length blames ≡ pairSize
+  pub two : length blames ≡ pair_size
   pub out : List ℕ
-  pub too-early : number (blamesCall far.back.c blames [] out) ≡ early
-  pub below-taken : number (branchCall far.back.c (flatten (beneath 2 (far.x ∷ far.ys))) [] out) ≡ 0
+  pub too-early : number (blames_call far.back.c blames [] out) ≡ early
+  pub below-taken : number (branch_call far.back.c (flatten (beneath 2 (far.x ∷ far.ys))) [] out) ≡ 0
 
 -- Frames are answered 13, the committed round grows by the blames of the round named (document 02, F-2), and the same frames are taken: they
 -- begin at or below the committed height now, so that `CatchUp` does not speak of them any more
@@ -175,7 +175,7 @@ pub record TakenLater : Type 0 where
   pub ys : List (List ℕ)
   pub apart : back.i ≢ other.i
   pub fetched : missing before other.c ≡ x ∷ ys
-  pub waited : received before before.replica.committed_round.0 x ys ≡ verdict notCertified 2
+  pub waited : received before before.replica.committed_round.0 x ys ≡ verdict not_certified 2
   pub more : before.replica.committed_round.0 < back.c.replica.committed_round.0
   pub begins-low : height x ≤ back.c.replica.committed_height.0
-  pub taken : received back.c before.replica.committed_round.0 x ys ≡ noRefusal
+  pub taken : received back.c before.replica.committed_round.0 x ys ≡ no_refusal

@@ -5,7 +5,7 @@ use mathlib.Core.Option.{none, some}
 use mathlib.Core.List.{List, ◌++◌}
 use mathlib.Core.Bool.{Bool, true}
 use Rattle.apollo.specs.declared.Setup.{Setup}
-use Rattle.apollo.specs.Setup.{replicas, leader, validRotation}
+use Rattle.apollo.specs.Setup.{replicas, leader, valid_rotation}
 use Rattle.apollo.specs.Frame.{round, digest}
 use Rattle.apollo.specs.BlockRun.{block}
 use Rattle.apollo.specs.Enter.{State}
@@ -24,7 +24,7 @@ pub shown : Shown
 shown s calls l i c e = ((run-inv s calls start l (start-inv s)).good i c e).marks
 
 -- two good blocks of one round that were seen, where its leader is correct and nothing was forged: both are the one that it emitted
-module _ (s : Setup) (correct : ℕ → Bool) (past : List Event) (v : validRotation s ≡ true) (t : Tidy s past) (k : ℕ)
+module _ (s : Setup) (correct : ℕ → Bool) (past : List Event) (v : valid_rotation s ≡ true) (t : Tidy s past) (k : ℕ)
     (ok : correct k ≡ true) (real : Authentic s correct (record { states = λ i. none; past = past })) where
   formed-by : (x : List ℕ) → block s x ≡ true → Block s x
   formed-by x e = let p = block-parts s x e in formed s x p.0 p.1

@@ -4,12 +4,12 @@ use Rattle.std.specs.Prelude.{ℕ, ◌≤◌, ◌≡◌, ◌⊎◌, List, ◌++�
 use Rattle.std.proofs.Math.Option.{some}
 use Rattle.apollo.specs.declared.Replica.{Replica}
 use Rattle.apollo.specs.declared.Setup.{Setup}
-use Rattle.apollo.specs.Setup.{setupOf, replicas}
+use Rattle.apollo.specs.Setup.{setup_of, replicas}
 use Rattle.apollo.specs.Masks.{bit}
-use Rattle.apollo.specs.Replica.{withEquivocators, validMarks}
+use Rattle.apollo.specs.Replica.{with_equivocators, valid_marks}
 use Rattle.apollo.specs.Enter.{State, state}
 use Rattle.apollo.specs.Outcome.{Outcome}
-use Rattle.apollo.specs.Calls.{readCall, fetchCall}
+use Rattle.apollo.specs.Calls.{read_call, fetch_call}
 use Rattle.theorem_agreement.specs.Run.{Act, equivocation, Call, start, answer, run}
 use Rattle.theorem_agreement.specs.Premises.{Each, Lawful, Unforged}
 use Rattle.theorem_agreement.specs.Cases.{OfLawful, EachState, PremisesMet, StateLeft}
@@ -19,11 +19,11 @@ use Rattle.theorem_agreement.specs.Marks.{Equivocated}
 abbrev pub IsMarked : Replica → (k : ℕ) → Type 0
 IsMarked r k = bit k r.equivocators ≡ true
 
--- "a one at bit n or above" is 2: `validMarks` is just that there is none
+-- "a one at bit n or above" is 2: `valid_marks` is just that there is none
 abbrev pub HighBits : Type 0
 HighBits =
-    (r : Replica) → (validMarks r ≡ true → (k : ℕ) → replicas (setupOf r) ≤ k → bit k r.equivocators ≡ false)
-    × (((k : ℕ) → replicas (setupOf r) ≤ k → bit k r.equivocators ≡ false) → validMarks r ≡ true)
+    (r : Replica) → (valid_marks r ≡ true → (k : ℕ) → replicas (setup_of r) ≤ k → bit k r.equivocators ≡ false)
+    × (((k : ℕ) → replicas (setup_of r) ≤ k → bit k r.equivocators ≡ false) → valid_marks r ≡ true)
 
 -- A mark stands for two blocks: whoever is marked, two good blocks of one round that it led were seen, and their names differ.
 abbrev pub Shown : Type 0
@@ -51,10 +51,10 @@ Kept =
 
 -- a state, and an outcome, with other marks
 abbrev pub remarked : State → (m : ℕ) → State
-remarked c m = state (withEquivocators c.replica m) c.log c.masks
+remarked c m = state (with_equivocators c.replica m) c.log c.masks
 
-unfoldable pub remarkedOutcome : Outcome → (m : ℕ) → Outcome
-remarkedOutcome o m =
+unfoldable pub remarked_outcome : Outcome → (m : ℕ) → Outcome
+remarked_outcome o m =
     record {
       answer =
           record {
@@ -62,7 +62,7 @@ remarkedOutcome o m =
             frames = o.answer.frames;
             leader = o.answer.leader;
             place = o.answer.place;
-            replica = withEquivocators o.answer.replica m;
+            replica = with_equivocators o.answer.replica m;
           };
       log = o.log;
       masks = o.masks;
@@ -71,18 +71,18 @@ remarkedOutcome o m =
 
 -- two outcomes are the same but for the marks
 abbrev pub SameButMarks : Outcome → Outcome → Type 0
-SameButMarks o p = remarkedOutcome o 0 ≡ remarkedOutcome p 0
+SameButMarks o p = remarked_outcome o 0 ≡ remarked_outcome p 0
 
 -- "Marks change no leader, line or commit": with other marks in the record every call does the same but for the marks, whatever the
 -- state. Both have to be valid, since a one at bit n or above is refused with 2.
 pub record Aside (r : Replica) (log : List ℕ) (m : ℕ) : Type 0 where
   pub calls : (masks : List ℕ) (a : Act) → SameButMarks (answer (remarked (state r log masks) m) a) (answer (state r log masks) a)
-  pub reads : (h : ℕ) → readCall (withEquivocators r m) log h ≡ readCall r log h
-  pub fetches : (h : ℕ) (out : List ℕ) → fetchCall (withEquivocators r m) log h out ≡ fetchCall r log h out
+  pub reads : (h : ℕ) → read_call (with_equivocators r m) log h ≡ read_call r log h
+  pub fetches : (h : ℕ) (out : List ℕ) → fetch_call (with_equivocators r m) log h out ≡ fetch_call r log h out
 
 abbrev pub MarksAside : Type 0
 MarksAside =
-    (r : Replica) (log : List ℕ) (m : ℕ) → validMarks r ≡ true → validMarks (withEquivocators r m) ≡ true → Aside r log m
+    (r : Replica) (log : List ℕ) (m : ℕ) → valid_marks r ≡ true → valid_marks (with_equivocators r m) ≡ true → Aside r log m
 
 -- Marks come: a list that meets all premises of demand 3 ends with a card marked in a correct card's record.
 pub record MarksCome : Type 0 where

@@ -9,9 +9,9 @@ use native.Mathlib.Omega.{arith}
 use lib.Dec.{eqb, leb}
 use borrow.Author.Tests.{eqb-true, leb-true, leb-false}
 use Rattle.apollo.specs.declared.Setup.{Setup}
-use Rattle.apollo.specs.Log.{slot, filled, highest, slotsRead}
+use Rattle.apollo.specs.Log.{slot, filled, highest, slots_read}
 use Rattle.apollo.specs.Masks.{certified}
-use Rattle.apollo.specs.Enter.{State, commitLimit}
+use Rattle.apollo.specs.Enter.{State, commit_limit}
 use Rattle.theorem_agreement.specs.Run.{Call, start, run}
 use Rattle.theorem_agreement.specs.Premises.{Each, Lawful}
 use Rattle.theorem_agreement.proofs.Tests.{clash, either, by_cond}
@@ -19,18 +19,18 @@ use Rattle.theorem_agreement.proofs.Slots.{highest-le, highest-max}
 use Rattle.theorem_agreement.proofs.Good.{Good, good-certified, limit-low}
 use Rattle.theorem_agreement.proofs.World.{Inv, start-inv, run-inv}
 use Rattle.theorem_agreement.proofs.Agreement.{near}
-use Rattle.theorem_search_bounds.specs.Bounds.{certifiedRun, ReadsCertified, ReadsFew}
+use Rattle.theorem_search_bounds.specs.Bounds.{certified_run, ReadsCertified, ReadsFew}
 
 -- the slots read stand between the limit and the one found
-read-le : (log : List ℕ) (r : ℕ) → slotsRead log r + highest log r ≤ r + 1
-unfolding slotsRead
+read-le : (log : List ℕ) (r : ℕ) → slots_read log r + highest log r ≤ r + 1
+unfolding slots_read
 read-le log r =
     by_cond (λ k. k + highest log r ≤ r + 1) (eqb (highest log r) 0) (λ e. omega (arith, eqb-true (highest log r) 0 e))
     (λ _. omega (arith, highest-le log r))
 
 -- where every round above q up to r is certified
-certified-run : (s : Setup) (masks : List ℕ) (q r : ℕ) → ((k : ℕ) → q < k → k ≤ r → certified s masks k ≡ true) → r ≤ q + certifiedRun s masks r
-unfolding certifiedRun
+certified-run : (s : Setup) (masks : List ℕ) (q r : ℕ) → ((k : ℕ) → q < k → k ≤ r → certified s masks k ≡ true) → r ≤ q + certified_run s masks r
+unfolding certified_run
 certified-run s masks q zero h = omega arith
 certified-run s masks q (suc r) h =
     by_cond (λ n. suc r ≤ q + n) (certified s masks (suc r))
@@ -43,7 +43,7 @@ certified-run s masks q (suc r) h =
 -- a replica in the world of a lawful list
 module _ (s : Setup) (calls : List (ℕ × Call)) (l : Each (Lawful s) start calls) (i : ℕ) (c : State) (e : (run start calls).states i ≡ some c) where
   abbrev limit : ℕ
-  limit = commitLimit c.replica
+  limit = commit_limit c.replica
 
   invariant : Inv s (run start calls)
   invariant = run-inv s calls start l (start-inv s)
@@ -63,10 +63,10 @@ module _ (s : Setup) (calls : List (ℕ × Call)) (l : Each (Lawful s) start cal
       (either (filled (slot c.log k)))
 
   -- the one found is the committed one, which is near
-  few : c.replica.round.0 ≤ c.replica.committed_round.0 + 2 * s.f + 1 → slotsRead c.log limit ≤ s.f + 1
+  few : c.replica.round.0 ≤ c.replica.committed_round.0 + 2 * s.f + 1 → slots_read c.log limit ≤ s.f + 1
   few n = go (leb limit 0) refl
     where
-      go : (b : Bool) → leb limit 0 ≡ b → slotsRead c.log limit ≤ s.f + 1
+      go : (b : Bool) → leb limit 0 ≡ b → slots_read c.log limit ≤ s.f + 1
       go true z = omega (arith, read-le c.log limit, leb-true limit 0 z)
       go false z =
           omega (arith, read-le c.log limit, low limit (leb-false limit 0 z) (omega arith), (invariant.rests i c e).renewed.committed-is)

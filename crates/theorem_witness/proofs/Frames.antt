@@ -7,7 +7,7 @@ use mathlib.Core.List.{List, [], ◌∷◌, ◌++◌}
 use mathlib.Core.Bool.{true}
 use Rattle.sha256.specs.Fips.{K, padded, schedule, t1, round, rounds, plus, compress, hash, sha256}
 use Rattle.apollo.specs.Bytes.{zeros}
-use Rattle.apollo.specs.Frame.{checked, blockHead, blameHead}
+use Rattle.apollo.specs.Frame.{checked, block_head, blame_head}
 use Rattle.apollo.proofs.Tests.{same_of}
 
 -- the digests of the blocks and of the blames
@@ -55,25 +55,25 @@ e2 =
 
 -- bytes 0–479 of each
 unfoldable pub head1 : List ℕ
-head1 = blockHead 2 1 1 (zeros 32) []
+head1 = block_head 2 1 1 (zeros 32) []
 
 unfoldable pub head3 : List ℕ
-head3 = blockHead 0 3 2 d1 []
+head3 = block_head 0 3 2 d1 []
 
 unfoldable pub head4 : List ℕ
-head4 = blockHead 2 4 3 d3 []
+head4 = block_head 2 4 3 d3 []
 
 unfoldable pub head2 : List ℕ
-head2 = blockHead 1 2 2 d1 []
+head2 = block_head 1 2 2 d1 []
 
 unfoldable pub head2' : List ℕ
-head2' = blockHead 1 2 2 d1 (1 ∷ [])
+head2' = block_head 1 2 2 d1 (1 ∷ [])
 
 unfoldable pub head-m0 : List ℕ
-head-m0 = blameHead 0 2
+head-m0 = blame_head 0 2
 
 unfoldable pub head-m2 : List ℕ
-head-m2 = blameHead 2 2
+head-m2 = blame_head 2 2
 
 -- the frames
 unfoldable pub b1 : List ℕ
@@ -99,58 +99,58 @@ m2 = head-m2 ++ e2
 
 -- the digests are right
 pub name1 : sha256 head1 ≡ d1
-unfolding K padded schedule t1 round rounds plus compress hash sha256 head1 d1 blockHead zeros
+unfolding K padded schedule t1 round rounds plus compress hash sha256 head1 d1 block_head zeros
 name1 = refl
 
 pub name3 : sha256 head3 ≡ d3
-unfolding K padded schedule t1 round rounds plus compress hash sha256 head3 d1 d3 blockHead zeros
+unfolding K padded schedule t1 round rounds plus compress hash sha256 head3 d1 d3 block_head zeros
 name3 = refl
 
 pub name4 : sha256 head4 ≡ d4
-unfolding K padded schedule t1 round rounds plus compress hash sha256 head4 d3 d4 blockHead zeros
+unfolding K padded schedule t1 round rounds plus compress hash sha256 head4 d3 d4 block_head zeros
 name4 = refl
 
 name2 : sha256 head2 ≡ d2
-unfolding K padded schedule t1 round rounds plus compress hash sha256 head2 d1 d2 blockHead zeros
+unfolding K padded schedule t1 round rounds plus compress hash sha256 head2 d1 d2 block_head zeros
 name2 = refl
 
 name2' : sha256 head2' ≡ d2'
-unfolding K padded schedule t1 round rounds plus compress hash sha256 head2' d1 d2' blockHead zeros
+unfolding K padded schedule t1 round rounds plus compress hash sha256 head2' d1 d2' block_head zeros
 name2' = refl
 
 pub name-m0 : sha256 head-m0 ≡ e0
-unfolding K padded schedule t1 round rounds plus compress hash sha256 head-m0 e0 blameHead zeros
+unfolding K padded schedule t1 round rounds plus compress hash sha256 head-m0 e0 blame_head zeros
 name-m0 = refl
 
 pub name-m2 : sha256 head-m2 ≡ e2
-unfolding K padded schedule t1 round rounds plus compress hash sha256 head-m2 e2 blameHead zeros
+unfolding K padded schedule t1 round rounds plus compress hash sha256 head-m2 e2 blame_head zeros
 name-m2 = refl
 
 -- so the checks are
 pub checked1 : checked sha256 b1 ≡ true
-unfolding checked b1 head1 d1 blockHead zeros
+unfolding checked b1 head1 d1 block_head zeros
 checked1 = same_of (sym name1)
 
 pub checked3 : checked sha256 b3 ≡ true
-unfolding checked b3 head3 d1 d3 blockHead zeros
+unfolding checked b3 head3 d1 d3 block_head zeros
 checked3 = same_of (sym name3)
 
 pub checked4 : checked sha256 b4 ≡ true
-unfolding checked b4 head4 d3 d4 blockHead zeros
+unfolding checked b4 head4 d3 d4 block_head zeros
 checked4 = same_of (sym name4)
 
 pub checked2 : checked sha256 b2 ≡ true
-unfolding checked b2 head2 d1 d2 blockHead zeros
+unfolding checked b2 head2 d1 d2 block_head zeros
 checked2 = same_of (sym name2)
 
 pub checked2' : checked sha256 b2' ≡ true
-unfolding checked b2' head2' d1 d2' blockHead zeros
+unfolding checked b2' head2' d1 d2' block_head zeros
 checked2' = same_of (sym name2')
 
 pub checked-m0 : checked sha256 m0 ≡ true
-unfolding checked m0 head-m0 e0 blameHead zeros
+unfolding checked m0 head-m0 e0 blame_head zeros
 checked-m0 = same_of (sym name-m0)
 
 pub checked-m2 : checked sha256 m2 ≡ true
-unfolding checked m2 head-m2 e2 blameHead zeros
+unfolding checked m2 head-m2 e2 blame_head zeros
 checked-m2 = same_of (sym name-m2)

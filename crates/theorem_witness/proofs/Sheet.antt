@@ -3,11 +3,11 @@ use mathlib.Core.Path.{◌≡◌, refl, sym, ap, subst}
 use mathlib.Core.List.{[]}
 use native.Mathlib.Omega.{arith}
 use Rattle.sha256.specs.Fips.{sha256}
-use Rattle.apollo.specs.Frame.{makeBlame}
+use Rattle.apollo.specs.Frame.{make_blame}
 use Rattle.apollo.specs.Enter.{State, hearing}
 use Rattle.apollo.specs.Outcome.{state_of}
-use Rattle.apollo.specs.Calls.{blameCall}
-use Rattle.apollo.specs.BenchSheet.{Callable, Item3, chainRounds}
+use Rattle.apollo.specs.Calls.{blame_call}
+use Rattle.apollo.specs.BenchSheet.{Callable, Item3, chain_rounds}
 use Rattle.apollo.proofs.BenchMade.{hears-at}
 use Rattle.theorem_witness.proofs.Answers.{out, all, skipped-0}
 
@@ -17,7 +17,7 @@ unfolding all skipped-0
 skipped-callable = record { valid = refl; lent = refl; running = omega arith; room = omega arith }
 
 pub blamed-4 : State
-blamed-4 = state_of (blameCall skipped-0 (makeBlame sha256 1 4) [] out)
+blamed-4 = state_of (blame_call skipped-0 (make_blame sha256 1 4) [] out)
 
 blamed-is : blamed-4 ≡ hearing skipped-0 4 1
 unfolding blamed-4 all skipped-0
@@ -25,7 +25,7 @@ blamed-is = ap state_of (hears-at skipped-callable [] (omega arith) 1 4 (omega a
 
 pub item-3-met : Item3 blamed-4 out
 item-3-met =
-    subst (λ s. Item3 s out) (sym blamed-is) (unfold all skipped-0 chainRounds in record {
+    subst (λ s. Item3 s out) (sym blamed-is) (unfold all skipped-0 chain_rounds in record {
       callable = record { valid = refl; lent = refl; running = omega arith; room = omega arith };
       f = refl;
       awaited = refl;

@@ -18,10 +18,10 @@ use Rattle.apollo.specs.Frame.{kind, signer, round, digest}
 use Rattle.apollo.specs.Log.{genesis, chain}
 use Rattle.apollo.specs.Masks.{count}
 use Rattle.apollo.specs.Enter.{State}
-use Rattle.apollo.specs.Committed.{committedList, committed}
+use Rattle.apollo.specs.Committed.{committed_list, committed}
 use Rattle.apollo.specs.Outcome.{state_of}
-use Rattle.apollo.specs.Calls.{blamesCall}
-use Rattle.theorem_agreement.specs.Run.{Act, branch, blame, blames, tick, equivocation, Call, opening, act, Event, handed, emitted, answered, In, Seen, World, isOpen, present, start, uncut, framesIn, emit, answer, run}
+use Rattle.apollo.specs.Calls.{blames_call}
+use Rattle.theorem_agreement.specs.Run.{Act, branch, blame, blames, tick, equivocation, Call, opening, act, Event, handed, emitted, answered, In, Seen, World, is_open, present, start, uncut, frames_in, emit, answer, run}
 use Rattle.theorem_agreement.specs.Premises.{Mostly, Patient, Distinct, Premises}
 use Rattle.theorem_agreement.specs.Cases.{Had}
 use Rattle.theorem_agreement.specs.Claim.{Agreed}
@@ -47,8 +47,8 @@ taking b = branch b [] out
 hearing : List ℕ → Act
 hearing m = blame m [] out
 
-hearingSet : List ℕ → Act
-hearingSet ms = blames ms [] out
+hearing_set : List ℕ → Act
+hearing_set ms = blames ms [] out
 
 ticking : Act
 ticking = tick [] out
@@ -66,7 +66,7 @@ pub first-seven : List (ℕ × Call)
 first-seven = first-six ++ ((1, open_at 1) ∷ [])
 
 pub first-eight : List (ℕ × Call)
-first-eight = first-seven ++ ((2, act (hearingSet (m2 ++ m0))) ∷ [])
+first-eight = first-seven ++ ((2, act (hearing_set (m2 ++ m0))) ∷ [])
 
 last-two : List (ℕ × Call)
 last-two = (2, act (taking b3)) ∷ (0, act (taking b4)) ∷ []
@@ -112,7 +112,7 @@ w10 : World
 w10 = next w9 0 (b2 ∷ b2' ∷ []) marked-0 []
 
 worlds : Unit {0}
-unfolding open_at taking hearing hearingSet ticking accusing first-five first-six first-seven first-eight last-two first-ten calls start given next emit w0 w1 w2 w3 w4 w5 w6 w7 w8 w9 w10
+unfolding open_at taking hearing hearing_set ticking accusing first-five first-six first-seven first-eight last-two first-ten calls start given next emit w0 w1 w2 w3 w4 w5 w6 w7 w8 w9 w10
 worlds = tt
 
 -- replicas 0 and 2 are correct
@@ -127,7 +127,7 @@ by : (x : List ℕ) (i : ℕ) → signer x ≡ i → emitted (signer x) x ≡ em
 by x i e = ap (λ k. emitted k x) e
 
 five : Goes setup correct start first-five w4
-unfolding worlds setup framesIn uncut answer all opened-2 opened-0 first-0 blaming-2 heard-0
+unfolding worlds setup frames_in uncut answer all opened-2 opened-0 first-0 blaming-2 heard-0
 five =
     opens setup correct start 2 1 rotation log0 (zeros 4) [] opened-2 (b1 ∷ []) refl refl open-2 (refl, tt)
     (opens setup correct w0 0 1 rotation log0 (zeros 4) [] opened-0 [] refl refl open-0 tt
@@ -137,7 +137,7 @@ five =
     stay))))
 
 sixth : Goes setup correct w4 ((0, act ticking) ∷ []) w5
-unfolding worlds setup framesIn uncut answer all heard-0 skipped-0
+unfolding worlds setup frames_in uncut answer all heard-0 skipped-0
 sixth = acts setup correct w4 0 ticking heard-0 skipped-0 [] (m0 ∷ b3 ∷ []) refl refl tt tt tick-0 (refl, (refl, tt)) stay
 
 six : Goes setup correct start first-six w5
@@ -152,10 +152,10 @@ seven : Goes setup correct start first-seven w6
 unfolding first-seven
 seven = then setup correct six seventh
 
-eighth : Goes setup correct w6 ((2, act (hearingSet (m2 ++ m0))) ∷ []) w7
-unfolding worlds setup framesIn uncut answer all blaming-2 skipped-0 skipped-2
+eighth : Goes setup correct w6 ((2, act (hearing_set (m2 ++ m0))) ∷ []) w7
+unfolding worlds setup frames_in uncut answer all blaming-2 skipped-0 skipped-2
 eighth =
-    acts setup correct w6 2 (hearingSet (m2 ++ m0)) blaming-2 skipped-2 (m2 ∷ m0 ∷ []) [] refl refl (checked-m2, (checked-m0, tt))
+    acts setup correct w6 2 (hearing_set (m2 ++ m0)) blaming-2 skipped-2 (m2 ∷ m0 ∷ []) [] refl refl (checked-m2, (checked-m0, tt))
     (inr (inr (inr (inr (inr (inr (inr (inl (by m2 2 refl)))))))), (inr (inr (inr (inl (by m0 0 refl)))), tt)) hear-set tt stay
 
 eight : Goes setup correct start first-eight w7
@@ -163,7 +163,7 @@ unfolding first-eight
 eight = then setup correct seven eighth
 
 two : Goes setup correct w7 last-two w9
-unfolding worlds setup framesIn uncut answer all skipped-0 skipped-2
+unfolding worlds setup frames_in uncut answer all skipped-0 skipped-2
 two =
     acts setup correct w7 2 (taking b3) skipped-2 last-2 (b3 ∷ []) (b4 ∷ []) refl refl (checked3, tt)
     (inr (inr (inr (inr (inr (inl (by b3 0 refl)))))), tt) take-3 (refl, tt)
@@ -175,7 +175,7 @@ unfolding first-ten
 ten = then setup correct eight two
 
 eleventh : Goes setup correct w9 ((0, act (accusing (b2 ++ b2'))) ∷ []) w10
-unfolding worlds setup correct framesIn uncut all last-0 marked-0
+unfolding worlds setup correct frames_in uncut all last-0 marked-0
 eleventh =
     marks setup correct w9 0 (b2 ++ b2') last-0 marked-0.replica (b2 ∷ b2' ∷ []) refl refl (checked2, (checked2', tt)) (refl, (refl, tt))
     mark-1 stay
@@ -350,7 +350,7 @@ all-leave =
 
 -- replicas 0 and 2 have both committed the blocks of rounds 1 and 3
 pub commits : (committed marked-0 ≡ b1 ∷ b3 ∷ []) × (committed last-2 ≡ b1 ∷ b3 ∷ [])
-unfolding all last-0 marked-0 last-2 committedList chain
+unfolding all last-0 marked-0 last-2 committed_list chain
 commits = (refl, refl)
 
 -- The first ten, eight, seven, six and five calls meet the premises too.
@@ -382,18 +382,18 @@ five-leave =
     (e 0, e 2)
 
 -- Six are a list in document 01's own words: replicas 0 and 2 are all that open in it, and both are correct; replica 1 is missing.
-all-present : (i : ℕ) → isOpen (w5.states i) ≡ correct i
+all-present : (i : ℕ) → is_open (w5.states i) ≡ correct i
 unfolding worlds correct
 all-present i = go (eqb 0 i) refl (eqb 2 i) refl
   where
-    go : (b : Bool) → eqb 0 i ≡ b → (d : Bool) → eqb 2 i ≡ d → isOpen (w5.states i) ≡ (eqb 0 i || eqb 2 i)
+    go : (b : Bool) → eqb 0 i ≡ b → (d : Bool) → eqb 2 i ≡ d → is_open (w5.states i) ≡ (eqb 0 i || eqb 2 i)
     go true e d f = rw e
     go false e true f = rw (e, f)
     go false e false f = rw (e, f)
 
 present-six : present (run start first-six) ≡ correct
 unfolding present
-present-six = fun_ext (λ i. ap (λ (w : World). isOpen (w.states i)) (goes setup correct six) ∙ all-present i)
+present-six = fun_ext (λ i. ap (λ (w : World). is_open (w.states i)) (goes setup correct six) ∙ all-present i)
 
 pub all-counted : Premises setup (present (run start first-six)) first-six
 all-counted = subst (λ p. Premises setup p first-six) (sym present-six) six-premises
@@ -427,8 +427,8 @@ had-waited = record { first = first-seven; rest = _; whole = refl; left = seven-
 
 -- Document 02, F-2, in the eighth call: replica 2 had committed nothing, and commits block 1 by the set of blames, with which it emits
 -- nothing (`hear-set`).
-pub by-blames : (committed blaming-2 ≡ []) × (committed (state_of (blamesCall blaming-2 (m2 ++ m0) [] out)) ≡ b1 ∷ [])
+pub by-blames : (committed blaming-2 ≡ []) × (committed (state_of (blames_call blaming-2 (m2 ++ m0) [] out)) ≡ b1 ∷ [])
 by-blames = (
-  unfold all blaming-2 committedList chain in refl,
-  ap (λ o. committed (state_of o)) hear-set ∙ (unfold all skipped-2 committedList chain in refl),
+  unfold all blaming-2 committed_list chain in refl,
+  ap (λ o. committed (state_of o)) hear-set ∙ (unfold all skipped-2 committed_list chain in refl),
 )

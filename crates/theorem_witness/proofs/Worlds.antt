@@ -14,10 +14,10 @@ use Rattle.apollo.specs.Frame.{signer, frames, checked}
 use Rattle.apollo.specs.Enter.{State, state}
 use Rattle.apollo.specs.Outcome.{Outcome, taken}
 use Rattle.apollo.specs.Equivocation.{marked}
-use Rattle.apollo.specs.Calls.{openCall, equivocationCall}
+use Rattle.apollo.specs.Calls.{open_call, equivocation_call}
 use Rattle.apollo.proofs.Tests.{cond-true}
 use Rattle.theorem_agreement.proofs.Tests.{clash}
-use Rattle.theorem_agreement.specs.Run.{Act, equivocation, Call, opening, act, Event, handed, emitted, answered, In, World, framesIn, hand, emit, emittedBy, note, after, opened, recordOnly, answer, call_at, step, run}
+use Rattle.theorem_agreement.specs.Run.{Act, equivocation, Call, opening, act, Event, handed, emitted, answered, In, World, frames_in, hand, emit, emitted_by, note, after, opened, record_only, answer, call_at, step, run}
 use Rattle.theorem_agreement.specs.Premises.{Each, Lawful, Unforged}
 use Rattle.theorem_agreement.proofs.Frames.{Whole, frames-flatten}
 use Rattle.theorem_witness.proofs.Answers.{out, made}
@@ -46,19 +46,19 @@ hand-given [] past k = refl
 hand-given (x ∷ xs) past k = ap (hand xs) (cond-true _ _ k.0) ∙ hand-given xs (handed x ∷ past) k.1
 
 after-made : (w : World) (i : ℕ) (c : State) (ys : List (List ℕ)) → Whole ys → after w i (made c ys) ≡ next w i [] c ys
-unfolding after note emittedBy made taken next given
+unfolding after note emitted_by made taken next given
 after-made w i c ys whole =
     ap (λ zs. record { states = λ j. cond (eqb i j) (some c) (w.states j); past = answered 0 ∷ emit i zs w.past })
     (frames-flatten ys _ whole)
 
 opened-so : (w : World) (i id f timeout last : ℕ) (rotation log masks entry : List ℕ) (c : State) (ys : List (List ℕ))
-    → openCall id f timeout last rotation log masks entry out ≡ made c ys → Whole ys
+    → open_call id f timeout last rotation log masks entry out ≡ made c ys → Whole ys
     → step w i (opening id f timeout last rotation log masks entry out) ≡ next w i [] c ys
 unfolding step call_at opened made taken
 opened-so w i id f timeout last rotation log masks entry c ys e whole = ap (opened w i) e ∙ after-made w i c ys whole
 
 -- what a taken outcome leaves is known for every world
-acted : (w : World) (i : ℕ) (a : Act) (c d : State) (o : Outcome) (xs ys : List (List ℕ)) → w.states i ≡ some c → framesIn c a ≡ xs
+acted : (w : World) (i : ℕ) (a : Act) (c d : State) (o : Outcome) (xs ys : List (List ℕ)) → w.states i ≡ some c → frames_in c a ≡ xs
     → Checked xs → answer c a ≡ o → ((u : World) → after u i o ≡ next u i [] d ys) → step w i (act a) ≡ next w i xs d ys
 unfolding step call_at next given
 acted w i a c d o xs ys at hands right e left =
@@ -68,8 +68,8 @@ acted w i a c d o xs ys at hands right e left =
     ∙ left (record { states = w.states; past = given xs w.past })
 
 after-marked : (u : World) (i : ℕ) (c : State) (r : Replica)
-    → after u i (recordOnly c (marked 0 0 r)) ≡ next u i [] (state r c.log c.masks) []
-unfolding after note emittedBy frames emit recordOnly next given
+    → after u i (record_only c (marked 0 0 r)) ≡ next u i [] (state r c.log c.masks) []
+unfolding after note emitted_by frames emit record_only next given
 after-marked u i c r = refl
 
 -- each of some frames was emitted before, by the replica that it names
@@ -120,14 +120,14 @@ module _ (s : Setup) (correct : ℕ → Bool) where
   module _ (w : World) (i : ℕ) {v : World} {es : List (ℕ × Call)} where
     -- an open that is taken comes first
     pub opens : (timeout : ℕ) (rotation log masks entry : List ℕ) (c : State) (ys : List (List ℕ)) → w.states i ≡ none
-        → padded rotation ≡ s.rotation → openCall i s.f timeout s.last_round.0 rotation log masks entry out ≡ made c ys → Whole ys
+        → padded rotation ≡ s.rotation → open_call i s.f timeout s.last_round.0 rotation log masks entry out ≡ made c ys → Whole ys
         → Goes (next w i [] c ys) es v → Goes w ((i, opening i s.f timeout s.last_round.0 rotation log masks entry out) ∷ es) v
     opens timeout rotation log masks entry c ys new turn e whole =
         go {d = opening i s.f timeout s.last_round.0 rotation log masks entry out} (λ _. (new, refl, refl, refl, turn)) tt
         (opened-so w i i s.f timeout s.last_round.0 rotation log masks entry c ys e whole)
 
     -- any other call
-    pub acts : (a : Act) (c d : State) (xs ys : List (List ℕ)) → w.states i ≡ some c → framesIn c a ≡ xs → Checked xs → Earlier w xs
+    pub acts : (a : Act) (c d : State) (xs ys : List (List ℕ)) → w.states i ≡ some c → frames_in c a ≡ xs → Checked xs → Earlier w xs
         → answer c a ≡ made d ys → Whole ys → Goes (next w i xs d ys) es v → Goes w ((i, act a) ∷ es) v
     acts a c d xs ys at hands right old e whole =
         go {d = act a} (c, at) honest (acted w i a c d (made d ys) xs ys at hands right e (λ u. after-made u i d ys whole))
@@ -135,18 +135,18 @@ module _ (s : Setup) (correct : ℕ → Bool) where
         honest : Unforged s correct w i (act a)
         honest b x f p r l k =
             let q : c ≡ b = cc in
-            earlier w xs old x (subst (In x) (ap (λ u. framesIn u a) (sym q) ∙ hands) p)
+            earlier w xs old x (subst (In x) (ap (λ u. frames_in u a) (sym q) ∙ hands) p)
 
     -- two frames of other signers than correct ones, by which a card is marked
     pub marks : (bytes : List ℕ) (c : State) (m : Replica) (xs : List (List ℕ)) → w.states i ≡ some c
-        → framesIn c (equivocation bytes) ≡ xs → Checked xs → Others xs → equivocationCall c.replica bytes ≡ marked 0 0 m
+        → frames_in c (equivocation bytes) ≡ xs → Checked xs → Others xs → equivocation_call c.replica bytes ≡ marked 0 0 m
         → Goes (next w i xs (state m c.log c.masks) []) es v → Goes w ((i, act (equivocation bytes)) ∷ es) v
     marks bytes c m xs at hands right others e =
         go {d = act (equivocation bytes)} (c, at) honest
-        (acted w i (equivocation bytes) c (state m c.log c.masks) (recordOnly c (marked 0 0 m)) xs [] at hands right
-        (unfold answer in ap (recordOnly c) e) (λ u. after-marked u i c m))
+        (acted w i (equivocation bytes) c (state m c.log c.masks) (record_only c (marked 0 0 m)) xs [] at hands right
+        (unfold answer in ap (record_only c) e) (λ u. after-marked u i c m))
       where
         honest : Unforged s correct w i (act (equivocation bytes))
         honest b x f p r l k =
             let q : c ≡ b = cc in
-            absurd (clash k (other xs others x (subst (In x) (ap (λ u. framesIn u (equivocation bytes)) (sym q) ∙ hands) p)))
+            absurd (clash k (other xs others x (subst (In x) (ap (λ u. frames_in u (equivocation bytes)) (sym q) ∙ hands) p)))

@@ -6,18 +6,18 @@ use native.Mathlib.Omega.{arith}
 use lib.ListN.{length, take, drop, replicate, length-take, length-drop}
 use lib.Seq.{take_at}
 use Rattle.sha256.specs.Fips.{sha256}
-use Rattle.apollo.specs.Size.{checkAt, frameSize}
+use Rattle.apollo.specs.Size.{check_at, frame_size}
 use Rattle.apollo.specs.declared.Replica.{Replica}
 use Rattle.apollo.specs.Bytes.{part, zeros}
-use Rattle.apollo.specs.Frame.{round, height, digest, makeBlock}
+use Rattle.apollo.specs.Frame.{round, height, digest, make_block}
 use Rattle.apollo.specs.Log.{genesis, slot, store}
-use Rattle.apollo.specs.Replica.{withRound, with_tip}
-use Rattle.apollo.specs.Enter.{tipped, holding, ownBlock, proposing, state}
+use Rattle.apollo.specs.Replica.{with_round, with_tip}
+use Rattle.apollo.specs.Enter.{tipped, holding, own_block, proposing, state}
 use Rattle.frame_writing.proofs.Make.{length-block}
 use Rattle.tip.specs.Ready.{Ready}
 
 -- the tip and R are set one after the other
-pub tipped-steps : (r : Replica) (t h : ℕ) (a q : Replica) → a ≡ with_tip r t h → q ≡ withRound a (t + 1) → q ≡ tipped r t h
+pub tipped-steps : (r : Replica) (t h : ℕ) (a q : Replica) → a ≡ with_tip r t h → q ≡ with_round a (t + 1) → q ≡ tipped r t h
 unfolding tipped
 tipped-steps r t h a q ea eq = rw ea at eq
 
@@ -26,27 +26,27 @@ pub genesis-digest : (log : List ℕ) (t : ℕ) → t ≡ 0 → replicate 32 0 �
 unfolding slot genesis zeros
 genesis-digest log t e = rw e
 
-pub slot-digest : (log x y : List ℕ) (t : ℕ) → x ≡ slot log t → y ≡ part x checkAt 32 → y ≡ digest (slot log t)
+pub slot-digest : (log x y : List ℕ) (t : ℕ) → x ≡ slot log t → y ≡ part x check_at 32 → y ≡ digest (slot log t)
 slot-digest log x y t ex ey = ey ∙ ap digest ex
 
-pub digest-size : (log : List ℕ) (t : ℕ) → frameSize * t ≤ length log → length (digest (slot log t)) ≡ 32
+pub digest-size : (log : List ℕ) (t : ℕ) → frame_size * t ≤ length log → length (digest (slot log t)) ≡ 32
 unfolding slot genesis zeros
 digest-size log zero h = refl
 digest-size log (suc k) h = simp (length-take, length-drop) (omega arith)
 
 -- a proposal by its steps
 pub proposal : (r : Replica) (log entry out : List ℕ) → Ready r log entry out → (out' x log' : List ℕ) (q : Replica)
-    → out' ≡ makeBlock sha256 r.id r.round.0 (r.tip_height.0 + 1) (digest (slot log r.tip_round.0)) entry ++ drop frameSize out
-    → x ≡ take frameSize out' → log' ≡ store log r.round.0 x → q ≡ tipped r r.round.0 (r.tip_height.0 + 1) → (masks : List ℕ)
-    → (out' ≡ ownBlock sha256 entry (state r log masks) ++ drop frameSize out)
+    → out' ≡ make_block sha256 r.id r.round.0 (r.tip_height.0 + 1) (digest (slot log r.tip_round.0)) entry ++ drop frame_size out
+    → x ≡ take frame_size out' → log' ≡ store log r.round.0 x → q ≡ tipped r r.round.0 (r.tip_height.0 + 1) → (masks : List ℕ)
+    → (out' ≡ own_block sha256 entry (state r log masks) ++ drop frame_size out)
     × (state q log' masks ≡ proposing sha256 entry (state r log masks))
-unfolding ownBlock proposing holding
+unfolding own_block proposing holding
 proposal r log entry out g out' x log' q eo ex el eq masks =
     let p : List ℕ = digest (slot log r.tip_round.0) in
-    let B : List ℕ = makeBlock sha256 r.id r.round.0 (r.tip_height.0 + 1) p entry in
-    let n : length B ≡ frameSize =
+    let B : List ℕ = make_block sha256 r.id r.round.0 (r.tip_height.0 + 1) p entry in
+    let n : length B ≡ frame_size =
     length-block r.id r.round.0 (r.tip_height.0 + 1) p entry (digest-size log r.tip_round.0 (omega arith)) g.entry-most in
-    let b : x ≡ B = ex ∙ ap (take frameSize) eo ∙ take_at B (drop frameSize out) frameSize n in
+    let b : x ≡ B = ex ∙ ap (take frame_size) eo ∙ take_at B (drop frame_size out) frame_size n in
     (eo, rw (eq, el, b))
 
 -- a branch by its steps

@@ -3,12 +3,12 @@
 
 ghost use Rattle.std.specs.Prelude.{◌≡◌, List, ◌++◌, ℕ, ◌+◌, ◌*◌, ◌≤◌, length, drop};
 ghost use Rattle.sha256.specs.Fips.{sha256};
-ghost use Rattle.apollo.specs.Size.{entryMost, frameSize};
+ghost use Rattle.apollo.specs.Size.{entry_most, frame_size};
 ghost use Rattle.apollo.specs.Frame as Frame;
-ghost use Rattle.apollo.specs.Frame.{framesOf, lastFrame};
+ghost use Rattle.apollo.specs.Frame.{frames_of, last_frame};
 ghost use Rattle.apollo.specs.Log as Log;
 ghost use Rattle.apollo.specs.Branch.{grown};
-ghost use Rattle.apollo.specs.Enter.{state, tipped, holding, ownBlock, proposing};
+ghost use Rattle.apollo.specs.Enter.{state, tipped, holding, own_block, proposing};
 ghost use Rattle.slots.specs.Slots.{Slotted};
 ghost use Rattle.tip.specs.Ready.{Ready};
 
@@ -25,11 +25,11 @@ fn tipped(r: Replica, t: u32, h: u32) -> Replica
 
 // The block for R on the tip is written to the front of out.
 fn put_own_block(r: Replica, log: &[u8], height: u32, entry: &[u8], out: &mut [u8])
-    requires { (frameSize * r.tip_round.0 ≤ length log.now) × (frameSize ≤ length out.old) × (length entry.now ≤ entryMost) }
+    requires { (frame_size * r.tip_round.0 ≤ length log.now) × (frame_size ≤ length out.old) × (length entry.now ≤ entry_most) }
     ensures { out.new
-        ≡ Frame.makeBlock sha256 r.id r.round.0 height
+        ≡ Frame.make_block sha256 r.id r.round.0 height
         (Frame.digest (Log.slot log.now r.tip_round.0)) entry.now
-        ++ drop frameSize out.old }
+        ++ drop frame_size out.old }
 {
     let round = r.round.0;
     let tip = r.tip_round.0;
@@ -47,7 +47,7 @@ pub fn propose(r: Replica, log: &mut [u8], entry: &[u8], out: &mut [u8]) -> Repl
     requires { Ready r log.old entry.now out.old × (r.round.0 ≤ r.last_round.0) }
     ensures { (masks : List ℕ)
         → (out.new
-        ≡ ownBlock sha256 entry.now (state r log.old masks) ++ drop frameSize out.old)
+        ≡ own_block sha256 entry.now (state r log.old masks) ++ drop frame_size out.old)
         × (state result log.new masks ≡ proposing sha256 entry.now (state r log.old masks)) }
 {
     let round = r.round.0;
@@ -59,12 +59,12 @@ pub fn propose(r: Replica, log: &mut [u8], entry: &[u8], out: &mut [u8]) -> Repl
 
 // A branch is taken on a round: stored, its last frame the tip.
 pub fn adopt(r: Replica, log: &mut [u8], attach: u32, frames: &[u8]) -> Replica
-    requires { Slotted (length log.old) (framesOf frames.now) × (Frame.round (lastFrame frames.now) ≤ 4096) }
+    requires { Slotted (length log.old) (frames_of frames.now) × (Frame.round (last_frame frames.now) ≤ 4096) }
     ensures { (masks : List ℕ)
         → state result log.new masks
         ≡ holding (state r log.old masks)
-        (grown log.old attach (framesOf frames.now))
-        (Frame.round (lastFrame frames.now)) (Frame.height (lastFrame frames.now)) }
+        (grown log.old attach (frames_of frames.now))
+        (Frame.round (last_frame frames.now)) (Frame.height (last_frame frames.now)) }
 {
     slots::take_branch(log, attach, frames);
     let last = frame::last_frame(frames);

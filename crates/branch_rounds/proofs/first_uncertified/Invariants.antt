@@ -9,7 +9,7 @@ use Rattle.branch_rounds.proofs.first_uncertified.Given as goal
 abbrev pub invariant-walk : goal.invariant-walk
 invariant-walk l = record {
   in_range : l.i ≤ l.n;
-  answer : Branch.firstUncertified l.s l.masks l.lo (rest l.frames l.n l.i) ≡ Branch.firstUncertified l.s l.masks l.a (Frame.frames l.n l.frames);
+  answer : Branch.first_uncertified l.s l.masks l.lo (rest l.frames l.n l.i) ≡ Branch.first_uncertified l.s l.masks l.a (Frame.frames l.n l.frames);
 }
 
 abbrev pub decreases-walk : goal.decreases-walk
@@ -18,7 +18,7 @@ decreases-walk l = l.n - l.i
 abbrev pub invariant-loop-p : goal.invariant-loop-p
 invariant-loop-p l = record {
   p_fits : l.p < 2 ^ 32;
-  answer : onward l.s l.masks l.p l.to (rest l.frames l.n (l.i + 1)) ≡ Branch.firstUncertified l.s l.masks l.a (Frame.frames l.n l.frames);
+  answer : onward l.s l.masks l.p l.to (rest l.frames l.n (l.i + 1)) ≡ Branch.first_uncertified l.s l.masks l.a (Frame.frames l.n l.frames);
 }
 
 abbrev pub decreases-loop-p : goal.decreases-loop-p

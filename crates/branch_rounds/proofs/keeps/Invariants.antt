@@ -2,13 +2,13 @@
 use Rattle.std.proofs.Common.{◌≡◌, ◌≤◌, ◌-◌}
 use Rattle.apollo.specs.Frame as Frame
 use Rattle.frame.proofs.Frames.{rest}
-use Rattle.branch_rounds.specs.Keeps.{keepsAll}
+use Rattle.branch_rounds.specs.Keeps.{keeps_all}
 use Rattle.branch_rounds.proofs.keeps.Given as goal
 
 abbrev pub invariant-loop-i : goal.invariant-loop-i
 invariant-loop-i l = record {
   in_range : l.i ≤ l.n;
-  answer : keepsAll l.log l.lo (rest l.frames l.n l.i) l.committed ≡ keepsAll l.log l.a (Frame.frames l.n l.frames) l.committed;
+  answer : keeps_all l.log l.lo (rest l.frames l.n l.i) l.committed ≡ keeps_all l.log l.a (Frame.frames l.n l.frames) l.committed;
 }
 
 abbrev pub decreases-loop-i : goal.decreases-loop-i

@@ -2,14 +2,14 @@
 use Rattle.std.proofs.Common.{◌≡◌, sym, ap, ◌∙◌, ℕ, Bool, List, length, take, arith}
 use lib.Seq.{length-take-le}
 use Rattle.sha256.specs.Fips.{sha256}
-use Rattle.apollo.specs.Size.{frameSize}
+use Rattle.apollo.specs.Size.{frame_size}
 use Rattle.apollo.specs.Bytes.{same}
 use Rattle.apollo.specs.Frame.{digest, checked}
 use Rattle.frame_checks.proofs.Ahead.{four}
 use Rattle.frame_checks.proofs.check_four.Goals as goal
 
 -- the first 480 bytes of a frame
-head : (x : List ℕ) → length x ≡ frameSize → length (take 480 x) ≡ 480
+head : (x : List ℕ) → length x ≡ frame_size → length (take 480 x) ≡ 480
 head x l = length-take-le 480 x (omega arith)
 
 -- one lane

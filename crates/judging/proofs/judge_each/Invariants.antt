@@ -2,7 +2,7 @@
 use Rattle.std.proofs.Common.{◌≡◌, ◌≤◌, ◌-◌}
 use Rattle.sha256.specs.Fips.{sha256}
 use Rattle.apollo.specs.Frame as Frame
-use Rattle.apollo.specs.Judging.{judgedEach}
+use Rattle.apollo.specs.Judging.{judged_each}
 use Rattle.frame.proofs.Frames.{rest}
 use Rattle.frame_checks.specs.Ahead.{Held}
 use Rattle.frame_forms.specs.Forms.{form_of}
@@ -12,7 +12,7 @@ abbrev pub invariant-loop-i : goal.invariant-loop-i
 invariant-loop-i l = record {
   in_range : l.i ≤ l.n;
   held : Held l.frames l.i l.known;
-  answer : judgedEach sha256 (form_of l.form l.s) l.i (rest l.frames l.n l.i) ≡ judgedEach sha256 (form_of l.form l.s) 0 (Frame.frames l.n l.frames);
+  answer : judged_each sha256 (form_of l.form l.s) l.i (rest l.frames l.n l.i) ≡ judged_each sha256 (form_of l.form l.s) 0 (Frame.frames l.n l.frames);
 }
 
 abbrev pub decreases-loop-i : goal.decreases-loop-i

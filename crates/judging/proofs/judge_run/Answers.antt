@@ -1,7 +1,7 @@
 -- `judging::judge_run` meets its contract. By a law for each way that a frame's judging goes.
 use Rattle.std.proofs.Common.{◌∙◌, sym, arith}
 use Rattle.std.proofs.Math.Seq.{length-take-le}
-use Rattle.apollo.specs.Size.{frameSize}
+use Rattle.apollo.specs.Size.{frame_size}
 use Rattle.frame_checks.proofs.Ahead.{turn, held_next}
 use Rattle.judging.proofs.Run.{run_none, run-first, run-start, run-stop, run_more, run_end}
 use Rattle.judging.proofs.judge_run.Goals as goal
@@ -10,7 +10,7 @@ pub returns-then-n-eq0 : goal.returns-then-n-eq0
 returns-then-n-eq0 c = run_none _ c.args.frames.now _ _ c.if-n-eq0.true
 
 pub slice_bounds-judge_first-end : goal.slice_bounds-judge_first-end
-slice_bounds-judge_first-end c = sym (length-take-le frameSize c.args.frames.now (omega arith))
+slice_bounds-judge_first-end c = sym (length-take-le frame_size c.args.frames.now (omega arith))
 
 pub judge_first-first-requires : goal.judge_first-first-requires
 judge_first-first-requires c = turn c.args.frames.now 0 _ (omega arith) c.renew-known.ensures

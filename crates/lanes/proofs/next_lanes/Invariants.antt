@@ -3,12 +3,12 @@ use Rattle.std.proofs.Common.{◌≡◌, ℕ, ◌+◌, ◌-◌, ◌≤◌, List,
 use Rattle.compression.specs.declared.State.{State}
 use Rattle.compression.specs.Fips.{schedule}
 use Rattle.compression.specs.Window.{Turned}
-use Rattle.lanes.specs.Lane.{lane, stateAt, AllTurned}
+use Rattle.lanes.specs.Lane.{lane, state_at, AllTurned}
 use Rattle.lanes.proofs.Lane.{Upto}
 use Rattle.lanes.proofs.next_lanes.Given as goal
 
 abbrev pub At : (ℕ → State) → (ℕ → List ℕ) → ℕ → List ℕ → List ℕ → ℕ → Type 0
-At h b t v w m = Turned (h m) (schedule (b m) 64) t (stateAt v m) (lane w m)
+At h b t v w m = Turned (h m) (schedule (b m) 64) t (state_at v m) (lane w m)
 
 abbrev pub invariant-loop-l : goal.invariant-loop-l
 invariant-loop-l l =

@@ -1,18 +1,18 @@
 -- `setup_ranges::refusal` meets its contract. By the limits, then the rotation.
-use Rattle.apollo.specs.Setup.{validRotation, validLimits}
-use Rattle.setup_ranges.specs.Number.{lentNumber}
+use Rattle.apollo.specs.Setup.{valid_rotation, valid_limits}
+use Rattle.setup_ranges.specs.Number.{lent_number}
 use Rattle.setup_ranges.proofs.refusal.Goals as goal
 
 pub returns-then-not-valid_limits : goal.returns-then-not-valid_limits
-unfolding lentNumber validLimits
+unfolding lent_number valid_limits
 returns-then-not-valid_limits c = rw (← c.valid_limits.ensures, c.if-not-valid_limits.true)
 
 pub returns-then-not-length-n : goal.returns-then-not-length-n
-unfolding lentNumber validLimits validRotation
+unfolding lent_number valid_limits valid_rotation
 returns-then-not-length-n c =
     rw (← c.valid_limits.ensures, ← c.valid_rotation.ensures, c.if-not-valid_limits.false, c.if-not-length-n.true)
 
 pub returns : goal.returns
-unfolding lentNumber validLimits validRotation
+unfolding lent_number valid_limits valid_rotation
 returns c =
     rw (← c.valid_limits.ensures, ← c.valid_rotation.ensures, c.if-not-valid_limits.false, c.if-not-length-n.false)

@@ -1,7 +1,7 @@
 -- Storing the frames that are left makes the log asked for.
 use Rattle.std.proofs.Common.{◌≡◌, ◌≤◌, ◌-◌, length}
 use Rattle.apollo.specs.Frame as Frame
-use Rattle.apollo.specs.Branch.{storeAll}
+use Rattle.apollo.specs.Branch.{store_all}
 use Rattle.slots.specs.Slots.{Slotted}
 use Rattle.frame.proofs.Frames.{rest}
 use Rattle.slots.proofs.store_each.Given as goal
@@ -10,7 +10,7 @@ abbrev pub invariant-loop-i : goal.invariant-loop-i
 invariant-loop-i l =
     record {
       in_range : l.i ≤ l.n;
-      stored : storeAll l.log (rest l.frames l.n l.i) ≡ storeAll l.fn.log (Frame.frames l.n l.frames);
+      stored : store_all l.log (rest l.frames l.n l.i) ≡ store_all l.fn.log (Frame.frames l.n l.frames);
       slotted : Slotted (length l.fn.log) (rest l.frames l.n l.i);
     }
 

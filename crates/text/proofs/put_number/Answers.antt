@@ -1,12 +1,12 @@
 -- `text::put_number` meets its contract. By the digits that std writes. Assumes nothing.
 use Rattle.std.proofs.Common.{ap, ap₂, ◌∙◌, [], ◌∷◌, take, arith}
 use Rattle.std.proofs.Math.Nat.{sub-zero}
-use Rattle.text.specs.Row.{written, put, putNumber}
+use Rattle.text.specs.Row.{written, put, put_number}
 use Rattle.text.proofs.Decimal.{decimal-same}
 use Rattle.text.proofs.put_number.Goals as goal
 
 pub returns : goal.returns
-unfolding putNumber
+unfolding put_number
 returns c =
     let a = c.args in
     c.put_bytes.ensures.result_after

@@ -1,6 +1,6 @@
 -- `text::put_row` meets its contract. By putting the number at i, and by what is put when no number is left. Assumes nothing.
 use Rattle.std.proofs.Common.{◌+◌, drop, sym, ap, ◌∙◌, arith, rules}
-use Rattle.text.specs.Row.{written, put, putFrom, putRow}
+use Rattle.text.specs.Row.{written, put, put_from, put_row}
 use Rattle.text.proofs.Lines.{from_next, from_end}
 use Rattle.text.proofs.put_row.Goals as goal
 
@@ -12,11 +12,11 @@ loop-i-preserved c =
       search rules,
       l.invariant.2
           ∙ from_next (written l.line l.e) l.i ns (omega arith)
-          ∙ ap (λ w. putFrom w (l.i + 1) (drop (l.i + 1) ns)) (sym c.put_number-e.ensures),
+          ∙ ap (λ w. put_from w (l.i + 1) (drop (l.i + 1) ns)) (sym c.put_number-e.ensures),
     )
 
 pub returns-clause-result_after : goal.returns-clause-result_after
-unfolding putRow
+unfolding put_row
 returns-clause-result_after c =
     let l = c.loop-i in
     let ns = c.args.ns.now in

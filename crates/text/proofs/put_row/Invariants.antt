@@ -1,12 +1,12 @@
 -- The loop of `text::put_row`: putting the numbers from i on gives what putting all at first gives.
 use Rattle.std.proofs.Common.{◌≡◌, ◌≤◌, ◌-◌, length, drop}
-use Rattle.text.specs.Row.{written, putFrom}
+use Rattle.text.specs.Row.{written, put_from}
 use Rattle.text.proofs.put_row.Given as goal
 
 abbrev pub invariant-loop-i : goal.invariant-loop-i
 invariant-loop-i l =
     (l.i ≤ length l.ns) × (length l.line ≡ length l.initial.line)
-    × (putFrom (written l.initial.line l.at) 0 l.ns ≡ putFrom (written l.line l.e) l.i (drop l.i l.ns))
+    × (put_from (written l.initial.line l.at) 0 l.ns ≡ put_from (written l.line l.e) l.i (drop l.i l.ns))
 
 abbrev pub decreases-loop-i : goal.decreases-loop-i
 decreases-loop-i l = length l.ns - l.i
