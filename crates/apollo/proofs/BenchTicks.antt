@@ -11,8 +11,8 @@ use borrow.Author.Tests.{eq-eqb, ne_eqb, leb-true}
 use Rattle.sha256.specs.Fips.{sha256}
 use Rattle.apollo.specs.Size.{frame_size}
 use Rattle.apollo.specs.declared.Ticks.{Ticks}
-use Rattle.apollo.specs.Setup.{setup_of, setup}
-use Rattle.apollo.specs.Frame.{round, digest, sealed, blame_head, make_blame}
+use Rattle.apollo.specs.Setup.{setup_of}
+use Rattle.apollo.specs.Frame.{digest, sealed, blame_head, make_blame}
 use Rattle.apollo.specs.Replica.{leads, with_round, with_timer}
 use Rattle.apollo.specs.Log.{slot, filled, store}
 use Rattle.apollo.specs.Masks.{add_blame, certified}

@@ -14,7 +14,7 @@ use Rattle.apollo.specs.Size.{check_at, frame_size}
 use Rattle.apollo.specs.Bytes.{part, number2, number4, bytes2, bytes4, zeros, same, within, blank}
 use Rattle.apollo.specs.declared.Setup.{Setup}
 use Rattle.apollo.specs.Setup.{replicas, leader}
-use Rattle.apollo.specs.Frame.{kind, signer, entry_length, round, height, parent, digest, block_form, blame_form, block_head, blame_head, checked, sealed, make_block, make_blame}
+use Rattle.apollo.specs.Frame.{kind, signer, entry_length, round, height, parent, block_form, blame_form, block_head, blame_head, checked, sealed, make_block, make_blame}
 use Rattle.apollo.specs.BlockRun.{block}
 use Rattle.apollo.proofs.Tests.{both, same_of, within_of}
 use Rattle.apollo.proofs.Slots.{length-zeros}

@@ -29,9 +29,9 @@ bit-none zero = refl
 bit-none (suc i) = bit-none i
 
 -- one frame is of its own round, and no signer is twice
-one_set : (x : List ℕ) → one_set (round x) 0 (x ∷ []) ≡ true
+one-set : (x : List ℕ) → one_set (round x) 0 (x ∷ []) ≡ true
 unfolding one_set
-one_set x =
+one-set x =
     both (eqb (round x) (round x) && not (bit (signer x) 0)) true
     (both (eqb (round x) (round x)) (not (bit (signer x) 0)) (eq-eqb (round x) (round x) refl) (ap not (bit-none (signer x)))) refl
 
@@ -58,7 +58,7 @@ module _ (s : State) (x entry out : List ℕ) where
       let b : Bool = blame_form (setup_of s.replica) x in
       let k : ℕ = cond (not a) 7 (cond (not b) 8 0) in
       judged-one s out a b _ (cond (eqb k 0) no_refusal (verdict k 0)) k refl refl
-      ∙ rw (one_set x, fresh-one s out (bit (signer x) (mask s.masks (round x))), eq-eqb (length x) frame_size l)
+      ∙ rw (one-set x, fresh-one s out (bit (signer x) (mask s.masks (round x))), eq-eqb (length x) frame_size l)
 
   pub blame-one : blame_call s x entry out ≡ guarded s entry out (one_blame s x entry out)
   unfolding handing

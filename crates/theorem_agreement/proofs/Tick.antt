@@ -8,7 +8,7 @@ use lib.ListN.{length}
 use lib.Dec.{eqb}
 use Rattle.sha256.specs.Fips.{sha256}
 use Rattle.apollo.specs.declared.Setup.{Setup}
-use Rattle.apollo.specs.Frame.{kind, signer, round, make_blame}
+use Rattle.apollo.specs.Frame.{kind, signer, make_blame}
 use Rattle.apollo.specs.Enter.{State, waiting, hearing, settle}
 use Rattle.apollo.specs.Tick.{blaming, ticked, tick_with}
 use Rattle.theorem_agreement.specs.Run.{Event, emitted, In, emit}
