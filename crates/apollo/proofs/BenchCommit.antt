@@ -31,21 +31,21 @@ four : Bool → Bool → Bool → Bool → List ℕ
 unfolding three
 four a b c d = three a b c ++ cond d (4 ∷ []) []
 
-one-two : (a b : Bool) → two a b ≡ 1 ∷ 2 ∷ [] → ◌≡◌ {A = ℕ} (cond a 1 0) 1
+one_two : (a b : Bool) → two a b ≡ 1 ∷ 2 ∷ [] → ◌≡◌ {A = ℕ} (cond a 1 0) 1
 unfolding two
-one-two true b e = refl
-one-two false true e = cc
-one-two false false e = cc
+one_two true b e = refl
+one_two false true e = cc
+one_two false false e = cc
 
-one-three : (a b c : Bool) → three a b c ≡ 1 ∷ 3 ∷ [] → ◌≡◌ {A = ℕ} (cond b 2 (cond a 1 0)) 1
+one_three : (a b c : Bool) → three a b c ≡ 1 ∷ 3 ∷ [] → ◌≡◌ {A = ℕ} (cond b 2 (cond a 1 0)) 1
 unfolding three
-one-three true true true e = cc
-one-three true true false e = cc
-one-three true false c e = refl
-one-three false true true e = cc
-one-three false true false e = cc
-one-three false false true e = cc
-one-three false false false e = cc
+one_three true true true e = cc
+one_three true true false e = cc
+one_three true false c e = refl
+one_three false true true e = cc
+one_three false true false e = cc
+one_three false false true e = cc
+one_three false false false e = cc
 
 all_three : (a b c : Bool) → three a b c ≡ 1 ∷ 2 ∷ 3 ∷ [] → (a ≡ true) × (b ≡ true)
 unfolding three
@@ -57,26 +57,26 @@ all_three false true false e = (cc, refl)
 all_three false false true e = (cc, cc)
 all_three false false false e = (cc, cc)
 
-three-last : (a b c d : Bool) → four a b c d ≡ 1 ∷ 3 ∷ [] → (c ≡ true) × (d ≡ false)
+three_last : (a b c d : Bool) → four a b c d ≡ 1 ∷ 3 ∷ [] → (c ≡ true) × (d ≡ false)
 unfolding four
-three-last a b true false e = (refl, refl)
-three-last true true true true e = (refl, cc)
-three-last true false true true e = (refl, cc)
-three-last false true true true e = (refl, cc)
-three-last false false true true e = (refl, cc)
-three-last true true false true e = (cc, cc)
-three-last true false false true e = (cc, cc)
-three-last false true false true e = (cc, cc)
-three-last false false false true e = (cc, cc)
-three-last true true false false e = (cc, refl)
-three-last true false false false e = (cc, refl)
-three-last false true false false e = (cc, refl)
-three-last false false false false e = (cc, refl)
+three_last a b true false e = (refl, refl)
+three_last true true true true e = (refl, cc)
+three_last true false true true e = (refl, cc)
+three_last false true true true e = (refl, cc)
+three_last false false true true e = (refl, cc)
+three_last true true false true e = (cc, cc)
+three_last true false false true e = (cc, cc)
+three_last false true false true e = (cc, cc)
+three_last false false false true e = (cc, cc)
+three_last true true false false e = (cc, refl)
+three_last true false false false e = (cc, refl)
+three_last false true false false e = (cc, refl)
+three_last false false false false e = (cc, refl)
 
 -- of a chain 1, 3 below R = 5 slot 3 is filled and slot 4 is not
-pub third-filled : (log : List ℕ) → chain_rounds log 4 ≡ 1 ∷ 3 ∷ [] → (filled (slot log 3) ≡ true) × (filled (slot log 4) ≡ false)
+pub third_filled : (log : List ℕ) → chain_rounds log 4 ≡ 1 ∷ 3 ∷ [] → (filled (slot log 3) ≡ true) × (filled (slot log 4) ≡ false)
 unfolding chain_rounds four
-third-filled log e = three-last (filled (slot log 1)) (filled (slot log 2)) (filled (slot log 3)) (filled (slot log 4)) e
+third_filled log e = three_last (filled (slot log 1)) (filled (slot log 2)) (filled (slot log 3)) (filled (slot log 4)) e
 
 -- of a chain 1, 2, 3 the slots 1 and 2 are filled
 pub slots_filled : (log : List ℕ) → chain_rounds log 3 ≡ 1 ∷ 2 ∷ 3 ∷ []
@@ -84,50 +84,50 @@ pub slots_filled : (log : List ℕ) → chain_rounds log 3 ≡ 1 ∷ 2 ∷ 3 ∷
 unfolding chain_rounds three
 slots_filled log e = all_three (filled (slot log 1)) (filled (slot log 2)) (filled (slot log 3)) e
 
-pub chain-1-2 : (r : Replica) (log : List ℕ) → r.f ≡ 1 → r.round.0 ≡ 3 → chain_rounds log 2 ≡ 1 ∷ 2 ∷ []
+pub chain_1_2 : (r : Replica) (log : List ℕ) → r.f ≡ 1 → r.round.0 ≡ 3 → chain_rounds log 2 ≡ 1 ∷ 2 ∷ []
     → committed_round r log ≡ 1
 unfolding chain_rounds commit commit_limit highest two
-chain-1-2 r log f t e = simp (t, f) (one-two (filled (slot log 1)) (filled (slot log 2)) e)
+chain_1_2 r log f t e = simp (t, f) (one_two (filled (slot log 1)) (filled (slot log 2)) e)
 
-pub chain-1 : (r : Replica) (log : List ℕ) → r.f ≡ 1 → r.round.0 ≡ 2
+pub chain_1 : (r : Replica) (log : List ℕ) → r.f ≡ 1 → r.round.0 ≡ 2
     → (committed_round r log ≡ 0) × (committed_height r log ≡ 0)
 unfolding commit commit_limit highest slot genesis number4 zeros
-chain-1 r log f t = (simp (t, f), simp (t, f))
+chain_1 r log f t = (simp (t, f), simp (t, f))
 
-pub chain-1-3 : (r : Replica) (log : List ℕ) → r.f ≡ 1 → r.round.0 ≡ 4 → chain_rounds log 3 ≡ 1 ∷ 3 ∷ []
+pub chain_1_3 : (r : Replica) (log : List ℕ) → r.f ≡ 1 → r.round.0 ≡ 4 → chain_rounds log 3 ≡ 1 ∷ 3 ∷ []
     → committed_round r log ≡ 1
 unfolding chain_rounds commit commit_limit highest three
-chain-1-3 r log f t e = simp (t, f) (one-three (filled (slot log 1)) (filled (slot log 2)) (filled (slot log 3)) e)
+chain_1_3 r log f t e = simp (t, f) (one_three (filled (slot log 1)) (filled (slot log 2)) (filled (slot log 3)) e)
 
 -- with R = 5, and with R = 6 and round 4 skipped
-pub commits-3 : (r : Replica) (log : List ℕ) → r.f ≡ 1 → r.round.0 ≡ 5 → filled (slot log 3) ≡ true → committed_round r log ≡ 3
+pub commits_3 : (r : Replica) (log : List ℕ) → r.f ≡ 1 → r.round.0 ≡ 5 → filled (slot log 3) ≡ true → committed_round r log ≡ 3
 unfolding commit commit_limit highest
-commits-3 r log f t e = simp (t, f, e)
+commits_3 r log f t e = simp (t, f, e)
 
-pub commits-3-led : (r : Replica) (log : List ℕ) → r.f ≡ 1 → r.round.0 ≡ 6 → filled (slot log 3) ≡ true
+pub commits_3_led : (r : Replica) (log : List ℕ) → r.f ≡ 1 → r.round.0 ≡ 6 → filled (slot log 3) ≡ true
     → filled (slot log 4) ≡ false → committed_round r log ≡ 3
 unfolding commit commit_limit highest
-commits-3-led r log f t e g = simp (t, f, e, g)
+commits_3_led r log f t e g = simp (t, f, e, g)
 
-pub chain-1-2-3 : (r : Replica) (log : List ℕ) → r.f ≡ 2 → r.round.0 ≡ 4 → chain_rounds log 3 ≡ 1 ∷ 2 ∷ 3 ∷ []
+pub chain_1_2_3 : (r : Replica) (log : List ℕ) → r.f ≡ 2 → r.round.0 ≡ 4 → chain_rounds log 3 ≡ 1 ∷ 2 ∷ 3 ∷ []
     → committed_round r log ≡ 1
 unfolding commit commit_limit highest
-chain-1-2-3 r log f t e = simp (t, f, (slots_filled log e).0)
+chain_1_2_3 r log f t e = simp (t, f, (slots_filled log e).0)
 
 -- item 10: the same with f = 1
-pub committed-2 : (r : Replica) (log : List ℕ) → r.f ≡ 1 → r.round.0 ≡ 4 → chain_rounds log 3 ≡ 1 ∷ 2 ∷ 3 ∷ []
+pub committed_2 : (r : Replica) (log : List ℕ) → r.f ≡ 1 → r.round.0 ≡ 4 → chain_rounds log 3 ≡ 1 ∷ 2 ∷ 3 ∷ []
     → committed_round r log ≡ 2
 unfolding commit commit_limit highest
-committed-2 r log f t e = simp (t, f, (slots_filled log e).1)
+committed_2 r log f t e = simp (t, f, (slots_filled log e).1)
 
-pub mask-3 : (s : Setup) (masks : List ℕ) (r : ℕ) → s.f ≡ 1 → mask masks r ≡ 3 → certified s masks r ≡ true
+pub mask_3 : (s : Setup) (masks : List ℕ) (r : ℕ) → s.f ≡ 1 → mask masks r ≡ 3 → certified s masks r ≡ true
 unfolding certified count bit
-mask-3 s masks r e m = simp (e, m)
+mask_3 s masks r e m = simp (e, m)
 
-pub mask-1 : (s : Setup) (masks : List ℕ) (r : ℕ) → s.f ≡ 1 → mask masks r ≡ 1 → certified s masks r ≡ false
+pub mask_1 : (s : Setup) (masks : List ℕ) (r : ℕ) → s.f ≡ 1 → mask masks r ≡ 1 → certified s masks r ≡ false
 unfolding certified count bit
-mask-1 s masks r e m = simp (e, m)
+mask_1 s masks r e m = simp (e, m)
 
-pub mask-21 : (s : Setup) (masks : List ℕ) (r : ℕ) → s.f ≡ 2 → mask masks r ≡ 21 → certified s masks r ≡ true
+pub mask_21 : (s : Setup) (masks : List ℕ) (r : ℕ) → s.f ≡ 2 → mask masks r ≡ 21 → certified s masks r ≡ true
 unfolding certified count bit
-mask-21 s masks r e m = simp (e, m)
+mask_21 s masks r e m = simp (e, m)

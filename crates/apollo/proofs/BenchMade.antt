@@ -27,35 +27,35 @@ use Rattle.apollo.specs.Branch.{first_uncertified, store_all, grown, adopting, p
 use Rattle.apollo.specs.Single.{one_blame}
 use Rattle.apollo.specs.Calls.{open_call, branch_call, blame_call}
 use Rattle.apollo.specs.BenchSheet.{turn, Openable, Callable}
-use Rattle.apollo.proofs.Single.{blame-one}
-use Rattle.apollo.proofs.Tests.{both, cond-true, cond-false, same_of}
-use Rattle.apollo.proofs.Rotation.{turn-rotation, padded-valid, turn-seat}
-use Rattle.apollo.proofs.Validity.{Valid, setup-none, valid, valid-of}
-use Rattle.apollo.proofs.Slots.{length-zeros, length-store, store_same, store_other, length-clear, clear-low, take-slots}
-use Rattle.apollo.proofs.Judging.{passes, fresh-branch, attaches}
-use Rattle.apollo.proofs.BlockRun.{blocks-one}
-use Rattle.apollo.proofs.Made.{block-length, block_made, block-round, block-height, block-kind, block-parent, blame-length, blame-round, blame-form, blame-checked}
-use Rattle.apollo.proofs.BenchOpen.{open-fits}
-use Rattle.apollo.proofs.BenchBranches.{adopts, skips-none, grown-low}
+use Rattle.apollo.proofs.Single.{blame_one}
+use Rattle.apollo.proofs.Tests.{both, cond_true, cond_false, same_of}
+use Rattle.apollo.proofs.Rotation.{turn_rotation, padded_valid, turn_seat}
+use Rattle.apollo.proofs.Validity.{Valid, setup_none, valid, valid_of}
+use Rattle.apollo.proofs.Slots.{length_zeros, length_store, store_same, store_other, length_clear, clear_low, take_slots}
+use Rattle.apollo.proofs.Judging.{passes, fresh_branch, attaches}
+use Rattle.apollo.proofs.BlockRun.{blocks_one}
+use Rattle.apollo.proofs.Made.{block_length, block_made, block_round, block_height, block_kind, block_parent, blame_length, blame_round, blame_form_lem, blame_checked}
+use Rattle.apollo.proofs.BenchOpen.{open_fits}
+use Rattle.apollo.proofs.BenchBranches.{adopts, skips_none, grown_low}
 
 -- a blame of replica j for a round up to R, its bit not yet set, on any state
-pub hears-at : {s : State} {out : List ℕ} → Callable s out → (entry : List ℕ) → length entry ≤ 400 → (j r : ℕ) → j < replicas (setup_of s.replica)
+pub hears_at : {s : State} {out : List ℕ} → Callable s out → (entry : List ℕ) → length entry ≤ 400 → (j r : ℕ) → j < replicas (setup_of s.replica)
     → 1 ≤ r → r ≤ s.replica.round.0 → bit j (mask s.masks r) ≡ false
     → blame_call s (make_blame sha256 j r) entry out ≡ taken (settle sha256 entry (hearing s r j) r) out
 unfolding one_blame
-hears-at {s} {out} c entry l j r signs one low fresh-bit =
+hears_at {s} {out} c entry l j r signs one low fresh_bit =
     let v : Valid s.replica s.log = valid s.replica s.log c.valid in
     let y : List ℕ = make_blame sha256 j r in
     let high : r ≤ s.replica.last_round.0 = omega (arith, c.running) in
-    let short : r < 65536 = omega (arith, v.setup.last-most) in
-    let at : round y ≡ r = ap (λ (z : List ℕ). round z) (sym (append-nil y)) ∙ blame-round j r [] short in
+    let short : r < 65536 = omega (arith, v.setup.last_most) in
+    let at : round y ≡ r = ap (λ (z : List ℕ). round z) (sym (append-nil y)) ∙ blame_round j r [] short in
     let by : signer y ≡ j = unfold make_blame sealed blame_head in refl in
-    blame-one s y entry out ∙ passes c entry l _
-    ∙ cond-false _ _ (ap not (eq-eqb (length y) frame_size (blame-length j r)))
-    ∙ cond-false _ _ (ap not (blame-checked j r))
-    ∙ cond-false _ _ (ap not (blame-form (setup_of s.replica) j r signs one high short))
-    ∙ cond-false _ _ (le-ltb s.replica.round.0 (round y) (omega arith))
-    ∙ cond-false _ _ (ap₂ (λ k q. bit k (mask s.masks q)) by at ∙ fresh-bit)
+    blame_one s y entry out ∙ passes c entry l _
+    ∙ cond_false _ _ (ap not (eq-eqb (length y) frame_size (blame_length j r)))
+    ∙ cond_false _ _ (ap not (blame_checked j r))
+    ∙ cond_false _ _ (ap not (blame_form_lem (setup_of s.replica) j r signs one high short))
+    ∙ cond_false _ _ (le-ltb s.replica.round.0 (round y) (omega arith))
+    ∙ cond_false _ _ (ap₂ (λ k q. bit k (mask s.masks q)) by at ∙ fresh_bit)
     ∙ ap (λ m. taken m out) (ap₂ (λ q k. settle sha256 entry (hearing s q k) q) at by)
 
 -- an empty block of replica i for round r at height h on frame p, for f = 1 and T = 6
@@ -76,16 +76,16 @@ unfolding child linked
 children i r h p whole led one last low high next =
     let wide : length (digest p) ≡ 32 = simp (length-take, length-drop, whole) refl in
     let x : List ℕ = make_block sha256 i r h (digest p) [] in
-    let e : height x ≡ h = block-height i r h (digest p) [] wide (omega arith) (omega arith) in
+    let e : height x ≡ h = block_height i r h (digest p) [] wide (omega arith) (omega arith) in
     record {
-      whole = block-length i r h (digest p) [] wide (omega arith);
+      whole = block_length i r h (digest p) [] wide (omega arith);
       good = block_made i r h (digest p) [] wide (omega arith) (setup 1 6 (turn 1)) led one last (omega arith) low high;
-      at = block-round i r h (digest p) [] wide (omega arith) (omega arith);
+      at = block_round i r h (digest p) [] wide (omega arith) (omega arith);
       high = e;
-      full = eq-eqb (kind x) 1 (block-kind i r h (digest p) [] wide (omega arith));
+      full = eq-eqb (kind x) 1 (block_kind i r h (digest p) [] wide (omega arith));
       on =
           both (same (digest p) (parent x)) (eqb (height p + 1) (height x))
-          (same_of (sym (block-parent i r h (digest p) [] wide (omega arith)))) (eq-eqb (height p + 1) (height x) (next ∙ sym e));
+          (same_of (sym (block_parent i r h (digest p) [] wide (omega arith)))) (eq-eqb (height p + 1) (height x) (next ∙ sym e));
     }
 
 -- a frame at another height is no parent
@@ -99,13 +99,13 @@ unrelated p x ne =
     go true false = refl
     go false b = refl
 
-genesis-length : length genesis ≡ frame_size
+genesis_length : length genesis ≡ frame_size
 unfolding genesis
-genesis-length = length-zeros frame_size
+genesis_length = length_zeros frame_size
 
-genesis-height : height genesis ≡ 0
+genesis_height : height genesis ≡ 0
 unfolding genesis number4 zeros
-genesis-height = refl
+genesis_height = refl
 
 -- block k of the chain, by the leader of round k at height k on the one before; block 0 is the genesis
 unfoldable pub blk : ℕ → List ℕ
@@ -116,25 +116,25 @@ blk (suc k) = child (k % 3) (k + 1) (k + 1) (blk k)
 abbrev pub Sized : ℕ → Type 0
 Sized k = (length (blk k) ≡ frame_size) × (height (blk k) ≡ k)
 
-linked-from : (k : ℕ) → k < 6 → Sized k → Child (k + 1) (k + 1) (blk k) (blk (suc k))
+linked_from : (k : ℕ) → k < 6 → Sized k → Child (k + 1) (k + 1) (blk k) (blk (suc k))
 unfolding blk leader
-linked-from k low s =
+linked_from k low s =
     let e : height (blk k) ≡ k = s.1 in
     let e' : k + 1 - 1 ≡ k = omega arith in
     let led : k % 3 ≡ get_or (padded (turn 1)) ((k + 1 - 1) % 3) 0 =
-    sym (ap (λ n. get_or (padded (turn 1)) (n % 3) 0) e' ∙ turn-seat 3 (k % 3) (omega arith) (omega arith)) in
+    sym (ap (λ n. get_or (padded (turn 1)) (n % 3) 0) e' ∙ turn_seat 3 (k % 3) (omega arith) (omega arith)) in
     children (k % 3) (k + 1) (k + 1) (blk k) s.0 led (omega arith) (omega arith) (omega arith) (omega arith) (omega arith)
 
 pub sized : (k : ℕ) → k ≤ 6 → Sized k
-sized zero l = (unfold blk in genesis-length, unfold blk in genesis-height)
+sized zero l = (unfold blk in genesis_length, unfold blk in genesis_height)
 sized (suc k) l =
-    let c : Child (k + 1) (k + 1) (blk k) (blk (suc k)) = linked-from k (omega arith) (sized k (omega arith)) in
+    let c : Child (k + 1) (k + 1) (blk k) (blk (suc k)) = linked_from k (omega arith) (sized k (omega arith)) in
     let h : height (blk (suc k)) ≡ k + 1 = c.high in
     (c.whole, omega arith)
 
 -- block n + 1
 pub next : (n : ℕ) → n < 6 → Child (n + 1) (n + 1) (blk n) (blk (n + 1))
-next n l = subst (λ m. Child (n + 1) (n + 1) (blk n) (blk m)) (sym (add-one n)) (linked-from n l (sized n (omega arith)))
+next n l = subst (λ m. Child (n + 1) (n + 1) (blk n) (blk m)) (sym (add-one n)) (linked_from n l (sized n (omega arith)))
 
 -- a log with T = 6 whose slots 1 to n hold these blocks
 pub record Holds (log : List ℕ) (n : ℕ) : Type 0 where
@@ -173,22 +173,22 @@ unfoldable pub out : List ℕ
 out = zeros 1024
 
 module _ (log : List ℕ) (n : ℕ) (holds : Holds log n) (most : n ≤ 6) where
-  pub slot-full : (k : ℕ) → 1 ≤ k → k ≤ n → filled (slot log k) ≡ true
-  slot-full zero one l = absurd (omega arith)
-  slot-full (suc k) one l =
-      ap filled (holds.slots (suc k) l) ∙ (linked-from k (omega arith) (sized k (omega arith))).full
+  pub slot_full : (k : ℕ) → 1 ≤ k → k ≤ n → filled (slot log k) ≡ true
+  slot_full zero one l = absurd (omega arith)
+  slot_full (suc k) one l =
+      ap filled (holds.slots (suc k) l) ∙ (linked_from k (omega arith) (sized k (omega arith))).full
 
-  highest-is : (k : ℕ) → k ≤ n → highest log k ≡ k
+  highest_is : (k : ℕ) → k ≤ n → highest log k ≡ k
   unfolding highest
-  highest-is zero l = refl
-  highest-is (suc k) l = cond-true _ _ (slot-full (suc k) (omega arith) l)
+  highest_is zero l = refl
+  highest_is (suc k) l = cond_true _ _ (slot_full (suc k) (omega arith) l)
 
   -- committed as commit sets it, whatever was committed
   pub renewed : (id k : ℕ) → commit (up_to id n k) log ≡ record_of id n
   unfolding commit commit_limit
   renewed id k =
       let e : n + 1 - 1 - 1 ≡ n - 1 = omega arith in
-      let a : highest log (n + 1 - 1 - 1) ≡ n - 1 = ap (highest log) e ∙ highest-is (n - 1) (omega arith) in
+      let a : highest log (n + 1 - 1 - 1) ≡ n - 1 = ap (highest log) e ∙ highest_is (n - 1) (omega arith) in
       let b : height (slot log (highest log (n + 1 - 1 - 1))) ≡ n - 1 =
       ap (λ q. height (slot log q)) a ∙ ap (λ (x : List ℕ). height x) (holds.slots (n - 1) (omega arith))
       ∙ (sized (n - 1) (omega arith)).1 in
@@ -205,40 +205,40 @@ module _ (log : List ℕ) (n : ℕ) (holds : Holds log n) (most : n ≤ 6) where
   callable id masks i l m led =
       record {
         valid =
-            valid-of (record_of id n) log (record {
+            valid_of (record_of id n) log (record {
               setup =
                   record {
                     id_below = i;
-                    f-least = omega arith;
-                    f-most = omega arith;
-                    timeout-least = omega arith;
-                    timeout-most = omega arith;
-                    last-least = omega arith;
-                    last-most = omega arith;
+                    f_least = omega arith;
+                    f_most = omega arith;
+                    timeout_least = omega arith;
+                    timeout_most = omega arith;
+                    last_least = omega arith;
+                    last_most = omega arith;
                     size = holds.size;
                   };
-              rotation = padded-valid (setup 1 6 (turn 1)) (turn 1) (turn-rotation 3) (omega arith) refl;
-              round-least = omega arith;
-              round-most = omega arith;
-              timer-most = omega arith;
-              tip-below = omega arith;
-              tip-height = omega arith;
-              committed-most = omega arith;
-              committed-height-most = omega arith;
-              committed-height = omega arith;
+              rotation = padded_valid (setup 1 6 (turn 1)) (turn 1) (turn_rotation 3) (omega arith) refl;
+              round_least = omega arith;
+              round_most = omega arith;
+              timer_most = omega arith;
+              tip_below = omega arith;
+              tip_height = omega arith;
+              committed_most = omega arith;
+              committed_height_most = omega arith;
+              committed_height_lem = omega arith;
               marks = omega arith;
               waits = led;
             });
         lent = eq-eqb (length masks) 6 m;
         running = omega arith;
-        room = omega (arith, length-zeros 1024);
+        room = omega (arith, length_zeros 1024);
       }
 
 -- what entering leaves, by whether the replica leads
-entered-waits : (id n k : ℕ) (log masks : List ℕ) → n ≤ 6 → Holds log n → leads (record_of id n) ≡ false
+entered_waits : (id n k : ℕ) (log masks : List ℕ) → n ≤ 6 → Holds log n → leads (record_of id n) ≡ false
     → (enter_round sha256 [] (entering id n k log masks)).state ≡ state id n log masks
 unfolding enter_round leads
-entered-waits id n k log masks l h e = ap (λ (m : Effect). m.state) (cond-false _ _ e) ∙ enters log n h l id k masks
+entered_waits id n k log masks l h e = ap (λ (m : Effect). m.state) (cond_false _ _ e) ∙ enters log n h l id k masks
 
 -- a state that calls made, with the blocks 1 to n in its log
 pub record Made (s : State) (id n : ℕ) (masks : List ℕ) : Type 0 where
@@ -246,42 +246,42 @@ pub record Made (s : State) (id n : ℕ) (masks : List ℕ) : Type 0 where
   pub is : s ≡ state id n log masks
   pub holds : Holds log n
 
-store-holds : (log : List ℕ) (n : ℕ) → n < 6 → Holds log n → Holds (store log (n + 1) (blk (n + 1))) (n + 1)
-store-holds log n l h =
+store_holds : (log : List ℕ) (n : ℕ) → n < 6 → Holds log n → Holds (store log (n + 1) (blk (n + 1))) (n + 1)
+store_holds log n l h =
     let size : length log ≡ 3072 = h.size in
     record {
-      size = length-store log (n + 1) (blk (n + 1)) (omega arith) (omega arith) (next n l).whole ∙ size;
-      slots = λ k m. by-test k m (eqb k (n + 1)) refl size;
+      size = length_store log (n + 1) (blk (n + 1)) (omega arith) (omega arith) (next n l).whole ∙ size;
+      slots = λ k m. by_test k m (eqb k (n + 1)) refl size;
     }
   where
-    by-test : (k : ℕ) → k ≤ n + 1 → (b : Bool) → eqb k (n + 1) ≡ b → length log ≡ 3072 → slot (store log (n + 1) (blk (n + 1))) k ≡ blk k
-    by-test k m true t size =
+    by_test : (k : ℕ) → k ≤ n + 1 → (b : Bool) → eqb k (n + 1) ≡ b → length log ≡ 3072 → slot (store log (n + 1) (blk (n + 1))) k ≡ blk k
+    by_test k m true t size =
         let e : k ≡ n + 1 = eqb-true k (n + 1) t in
         rw e (store_same log (n + 1) (blk (n + 1)) (omega arith) (omega arith) (next n l).whole)
-    by-test k m false t size =
+    by_test k m false t size =
         let ne : ¬ (k ≡ n + 1) = eqb-false k (n + 1) t in
         store_other log (n + 1) (blk (n + 1)) k (omega arith) (omega arith) (next n l).whole ne ∙ h.slots k (omega arith)
 
-entered-leads : (id n k : ℕ) (log masks : List ℕ) → n < 6 → Holds log n → id ≡ n % 3 → leads (record_of id n) ≡ true
+entered_leads : (id n k : ℕ) (log masks : List ℕ) → n < 6 → Holds log n → id ≡ n % 3 → leads (record_of id n) ≡ true
     → Made (enter_round sha256 [] (entering id n k log masks)).state id (n + 1) masks
 unfolding enter_round proposing own_block holding tipped leads
-entered-leads id n k log masks l h i e =
+entered_leads id n k log masks l h i e =
     let own : make_block sha256 id (n + 1) (n + 1) (digest (slot log n)) [] ≡ blk (n + 1) =
     ap₂ (λ j (p : List ℕ). make_block sha256 j (n + 1) (n + 1) (digest p) []) i (h.slots n (omega arith))
     ∙ (unfold blk child in ap blk (sym (add-one n))) in
     record {
       log = store log (n + 1) (blk (n + 1));
       is =
-          ap (λ (m : Effect). m.state) (cond-true _ _ e)
+          ap (λ (m : Effect). m.state) (cond_true _ _ e)
           ∙ ap (λ x. entered (entering id (n + 1) k (store log (n + 1) x) masks)) own
-          ∙ enters (store log (n + 1) (blk (n + 1))) (n + 1) (store-holds log n l h) (omega arith) id k masks;
-      holds = store-holds log n l h;
+          ∙ enters (store log (n + 1) (blk (n + 1))) (n + 1) (store_holds log n l h) (omega arith) id k masks;
+      holds = store_holds log n l h;
     }
 
 -- The calls. Open, by a replica that leads round 1 and by one that does not:
 no_blocks : Holds (zeros 3072) 0
 unfolding slot blk
-no_blocks = record { size = length-zeros 3072; slots = λ k l. let z : k ≡ 0 = omega arith in rw z refl }
+no_blocks = record { size = length_zeros 3072; slots = λ k l. let z : k ≡ 0 = omega arith in rw z refl }
 
 unfoldable pub opening : (id : ℕ) → State
 opening id = state_of (open_call id 1 2 6 (turn 1) (zeros 3072) (zeros 6) [] out)
@@ -289,31 +289,31 @@ opening id = state_of (open_call id 1 2 6 (turn 1) (zeros 3072) (zeros 6) [] out
 opened : (id : ℕ) → valid_own (fresh id 1 2 6 (turn 1)) ≡ true
     → opening id ≡ (enter_round sha256 [] (state id 0 (zeros 3072) (zeros 6))).state
 unfolding opening out taken fresh
-opened id own = ap state_of (open-fits id 1 2 6 (turn 1) (zeros 3072) (zeros 6) [] (zeros 1024) openable (omega arith))
+opened id own = ap state_of (open_fits id 1 2 6 (turn 1) (zeros 3072) (zeros 6) [] (zeros 1024) openable (omega arith))
   where
     openable : Openable id 1 2 6 (turn 1) (zeros 3072) (zeros 6) (zeros 1024)
     openable =
         record {
-          setup = setup-none 1 6 (turn 1) (unfold valid_limits in refl) (turn-rotation 3);
+          setup = setup_none 1 6 (turn 1) (unfold valid_limits in refl) (turn_rotation 3);
           own = own;
           slots = unfold zeros in refl;
           lent = unfold zeros in refl;
-          room = omega (arith, length-zeros 1024);
+          room = omega (arith, length_zeros 1024);
         }
 
-pub opening-0 : Made (opening 0) 0 1 (zeros 6)
-opening-0 =
+pub opening_0 : Made (opening 0) 0 1 (zeros 6)
+opening_0 =
     let m : Made (enter_round sha256 [] (state 0 0 (zeros 3072) (zeros 6))).state 0 1 (zeros 6) =
-    entered-leads 0 0 0 (zeros 3072) (zeros 6) (omega arith) no_blocks refl (unfold leads leader padded in_turn zeros in refl) in
+    entered_leads 0 0 0 (zeros 3072) (zeros 6) (omega arith) no_blocks refl (unfold leads leader padded in_turn zeros in refl) in
     record { log = m.log; is = opened 0 (unfold valid_own fresh in refl) ∙ m.is; holds = m.holds }
 
-pub opening-1 : Made (opening 1) 1 0 (zeros 6)
-opening-1 =
+pub opening_1 : Made (opening 1) 1 0 (zeros 6)
+opening_1 =
     record {
       log = zeros 3072;
       is =
           opened 1 (unfold valid_own fresh in refl)
-          ∙ entered-waits 1 0 0 (zeros 3072) (zeros 6) (omega arith) no_blocks (unfold leads leader padded in_turn zeros in refl);
+          ∙ entered_waits 1 0 0 (zeros 3072) (zeros 6) (omega arith) no_blocks (unfold leads leader padded in_turn zeros in refl);
       holds = no_blocks;
     }
 
@@ -325,54 +325,54 @@ module _ (id n : ℕ) (log masks : List ℕ) (l : n < 5) (h : Holds log n) (c : 
   abbrev new : List ℕ
   new = grown log n (x ∷ [])
 
-  child-x : Child (n + 1) (n + 1) (blk n) x
-  child-x = next n (omega arith)
+  child_x : Child (n + 1) (n + 1) (blk n) x
+  child_x = next n (omega arith)
 
   at_x : round x ≡ n + 1
-  at_x = child-x.at
+  at_x = child_x.at
 
   attached : attach log x (round x - 1) ≡ some n
   unfolding attach
-  attached = by-parent n refl
+  attached = by_parent n refl
     where
-      by-parent : (k : ℕ) → n ≡ k → attach log x (round x - 1) ≡ some n
-      by-parent zero z =
+      by_parent : (k : ℕ) → n ≡ k → attach log x (round x - 1) ≡ some n
+      by_parent zero z =
           let e : round x ≡ n + 1 = at_x in
           let first : round x - 1 ≡ 0 = omega arith in
-          let on : linked genesis x ≡ true = unfold blk in subst (λ k. linked (blk k) x ≡ true) z child-x.on in
-          ap (attach log x) first ∙ cond-true _ _ on ∙ ap some (sym z)
-      by-parent (suc k) z =
+          let on : linked genesis x ≡ true = unfold blk in subst (λ k. linked (blk k) x ≡ true) z child_x.on in
+          ap (attach log x) first ∙ cond_true _ _ on ∙ ap some (sym z)
+      by_parent (suc k) z =
           let e : round x ≡ n + 1 = at_x in
           attaches log x n (omega arith) (record {
             below = omega arith;
             found =
-                both (filled (slot log n)) (linked (slot log n) x) (slot-full log n h (omega arith) n (omega arith) (omega arith))
-                (rw (h.slots n (omega arith)) child-x.on);
+                both (filled (slot log n)) (linked (slot log n) x) (slot_full log n h (omega arith) n (omega arith) (omega arith))
+                (rw (h.slots n (omega arith)) child_x.on);
             highest = λ q a b. absurd (omega arith);
           })
 
-  new-holds : Holds new (n + 1)
+  new_holds : Holds new (n + 1)
   unfolding grown store_all
-  new-holds =
+  new_holds =
       let size : length log ≡ 3072 = h.size in
       let below : Holds (clear_above log n) n =
       record {
-        size = length-clear log n (omega arith) ∙ size;
-        slots = λ k m. clear-low log n k (omega arith) m ∙ h.slots k m;
+        size = length_clear log n (omega arith) ∙ size;
+        slots = λ k m. clear_low log n k (omega arith) m ∙ h.slots k m;
       } in
-      subst (λ r. Holds (store (clear_above log n) r x) (n + 1)) (sym at_x) (store-holds (clear_above log n) n (omega arith) below)
+      subst (λ r. Holds (store (clear_above log n) r x) (n + 1)) (sym at_x) (store_holds (clear_above log n) n (omega arith) below)
 
-  taken-x : branch_call (state id n log masks) x [] out ≡ taken (enter_round sha256 [] (entering id (n + 1) (n - 1) new masks)) out
+  taken_x : branch_call (state id n log masks) x [] out ≡ taken (enter_round sha256 [] (entering id (n + 1) (n - 1) new masks)) out
   unfolding adopting last_of flatten holding tipped
-  taken-x =
+  taken_x =
       let e : round x ≡ n + 1 = at_x in
       ap (λ (b : List ℕ). branch_call (state id n log masks) b [] out) (sym (append-nil x))
-      ∙ fresh-branch c [] (omega arith) x [] (omega arith) (blocks-one _ x child-x.good) (omega arith)
+      ∙ fresh_branch c [] (omega arith) x [] (omega arith) (blocks_one _ x child_x.good) (omega arith)
       ∙ ap (placed sha256 [] out (state id n log masks) x []) attached
       ∙ adopts [] out (state id n log masks) x [] n
-      (skips-none (setup 1 6 (turn 1)) masks x n [] e ∙ (unfold first_uncertified in refl))
-      (take-slots new log (n - 1) (λ q a b. grown-low log x n (omega arith) (omega (arith, h.size)) child-x.whole q (omega arith)))
-      ∙ ap (λ s. taken (enter_round sha256 [] s) out) (ap₂ (holding (state id n log masks) new) e child-x.high)
+      (skips_none (setup 1 6 (turn 1)) masks x n [] e ∙ (unfold first_uncertified in refl))
+      (take_slots new log (n - 1) (λ q a b. grown_low log x n (omega arith) (omega (arith, h.size)) child_x.whole q (omega arith)))
+      ∙ ap (λ s. taken (enter_round sha256 [] s) out) (ap₂ (holding (state id n log masks) new) e child_x.high)
 
 -- the same of a state that calls made: a call on it leaves such a state
 module _ (s : State) (id n : ℕ) (masks : List ℕ) (made : Made s id n masks) (i : id < 3) (l : n < 5) (lent : length masks ≡ 6)
@@ -380,38 +380,38 @@ module _ (s : State) (id n : ℕ) (masks : List ℕ) (made : Made s id n masks) 
   abbrev here : State
   here = state id n made.log masks
 
-  here-callable : Callable here out
-  here-callable = callable made.log n made.holds (omega arith) id masks i (omega arith) lent waits
+  here_callable : Callable here out
+  here_callable = callable made.log n made.holds (omega arith) id masks i (omega arith) lent waits
 
   abbrev there : State
-  there = entering id (n + 1) (n - 1) (new id n made.log masks l made.holds here-callable) masks
+  there = entering id (n + 1) (n - 1) (new id n made.log masks l made.holds here_callable) masks
 
-  branch-left : state_of (branch_call s (blk (n + 1)) [] out) ≡ (enter_round sha256 [] there).state
+  branch_left : state_of (branch_call s (blk (n + 1)) [] out) ≡ (enter_round sha256 [] there).state
   unfolding taken
-  branch-left =
+  branch_left =
       ap (λ u. state_of (branch_call u (blk (n + 1)) [] out)) made.is
-      ∙ ap state_of (taken-x id n made.log masks l made.holds here-callable)
+      ∙ ap state_of (taken_x id n made.log masks l made.holds here_callable)
 
-  taken-holds : Holds there.log (n + 1)
-  taken-holds = new-holds id n made.log masks l made.holds here-callable
+  taken_holds : Holds there.log (n + 1)
+  taken_holds = new_holds id n made.log masks l made.holds here_callable
 
-  pub branch-waits : leads (record_of id (n + 1)) ≡ false → Made (state_of (branch_call s (blk (n + 1)) [] out)) id (n + 1) masks
-  branch-waits e =
+  pub branch_waits : leads (record_of id (n + 1)) ≡ false → Made (state_of (branch_call s (blk (n + 1)) [] out)) id (n + 1) masks
+  branch_waits e =
       record {
         log = there.log;
-        is = branch-left ∙ entered-waits id (n + 1) (n - 1) there.log masks (omega arith) taken-holds e;
-        holds = taken-holds;
+        is = branch_left ∙ entered_waits id (n + 1) (n - 1) there.log masks (omega arith) taken_holds e;
+        holds = taken_holds;
       }
 
   pub branch_leads : id ≡ (n + 1) % 3 → leads (record_of id (n + 1)) ≡ true
       → Made (state_of (branch_call s (blk (n + 1)) [] out)) id (n + 1 + 1) masks
   branch_leads led e =
       let m : Made (enter_round sha256 [] there).state id (n + 1 + 1) masks =
-      entered-leads id (n + 1) (n - 1) there.log masks (omega arith) taken-holds led e in
-      record { log = m.log; is = branch-left ∙ m.is; holds = m.holds }
+      entered_leads id (n + 1) (n - 1) there.log masks (omega arith) taken_holds led e in
+      record { log = m.log; is = branch_left ∙ m.is; holds = m.holds }
 
   -- a blame of replica j for a round below R, its bit not yet set
-  module _ (j r : ℕ) (signs : j < 3) (one : 1 ≤ r) (past : r ≤ n) (fresh-bit : bit j (mask masks r) ≡ false) where
+  module _ (j r : ℕ) (signs : j < 3) (one : 1 ≤ r) (past : r ≤ n) (fresh_bit : bit j (mask masks r) ≡ false) where
     abbrev y : List ℕ
     y = make_blame sha256 j r
 
@@ -421,15 +421,15 @@ module _ (s : State) (id n : ℕ) (masks : List ℕ) (made : Made s id n masks) 
         let e : eqb r (n + 1) ≡ false = ne_eqb r (n + 1) (λ z. omega arith) in
         rw e refl
 
-    heard-y : blame_call here y [] out ≡ taken (record { state = hearing here r j; emitted = [] }) out
-    heard-y =
-        hears-at here-callable [] (omega arith) j r signs one (omega arith) fresh-bit ∙ ap (λ m. taken m out) settled
+    heard_y : blame_call here y [] out ≡ taken (record { state = hearing here r j; emitted = [] }) out
+    heard_y =
+        hears_at here_callable [] (omega arith) j r signs one (omega arith) fresh_bit ∙ ap (λ m. taken m out) settled
 
     pub hears : Made (state_of (blame_call s y [] out)) id n (add_blame masks r j)
     unfolding taken hearing
     hears =
         record {
           log = made.log;
-          is = ap (λ u. state_of (blame_call u y [] out)) made.is ∙ ap state_of heard-y;
+          is = ap (λ u. state_of (blame_call u y [] out)) made.is ∙ ap state_of heard_y;
           holds = made.holds;
         }

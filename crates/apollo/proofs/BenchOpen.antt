@@ -26,11 +26,11 @@ use Rattle.apollo.specs.Tick.{tick_with}
 use Rattle.apollo.specs.Calls.{open_call, tick_call}
 use Rattle.apollo.specs.BenchSheet.{turn, Openable, number, new_round}
 use Rattle.apollo.specs.BlockRun.{block}
-use Rattle.apollo.proofs.Tests.{both, cond-true, cond-false}
-use Rattle.apollo.proofs.Rotation.{turn-rotation, turn-seat, padded-valid}
-use Rattle.apollo.proofs.Validity.{ValidOpening, setup-good, valid-opening, valid-of}
-use Rattle.apollo.proofs.Slots.{length-zeros, length-store}
-use Rattle.apollo.proofs.Made.{block-length, block_made}
+use Rattle.apollo.proofs.Tests.{both, cond_true, cond_false}
+use Rattle.apollo.proofs.Rotation.{turn_rotation, turn_seat, padded_valid}
+use Rattle.apollo.proofs.Validity.{ValidOpening, setup_good, valid_opening, valid_of}
+use Rattle.apollo.proofs.Slots.{length_zeros, length_store}
+use Rattle.apollo.proofs.Made.{block_length, block_made}
 
 -- the state before and after an open is taken, the round not yet entered
 abbrev unopened : (log masks : List ℕ) → State
@@ -48,20 +48,20 @@ module _ (id f timeout T : ℕ) (rotation log masks entry out : List ℕ) (o : O
       let r : Replica = fresh id f timeout T rotation in
       let v : not (valid_own r && valid_log r log && valid_masks r masks) ≡ false =
       ap not (both (valid_own r && valid_log r log) (valid_masks r masks) (both (valid_own r) (valid_log r log) o.own o.slots) o.lent) in
-      cond-false _ _ v ∙ cond-false _ _ (ap not (eq-eqb (setup_number f T rotation) 0 o.setup))
-      ∙ cond-false _ _ (le-ltb (length out) out_least o.room)
+      cond_false _ _ v ∙ cond_false _ _ (ap not (eq-eqb (setup_number f T rotation) 0 o.setup))
+      ∙ cond_false _ _ (le-ltb (length out) out_least o.room)
 
-  pub open-fits : length entry ≤ 400
+  pub open_fits : length entry ≤ 400
       → open_call id f timeout T rotation log masks entry out ≡ taken (enter_round sha256 entry (opened id f timeout T rotation)) out
-  open-fits l = opens ∙ cond-false _ _ (le-ltb 400 (length entry) l)
+  open_fits l = opens ∙ cond_false _ _ (le-ltb 400 (length entry) l)
 
-  pub open-400 : length entry ≡ 400 → number (open_call id f timeout T rotation log masks entry out) ≡ 0
+  pub open_400 : length entry ≡ 400 → number (open_call id f timeout T rotation log masks entry out) ≡ 0
   unfolding taken
-  open-400 l = ap number (open-fits (omega arith))
+  open_400 l = ap number (open_fits (omega arith))
 
-  pub open-401 : length entry ≡ 401 → number (open_call id f timeout T rotation log masks entry out) ≡ 5
+  pub open_401 : length entry ≡ 401 → number (open_call id f timeout T rotation log masks entry out) ≡ 5
   unfolding refused
-  open-401 l = ap number (opens ∙ cond-true _ _ (lt-ltb 400 (length entry) (omega arith)))
+  open_401 l = ap number (opens ∙ cond_true _ _ (lt-ltb 400 (length entry) (omega arith)))
 
 module _ (f timeout : ℕ) (log masks entry out : List ℕ) (o : Openable 0 f timeout 1 (turn f) log masks out) (l : length entry ≤ 400) where
   new : State
@@ -71,9 +71,9 @@ module _ (f timeout : ℕ) (log masks entry out : List ℕ) (o : Openable 0 f ti
   unfolding new
   first = own_block sha256 entry new
 
-  leader-1 : leader (setup f 1 (turn f)) 1 ≡ 0
+  leader_1 : leader (setup f 1 (turn f)) 1 ≡ 0
   unfolding leader
-  leader-1 = ap (λ k. get_or (padded (turn f)) k 0) (zero-mod (2 * f + 1)) ∙ turn-seat (2 * f + 1) 0 (omega arith) (omega arith)
+  leader_1 = ap (λ k. get_or (padded (turn f)) k 0) (zero-mod (2 * f + 1)) ∙ turn_seat (2 * f + 1) 0 (omega arith) (omega arith)
 
   -- the state that the open leaves
   left : State
@@ -83,37 +83,37 @@ module _ (f timeout : ℕ) (log masks entry out : List ℕ) (o : Openable 0 f ti
   proposes : open_call 0 f timeout 1 (turn f) log masks entry out ≡ taken (record { state = left; emitted = first ∷ [] }) out
   unfolding new first left enter_round leads fresh
   proposes =
-      open-fits 0 f timeout 1 (turn f) log masks entry out o l
-      ∙ ap (λ (e : Effect). taken e out) (cond-true _ _ (eq-eqb (leader (setup f 1 (turn f)) 1) 0 leader-1))
+      open_fits 0 f timeout 1 (turn f) log masks entry out o l
+      ∙ ap (λ (e : Effect). taken e out) (cond_true _ _ (eq-eqb (leader (setup f 1 (turn f)) 1) 0 leader_1))
 
-  parent-length : length (digest (slot (zeros frame_size) 0)) ≡ 32
+  parent_length : length (digest (slot (zeros frame_size) 0)) ≡ 32
   unfolding slot genesis zeros
-  parent-length = refl
+  parent_length = refl
 
-  first-length : length first ≡ frame_size
+  first_length : length first ≡ frame_size
   unfolding new first own_block fresh
-  first-length = block-length 0 1 (0 + 1) (digest (slot (zeros frame_size) 0)) entry parent-length l
+  first_length = block_length 0 1 (0 + 1) (digest (slot (zeros frame_size) 0)) entry parent_length l
 
   first_block : block (setup f 1 (turn f)) first ≡ true
   unfolding new first own_block fresh
   first_block =
-      block_made 0 1 (0 + 1) (digest (slot (zeros frame_size) 0)) entry parent-length l (setup f 1 (turn f)) (sym leader-1)
+      block_made 0 1 (0 + 1) (digest (slot (zeros frame_size) 0)) entry parent_length l (setup f 1 (turn f)) (sym leader_1)
       (omega arith) (omega arith) (omega arith) (omega arith) (omega arith)
 
   first_out : take frame_size ((first ++ []) ++ drop frame_size out) ≡ first
-  first_out = rw append-nil (take_at first (drop frame_size out) frame_size first-length)
+  first_out = rw append-nil (take_at first (drop frame_size out) frame_size first_length)
 
   first_round : round ((first ++ []) ++ drop frame_size out) ≡ 1
   unfolding new first own_block fresh number4 make_block sealed block_head
   first_round = refl
 
-  pub open-emits : (number (open_call 0 f timeout 1 (turn f) log masks entry out) ≡ 0)
+  pub open_emits : (number (open_call 0 f timeout 1 (turn f) log masks entry out) ≡ 0)
       × ((open_call 0 f timeout 1 (turn f) log masks entry out).answer.frames ≡ 1)
       × (block (setup f 1 (turn f)) (take frame_size (open_call 0 f timeout 1 (turn f) log masks entry out).out) ≡ true)
       × (round (open_call 0 f timeout 1 (turn f) log masks entry out).out ≡ 1)
       × (new_round (open_call 0 f timeout 1 (turn f) log masks entry out) ≡ 2)
   unfolding taken flatten
-  open-emits = (
+  open_emits = (
     ap number proposes,
     ap (λ (o : Outcome). o.answer.frames) proposes,
     ap (λ (o : Outcome). block (setup f 1 (turn f)) (take frame_size o.out)) proposes ∙ ap (block (setup f 1 (turn f))) first_out ∙ first_block,
@@ -125,43 +125,43 @@ module _ (f timeout : ℕ) (log masks entry out : List ℕ) (o : Openable 0 f ti
   unfolding first
   stored = store (zeros frame_size) 1 first
 
-  none-committed : (k : ℕ) → k ≡ 0 → (highest stored k ≡ 0) × (height (slot stored (highest stored k)) ≡ 0)
+  none_committed : (k : ℕ) → k ≡ 0 → (highest stored k ≡ 0) × (height (slot stored (highest stored k)) ≡ 0)
   unfolding highest slot genesis number4 zeros
-  none-committed k z = (ap (highest stored) z, ap (λ j. height (slot stored (highest stored j))) z)
+  none_committed k z = (ap (highest stored) z, ap (λ j. height (slot stored (highest stored j))) z)
 
   -- the record that the open leaves is valid, with R = T + 1
-  left-valid : valid_replica left.replica left.log ≡ true
+  left_valid : valid_replica left.replica left.log ≡ true
   unfolding new first left stored entered proposing holding tipped commit commit_limit fresh leads
-  left-valid =
-      let s : ValidOpening (fresh 0 f timeout 1 (turn f)) log = valid-opening (fresh 0 f timeout 1 (turn f)) log (setup-good f 1 (turn f) o.setup).0 o.own o.slots in
-      let low : 1 ≤ f = s.f-least in
+  left_valid =
+      let s : ValidOpening (fresh 0 f timeout 1 (turn f)) log = valid_opening (fresh 0 f timeout 1 (turn f)) log (setup_good f 1 (turn f) o.setup).0 o.own o.slots in
+      let low : 1 ≤ f = s.f_least in
       let c : (highest stored (1 - f) ≡ 0) × (height (slot stored (highest stored (1 - f))) ≡ 0) =
-      none-committed (1 - f) (omega arith) in
-      let size : length (zeros frame_size) ≡ frame_size = length-zeros frame_size in
-      let kept : length stored ≡ length (zeros frame_size) = length-store (zeros frame_size) 1 first (omega arith) (omega arith) first-length in
+      none_committed (1 - f) (omega arith) in
+      let size : length (zeros frame_size) ≡ frame_size = length_zeros frame_size in
+      let kept : length stored ≡ length (zeros frame_size) = length_store (zeros frame_size) 1 first (omega arith) (omega arith) first_length in
       let a : highest stored (1 - f) ≡ 0 = c.0 in
       let b : height (slot stored (highest stored (1 - f))) ≡ 0 = c.1 in
-      valid-of left.replica stored (record {
+      valid_of left.replica stored (record {
         setup =
             record {
               id_below = s.id_below;
-              f-least = s.f-least;
-              f-most = s.f-most;
-              timeout-least = s.timeout-least;
-              timeout-most = s.timeout-most;
-              last-least = omega arith;
-              last-most = omega arith;
+              f_least = s.f_least;
+              f_most = s.f_most;
+              timeout_least = s.timeout_least;
+              timeout_most = s.timeout_most;
+              last_least = omega arith;
+              last_most = omega arith;
               size = omega arith;
             };
-        rotation = padded-valid (setup f 1 (turn f)) (turn f) (turn-rotation (2 * f + 1)) (omega (arith, s.f-most)) refl;
-        round-least = omega arith;
-        round-most = omega arith;
-        timer-most = omega arith;
-        tip-below = omega arith;
-        tip-height = omega arith;
-        committed-most = omega arith;
-        committed-height-most = omega arith;
-        committed-height = omega arith;
+        rotation = padded_valid (setup f 1 (turn f)) (turn f) (turn_rotation (2 * f + 1)) (omega (arith, s.f_most)) refl;
+        round_least = omega arith;
+        round_most = omega arith;
+        timer_most = omega arith;
+        tip_below = omega arith;
+        tip_height = omega arith;
+        committed_most = omega arith;
+        committed_height_most = omega arith;
+        committed_height_lem = omega arith;
         marks = pow_pos (2 * f + 1);
         waits = refl;
       })
@@ -171,13 +171,13 @@ module _ (f timeout : ℕ) (log masks entry out : List ℕ) (o : Openable 0 f ti
   left_over entry' out' =
       let s : State = left in
       let v : not (valid_replica s.replica s.log && valid_masks s.replica s.masks) ≡ false =
-      ap not (both (valid_replica s.replica s.log) (valid_masks s.replica s.masks) left-valid
+      ap not (both (valid_replica s.replica s.log) (valid_masks s.replica s.masks) left_valid
       (unfold new left entered proposing holding tipped commit fresh zeros in refl)) in
       let over : eqb s.replica.round.0 (s.replica.last_round.0 + 1) ≡ true =
       unfold new left entered proposing holding tipped commit fresh in refl in
-      cond-false _ _ v ∙ cond-true _ _ over
+      cond_false _ _ v ∙ cond_true _ _ over
 
-  pub then-over : (entry' out' : List ℕ) → number (tick_call (state_of (open_call 0 f timeout 1 (turn f) log masks entry out)) entry' out') ≡ 3
+  pub then_over : (entry' out' : List ℕ) → number (tick_call (state_of (open_call 0 f timeout 1 (turn f) log masks entry out)) entry' out') ≡ 3
   unfolding taken refused
-  then-over entry' out' =
+  then_over entry' out' =
       ap (λ (o : Outcome). number (tick_call (state_of o) entry' out')) proposes ∙ ap number (left_over entry' out')

@@ -24,20 +24,20 @@ use Rattle.apollo.specs.BlockRun.{child_of, block}
 use Rattle.apollo.specs.Calls.{branch_call, blame_call}
 use Rattle.apollo.specs.BenchSheet.{turn, chain_rounds, ParentIn, Item9, Item10, Held}
 use Rattle.apollo.proofs.Tests.{both}
-use Rattle.apollo.proofs.BlockRun.{blocks-of, blocks-none}
-use Rattle.apollo.proofs.Slots.{length-zeros}
-use Rattle.apollo.proofs.BenchMade.{child, Child, children, unrelated, blk, Sized, sized, next, Holds, record_of, out, slot-full, renewed, callable, Made, opening, opening-0, opening-1, branch-waits, branch_leads, hears}
+use Rattle.apollo.proofs.BlockRun.{blocks_of, blocks_none}
+use Rattle.apollo.proofs.Slots.{length_zeros}
+use Rattle.apollo.proofs.BenchMade.{child, Child, children, unrelated, blk, Sized, sized, next, Holds, record_of, out, slot_full, renewed, callable, Made, opening, opening_0, opening_1, branch_waits, branch_leads, hears}
 
 -- a block at height 2 on block 1
-on-1 : (log : List ℕ) (n : ℕ) → Holds log n → 1 ≤ n → n ≤ 5 → (x : List ℕ) (r : ℕ) → 1 < r → r ≤ n + 1 → Child r 2 (blk 1) x
+on_1 : (log : List ℕ) (n : ℕ) → Holds log n → 1 ≤ n → n ≤ 5 → (x : List ℕ) (r : ℕ) → 1 < r → r ≤ n + 1 → Child r 2 (blk 1) x
     → ParentIn log x 1
-on-1 log n h some_block most x r low top c =
+on_1 log n h some_block most x r low top c =
     let e : round x ≡ r = c.at in
     let two : height x ≡ 2 = c.high in
     record {
       below = omega arith;
       found =
-          both (filled (slot log 1)) (linked (slot log 1) x) (slot-full log n h (omega arith) 1 (omega arith) some_block)
+          both (filled (slot log 1)) (linked (slot log 1) x) (slot_full log n h (omega arith) 1 (omega arith) some_block)
           (rw (h.slots 1 some_block) c.on);
       highest = λ q a b. rw (h.slots q (omega arith)) (unrelated (blk q) x (λ z. omega (arith, (sized q (omega arith)).1)));
     }
@@ -51,11 +51,11 @@ aside i r led low most =
 
 -- Item 9, at replicas 0 and 1. Each has opened and holds blocks 1 and 2, its own and the other's; it hears one blame for round 2, and
 -- a second; then the block for round 3 on block 1 comes.
-unfoldable pub held-0 : State
-held-0 = state_of (branch_call (opening 0) (blk 2) [] out)
+unfoldable pub held_0 : State
+held_0 = state_of (branch_call (opening 0) (blk 2) [] out)
 
-unfoldable pub held-1 : State
-held-1 = state_of (branch_call (opening 1) (blk 1) [] out)
+unfoldable pub held_1 : State
+held_1 = state_of (branch_call (opening 1) (blk 1) [] out)
 
 unfoldable pub blamed : State → (i r : ℕ) → State
 blamed s i r = state_of (blame_call s (make_blame sha256 i r) [] out)
@@ -67,21 +67,21 @@ twice s r = blamed (blamed s 0 r) 1 r
 pub record Met9 (s : State) (id m : ℕ) : Type 0 where
   pub block : List ℕ
   pub item : Item9 s block out
-  pub id-is : s.replica.id ≡ id
+  pub id_is : s.replica.id ≡ id
   pub mask_is : mask s.masks 2 ≡ m
   pub low : s.replica.committed_round.0 ≤ 1
 
-made-0 : Made held-0 0 2 (zeros 6)
-unfolding held-0 leads leader padded in_turn zeros
-made-0 = branch-waits (opening 0) 0 1 (zeros 6) opening-0 (omega arith) (omega arith) (length-zeros 6) refl refl
+made_0 : Made held_0 0 2 (zeros 6)
+unfolding held_0 leads leader padded in_turn zeros
+made_0 = branch_waits (opening 0) 0 1 (zeros 6) opening_0 (omega arith) (omega arith) (length_zeros 6) refl refl
 
-made-1 : Made held-1 1 2 (zeros 6)
-unfolding held-1 leads leader padded in_turn zeros
-made-1 = branch_leads (opening 1) 1 0 (zeros 6) opening-1 (omega arith) (omega arith) (length-zeros 6) refl refl refl
+made_1 : Made held_1 1 2 (zeros 6)
+unfolding held_1 leads leader padded in_turn zeros
+made_1 = branch_leads (opening 1) 1 0 (zeros 6) opening_1 (omega arith) (omega arith) (length_zeros 6) refl refl refl
 
-met-9 : (s : State) (id m : ℕ) (masks : List ℕ) → Made s id 2 masks → id < 2 → length masks ≡ 6 → mask masks 2 ≡ m → Met9 s id m
+met_9 : (s : State) (id m : ℕ) (masks : List ℕ) → Made s id 2 masks → id < 2 → length masks ≡ 6 → mask masks 2 ≡ m → Met9 s id m
 unfolding leads leader padded in_turn zeros
-met-9 s id m masks made i lent e =
+met_9 s id m masks made i lent e =
     let c : Child 3 2 (blk 1) (child 2 3 2 (blk 1)) = aside 2 3 refl (omega arith) (omega arith) in
     subst (λ u. Met9 u id m) (sym made.is) (record {
       block = child 2 3 2 (blk 1);
@@ -96,9 +96,9 @@ met-9 s id m masks made i lent e =
             awaited = refl;
             form = c.good;
             round = c.at;
-            parent = on-1 made.log 2 made.holds (omega arith) (omega arith) (child 2 3 2 (blk 1)) 3 (omega arith) (omega arith) c;
+            parent = on_1 made.log 2 made.holds (omega arith) (omega arith) (child 2 3 2 (blk 1)) 3 (omega arith) (omega arith) c;
           };
-      id-is = refl;
+      id_is = refl;
       mask_is = e;
       low = omega arith;
     })
@@ -106,39 +106,39 @@ met-9 s id m masks made i lent e =
 -- a replica with blocks 1 to n hears the blames of replicas 0 and 1 for round r
 module _ (s : State) (id n : ℕ) (masks : List ℕ) (made : Made s id n masks) (i : id < 3) (l : n < 5) (lent : length masks ≡ 6)
     (waits : leads (record_of id n) ≡ false) (r : ℕ) (one : 1 ≤ r) (past : r ≤ n) where
-  blamed-made : bit 0 (mask masks r) ≡ false → Made (blamed s 0 r) id n (add_blame masks r 0)
+  blamed_made : bit 0 (mask masks r) ≡ false → Made (blamed s 0 r) id n (add_blame masks r 0)
   unfolding blamed
-  blamed-made z = hears s id n masks made i l lent waits 0 r (omega arith) one past z
+  blamed_made z = hears s id n masks made i l lent waits 0 r (omega arith) one past z
 
-  twice-made : bit 0 (mask masks r) ≡ false → bit 1 (mask (add_blame masks r 0) r) ≡ false
+  twice_made : bit 0 (mask masks r) ≡ false → bit 1 (mask (add_blame masks r 0) r) ≡ false
       → Made (twice s r) id n (add_blame (add_blame masks r 0) r 1)
   unfolding twice blamed
-  twice-made z u =
-      hears (blamed s 0 r) id n (add_blame masks r 0) (blamed-made z) i l (simp length-set lent) waits 1 r (omega arith) one past u
+  twice_made z u =
+      hears (blamed s 0 r) id n (add_blame masks r 0) (blamed_made z) i l (simp length-set lent) waits 1 r (omega arith) one past u
 
 abbrev Both9 : (held : State) (id : ℕ) → Type 0
 Both9 held id = Met9 (blamed held 0 2) id 1 × Met9 (twice held 2) id 3
 
-both-9 : (held : State) (id : ℕ) → Made held id 2 (zeros 6) → id < 2 → Both9 held id
+both_9 : (held : State) (id : ℕ) → Made held id 2 (zeros 6) → id < 2 → Both9 held id
 unfolding zeros bit set_bit leads leader padded in_turn
-both-9 held id made i =
+both_9 held id made i =
     let led : leads (record_of id 2) ≡ false = ne_eqb 2 id (λ z. omega arith) in (
-      met-9 (blamed held 0 2) id 1 _
-          (blamed-made held id 2 (zeros 6) made (omega arith) (omega arith) refl led 2 (omega arith) (omega arith) refl) i refl refl,
-      met-9 (twice held 2) id 3 _
-          (twice-made held id 2 (zeros 6) made (omega arith) (omega arith) refl led 2 (omega arith) (omega arith) refl refl) i refl refl,
+      met_9 (blamed held 0 2) id 1 _
+          (blamed_made held id 2 (zeros 6) made (omega arith) (omega arith) refl led 2 (omega arith) (omega arith) refl) i refl refl,
+      met_9 (twice held 2) id 3 _
+          (twice_made held id 2 (zeros 6) made (omega arith) (omega arith) refl led 2 (omega arith) (omega arith) refl refl) i refl refl,
     )
 
-pub item-9-met : Both9 held-0 0 × Both9 held-1 1
-item-9-met = (both-9 held-0 0 made-0 (omega arith), both-9 held-1 1 made-1 (omega arith))
+pub item_9_met : Both9 held_0 0 × Both9 held_1 1
+item_9_met = (both_9 held_0 0 made_0 (omega arith), both_9 held_1 1 made_1 (omega arith))
 
 -- Item 10, at replica 1, which then took block 3: with no blame heard, and with two for each of rounds 2 and 3.
-unfoldable pub held-3 : State
-held-3 = state_of (branch_call held-1 (blk 3) [] out)
+unfoldable pub held_3 : State
+held_3 = state_of (branch_call held_1 (blk 3) [] out)
 
-made-3 : Made held-3 1 3 (zeros 6)
-unfolding held-3 leads leader padded in_turn zeros
-made-3 = branch-waits held-1 1 2 (zeros 6) made-1 (omega arith) (omega arith) (length-zeros 6) refl refl
+made_3 : Made held_3 1 3 (zeros 6)
+unfolding held_3 leads leader padded in_turn zeros
+made_3 = branch_waits held_1 1 2 (zeros 6) made_1 (omega arith) (omega arith) (length_zeros 6) refl refl
 
 -- what item 10 presumes of a block on block 1 and of one on block 3, with mask m for rounds 2 and 3
 pub record Met10 (s : State) (m : ℕ) : Type 0 where
@@ -150,25 +150,25 @@ pub record Met10 (s : State) (m : ℕ) : Type 0 where
   pub parent : ParentIn s.log aside 1
   pub held : Held (setup_of s.replica) s.log
   pub above_good : block (setup_of s.replica) above ≡ true
-  pub above-child : linked (slot s.log 3) above ≡ true
-  pub above-four : round above ≡ 4
-  pub masks-are : (mask s.masks 2 ≡ m) × (mask s.masks 3 ≡ m)
+  pub above_child : linked (slot s.log 3) above ≡ true
+  pub above_four : round above ≡ 4
+  pub masks_are : (mask s.masks 2 ≡ m) × (mask s.masks 3 ≡ m)
 
-child-of : (p x : List ℕ) {r h : ℕ} → Child r h p x → round p < round x → child_of p x ≡ true
+child_of_lem : (p x : List ℕ) {r h : ℕ} → Child r h p x → round p < round x → child_of p x ≡ true
 unfolding child_of
-child-of p x c l = both (linked p x) (ltb (round p) (round x)) c.on (lt-ltb (round p) (round x) l)
+child_of_lem p x c l = both (linked p x) (ltb (round p) (round x)) c.on (lt-ltb (round p) (round x) l)
 
 module _ (log : List ℕ) (h : Holds log 3) where
   chained : chain_rounds log 3 ≡ 1 ∷ 2 ∷ 3 ∷ []
   unfolding chain_rounds
   chained =
-      let f1 : filled (slot log 1) ≡ true = slot-full log 3 h (omega arith) 1 (omega arith) (omega arith) in
-      let f2 : filled (slot log 2) ≡ true = slot-full log 3 h (omega arith) 2 (omega arith) (omega arith) in
-      let f3 : filled (slot log 3) ≡ true = slot-full log 3 h (omega arith) 3 (omega arith) (omega arith) in
+      let f1 : filled (slot log 1) ≡ true = slot_full log 3 h (omega arith) 1 (omega arith) (omega arith) in
+      let f2 : filled (slot log 2) ≡ true = slot_full log 3 h (omega arith) 2 (omega arith) (omega arith) in
+      let f3 : filled (slot log 3) ≡ true = slot_full log 3 h (omega arith) 3 (omega arith) (omega arith) in
       rw (f1, f2, f3)
 
-  held-3-blocks : Held (setup 1 6 (turn 1)) log
-  held-3-blocks =
+  held_3_blocks : Held (setup 1 6 (turn 1)) log
+  held_3_blocks =
       let u : Setup = setup 1 6 (turn 1) in
       let c1 : Child 1 1 (blk 0) (blk 1) = next 0 (omega arith) in
       let c2 : Child 2 2 (blk 1) (blk 2) = next 1 (omega arith) in
@@ -186,14 +186,14 @@ module _ (log : List ℕ) (h : Holds log 3) where
         root = rw s1 (unfold blk in c1.on);
         linked =
             rw (s1, s2, s3)
-            (blocks-of u none (blk 1) (blk 2 ∷ blk 3 ∷ []) c1.good refl
-            (blocks-of u (some (blk 1)) (blk 2) (blk 3 ∷ []) c2.good (child-of (blk 1) (blk 2) c2 (omega arith))
-            (blocks-of u (some (blk 2)) (blk 3) [] c3.good (child-of (blk 2) (blk 3) c3 (omega arith)) (blocks-none u (some (blk 3))))));
+            (blocks_of u none (blk 1) (blk 2 ∷ blk 3 ∷ []) c1.good refl
+            (blocks_of u (some (blk 1)) (blk 2) (blk 3 ∷ []) c2.good (child_of_lem (blk 1) (blk 2) c2 (omega arith))
+            (blocks_of u (some (blk 2)) (blk 3) [] c3.good (child_of_lem (blk 2) (blk 3) c3 (omega arith)) (blocks_none u (some (blk 3))))));
       }
 
-met-10 : (s : State) (m : ℕ) (masks : List ℕ) → Made s 1 3 masks → length masks ≡ 6 → mask masks 2 ≡ m → mask masks 3 ≡ m → Met10 s m
+met_10 : (s : State) (m : ℕ) (masks : List ℕ) → Made s 1 3 masks → length masks ≡ 6 → mask masks 2 ≡ m → mask masks 3 ≡ m → Met10 s m
 unfolding leads leader padded in_turn zeros
-met-10 s m masks made lent two three =
+met_10 s m masks made lent two three =
     let x : List ℕ = child 0 4 2 (blk 1) in
     let c : Child 4 2 (blk 1) x = aside 0 4 refl (omega arith) (omega arith) in
     let d : Child 4 4 (blk 3) (blk 4) = next 3 (omega arith) in
@@ -211,19 +211,19 @@ met-10 s m masks made lent two three =
           };
       good = c.good;
       four = c.at;
-      parent = on-1 made.log 3 made.holds (omega arith) (omega arith) x 4 (omega arith) (omega arith) c;
-      held = held-3-blocks made.log made.holds;
+      parent = on_1 made.log 3 made.holds (omega arith) (omega arith) x 4 (omega arith) (omega arith) c;
+      held = held_3_blocks made.log made.holds;
       above_good = d.good;
-      above-child = rw (made.holds.slots 3 (omega arith)) d.on;
-      above-four = d.at;
-      masks-are = (two, three);
+      above_child = rw (made.holds.slots 3 (omega arith)) d.on;
+      above_four = d.at;
+      masks_are = (two, three);
     })
 
-pub item-10-met : Met10 held-3 0 × Met10 (twice (twice held-3 2) 3) 3
+pub item_10_met : Met10 held_3 0 × Met10 (twice (twice held_3 2) 3) 3
 unfolding zeros bit set_bit leads leader padded in_turn
-item-10-met =
-    let two : Made (twice held-3 2) 1 3 (0 ∷ 3 ∷ 0 ∷ 0 ∷ 0 ∷ 0 ∷ []) =
-    twice-made held-3 1 3 (zeros 6) made-3 (omega arith) (omega arith) refl refl 2 (omega arith) (omega arith) refl refl in
-    let three : Made (twice (twice held-3 2) 3) 1 3 (0 ∷ 3 ∷ 3 ∷ 0 ∷ 0 ∷ 0 ∷ []) =
-    twice-made (twice held-3 2) 1 3 _ two (omega arith) (omega arith) refl refl 3 (omega arith) (omega arith) refl refl in
-    (met-10 held-3 0 (zeros 6) made-3 refl refl refl, met-10 (twice (twice held-3 2) 3) 3 _ three refl refl refl)
+item_10_met =
+    let two : Made (twice held_3 2) 1 3 (0 ∷ 3 ∷ 0 ∷ 0 ∷ 0 ∷ 0 ∷ []) =
+    twice_made held_3 1 3 (zeros 6) made_3 (omega arith) (omega arith) refl refl 2 (omega arith) (omega arith) refl refl in
+    let three : Made (twice (twice held_3 2) 3) 1 3 (0 ∷ 3 ∷ 3 ∷ 0 ∷ 0 ∷ 0 ∷ []) =
+    twice_made (twice held_3 2) 1 3 _ two (omega arith) (omega arith) refl refl 3 (omega arith) (omega arith) refl refl in
+    (met_10 held_3 0 (zeros 6) made_3 refl refl refl, met_10 (twice (twice held_3 2) 3) 3 _ three refl refl refl)

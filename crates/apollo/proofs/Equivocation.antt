@@ -23,30 +23,30 @@ module _ (hash : List ℕ → List ℕ) (r : Replica) (bytes : List ℕ) where
 
   -- 2; 6; 7 or 8; 18; taken
   pub data Case : Marked → Type 0 where
-    invalid-record : valid_record r ≡ false → Case (marked 2 0 r)
-    not-pair : valid_record r ≡ true → is_pair bytes ≡ false → Case (marked 6 0 r)
-    faulty-frame : valid_record r ≡ true → is_pair bytes ≡ true → judged.number ≢ 0 → Case (marked judged.number judged.place r)
-    not-conflicting : valid_record r ≡ true → is_pair bytes ≡ true → judged.number ≡ 0 → conflicting (first_frame bytes) (second bytes) ≡ false
+    invalid_record : valid_record r ≡ false → Case (marked 2 0 r)
+    not_pair : valid_record r ≡ true → is_pair bytes ≡ false → Case (marked 6 0 r)
+    faulty_frame : valid_record r ≡ true → is_pair bytes ≡ true → judged.number ≢ 0 → Case (marked judged.number judged.place r)
+    not_conflicting : valid_record r ≡ true → is_pair bytes ≡ true → judged.number ≡ 0 → conflicting (first_frame bytes) (second bytes) ≡ false
         → Case (marked 18 0 r)
-    leader-marked : valid_record r ≡ true → is_pair bytes ≡ true → judged.number ≡ 0 → conflicting (first_frame bytes) (second bytes) ≡ true
+    leader_marked : valid_record r ≡ true → is_pair bytes ≡ true → judged.number ≡ 0 → conflicting (first_frame bytes) (second bytes) ≡ true
         → Case (marked 0 0 (with_mark r (leader (setup_of r) (round (first_frame bytes)))))
 
   -- the answer is one of these
-  pub by-case : Case (equivocation_with hash r bytes)
+  pub by_case : Case (equivocation_with hash r bytes)
   unfolding equivocation_with accusing
-  by-case =
-      by_cond Case (not (valid_record r)) (λ e. invalid-record (not-true _ e))
+  by_case =
+      by_cond Case (not (valid_record r)) (λ e. invalid_record (not-true _ e))
       (λ v. by_cond Case (is_pair bytes)
       (λ p. by_cond Case (eqb judged.number 0)
-      (λ j. by_cond Case (conflicting (first_frame bytes) (second bytes)) (leader-marked (not-false _ v) p (eqb-true _ _ j))
-      (not-conflicting (not-false _ v) p (eqb-true _ _ j)))
-      (λ j. faulty-frame (not-false _ v) p (eqb-false _ _ j))) (not-pair (not-false _ v)))
+      (λ j. by_cond Case (conflicting (first_frame bytes) (second bytes)) (leader_marked (not-false _ v) p (eqb-true _ _ j))
+      (not_conflicting (not-false _ v) p (eqb-true _ _ j)))
+      (λ j. faulty_frame (not-false _ v) p (eqb-false _ _ j))) (not_pair (not-false _ v)))
 
   -- and whichever holds is the answer
-  pub case-is : (a : Marked) → Case a → a ≡ equivocation_with hash r bytes
+  pub case_is : (a : Marked) → Case a → a ≡ equivocation_with hash r bytes
   unfolding equivocation_with accusing
-  case-is a (invalid-record v) = rw v
-  case-is a (not-pair v p) = rw (v, p)
-  case-is a (faulty-frame v p j) = rw (v, p, ne_eqb judged.number 0 j)
-  case-is a (not-conflicting v p j c) = rw (v, p, eq-eqb judged.number 0 j, c)
-  case-is a (leader-marked v p j c) = rw (v, p, eq-eqb judged.number 0 j, c)
+  case_is a (invalid_record v) = rw v
+  case_is a (not_pair v p) = rw (v, p)
+  case_is a (faulty_frame v p j) = rw (v, p, ne_eqb judged.number 0 j)
+  case_is a (not_conflicting v p j c) = rw (v, p, eq-eqb judged.number 0 j, c)
+  case_is a (leader_marked v p j c) = rw (v, p, eq-eqb judged.number 0 j, c)

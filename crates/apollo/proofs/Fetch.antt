@@ -7,10 +7,10 @@ use lib.Dec.{ltb}
 use Rattle.apollo.specs.Frame.{height}
 use Rattle.apollo.specs.Fetch.{above}
 
-pub above-append : (h : ℕ) (xs ys : List (List ℕ)) → above h (xs ++ ys) ≡ above h xs ++ above h ys
+pub above_append : (h : ℕ) (xs ys : List (List ℕ)) → above h (xs ++ ys) ≡ above h xs ++ above h ys
 unfolding above
-above-append h [] ys = refl
-above-append h (x ∷ xs) ys = go (ltb h (height x)) (above-append h xs ys)
+above_append h [] ys = refl
+above_append h (x ∷ xs) ys = go (ltb h (height x)) (above_append h xs ys)
   where
     go : (b : Bool) → above h (xs ++ ys) ≡ above h xs ++ above h ys
         → cond b (x ∷ above h (xs ++ ys)) (above h (xs ++ ys)) ≡ cond b (x ∷ above h xs) (above h xs) ++ above h ys

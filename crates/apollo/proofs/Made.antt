@@ -9,7 +9,7 @@ use lib.Seq.{drop_at, take_at, take_all}
 use lib.Dec.{eqb, leb, ltb}
 use borrow.Author.Tests.{lt-ltb, le-leb, eq-eqb}
 use Rattle.sha256.specs.Fips.{sha256}
-use Rattle.sha256.proofs.Hash.{digest-length}
+use Rattle.sha256.proofs.Hash.{digest_length}
 use Rattle.apollo.specs.Size.{check_at, frame_size}
 use Rattle.apollo.specs.Bytes.{part, number2, number4, bytes2, bytes4, zeros, same, within, blank}
 use Rattle.apollo.specs.declared.Setup.{Setup}
@@ -17,101 +17,101 @@ use Rattle.apollo.specs.Setup.{replicas, leader}
 use Rattle.apollo.specs.Frame.{kind, signer, entry_length, round, height, parent, block_form, blame_form, block_head, blame_head, checked, sealed, make_block, make_blame}
 use Rattle.apollo.specs.BlockRun.{block}
 use Rattle.apollo.proofs.Tests.{both, same_of, within_of}
-use Rattle.apollo.proofs.Slots.{length-zeros}
+use Rattle.apollo.proofs.Slots.{length_zeros}
 
-sealed-checked : (x : List ℕ) → length x ≡ check_at → checked sha256 (sealed sha256 x) ≡ true
+sealed_checked : (x : List ℕ) → length x ≡ check_at → checked sha256 (sealed sha256 x) ≡ true
 unfolding checked sealed
-sealed-checked x l =
+sealed_checked x l =
     let d : drop check_at (x ++ sha256 x) ≡ sha256 x = drop_at x (sha256 x) check_at l in
     let t : take check_at (x ++ sha256 x) ≡ x = take_at x (sha256 x) check_at l in
-    let a : take 32 (sha256 x) ≡ sha256 x = take_all 32 (sha256 x) (omega (arith, digest-length x)) in
+    let a : take 32 (sha256 x) ≡ sha256 x = take_all 32 (sha256 x) (omega (arith, digest_length x)) in
     same_of (ap (take 32) d ∙ a ∙ ap sha256 (sym t))
 
-sealed-length : (x : List ℕ) → length x ≡ check_at → length (sealed sha256 x) ≡ frame_size
+sealed_length : (x : List ℕ) → length x ≡ check_at → length (sealed sha256 x) ≡ frame_size
 unfolding sealed
-sealed-length x l = length-append x (sha256 x) ∙ omega (arith, digest-length x)
+sealed_length x l = length-append x (sha256 x) ∙ omega (arith, digest_length x)
 
-blameHead-length : (i r : ℕ) → length (blame_head i r) ≡ check_at
+blame_head_length : (i r : ℕ) → length (blame_head i r) ≡ check_at
 unfolding blame_head
-blameHead-length i r = simp length-zeros refl
+blame_head_length i r = simp length_zeros refl
 
-pub blame-length : (i r : ℕ) → length (make_blame sha256 i r) ≡ frame_size
+pub blame_length : (i r : ℕ) → length (make_blame sha256 i r) ≡ frame_size
 unfolding make_blame
-blame-length i r = sealed-length (blame_head i r) (blameHead-length i r)
+blame_length i r = sealed_length (blame_head i r) (blame_head_length i r)
 
-pub blame-checked : (i r : ℕ) → checked sha256 (make_blame sha256 i r) ≡ true
+pub blame_checked : (i r : ℕ) → checked sha256 (make_blame sha256 i r) ≡ true
 unfolding make_blame
-blame-checked i r = sealed-checked (blame_head i r) (blameHead-length i r)
+blame_checked i r = sealed_checked (blame_head i r) (blame_head_length i r)
 
-pub blame-round : (i r : ℕ) (rest : List ℕ) → r < 65536 → round (make_blame sha256 i r ++ rest) ≡ r
+pub blame_round : (i r : ℕ) (rest : List ℕ) → r < 65536 → round (make_blame sha256 i r ++ rest) ≡ r
 unfolding number4 make_blame sealed blame_head
-blame-round i r rest l = omega arith
+blame_round i r rest l = omega arith
 
-pub blame-round-alone : (i r : ℕ) → r < 65536 → round (make_blame sha256 i r) ≡ r
+pub blame_round_alone : (i r : ℕ) → r < 65536 → round (make_blame sha256 i r) ≡ r
 unfolding number4 make_blame sealed blame_head
-blame-round-alone i r l = omega arith
+blame_round_alone i r l = omega arith
 
-pub blame-kind : (i r : ℕ) → kind (make_blame sha256 i r) ≡ 2
+pub blame_kind : (i r : ℕ) → kind (make_blame sha256 i r) ≡ 2
 unfolding make_blame sealed blame_head
-blame-kind i r = refl
+blame_kind i r = refl
 
-pub blame-signer : (i r : ℕ) → signer (make_blame sha256 i r) ≡ i
+pub blame_signer : (i r : ℕ) → signer (make_blame sha256 i r) ≡ i
 unfolding make_blame sealed blame_head
-blame-signer i r = refl
+blame_signer i r = refl
 
-blame-blank-length : (i r : ℕ) → blank (make_blame sha256 i r) 2 4 ≡ true
+blame_blank_length : (i r : ℕ) → blank (make_blame sha256 i r) 2 4 ≡ true
 unfolding make_blame sealed blame_head same zeros
-blame-blank-length i r = refl
+blame_blank_length i r = refl
 
-blame-blank : (i r : ℕ) → blank (make_blame sha256 i r) 8 check_at ≡ true
+blame_blank : (i r : ℕ) → blank (make_blame sha256 i r) 8 check_at ≡ true
 unfolding make_blame sealed blame_head
-blame-blank i r = same_of (take_at (zeros 472) _ 472 (length-zeros 472))
+blame_blank i r = same_of (take_at (zeros 472) _ 472 (length_zeros 472))
 
-pub blame-form : (s : Setup) (i r : ℕ) → i < replicas s → 1 ≤ r → r ≤ s.last_round.0 → r < 65536
+pub blame_form_lem : (s : Setup) (i r : ℕ) → i < replicas s → 1 ≤ r → r ≤ s.last_round.0 → r < 65536
     → blame_form s (make_blame sha256 i r) ≡ true
 unfolding blame_form
-blame-form s i r below one last small =
+blame_form_lem s i r below one last small =
     let x : List ℕ = make_blame sha256 i r in
-    let e : round x ≡ r = blame-round-alone i r small in
+    let e : round x ≡ r = blame_round_alone i r small in
     both _ (blank x 8 check_at)
     (both _ (within 1 (round x) s.last_round.0)
     (both _ (blank x 2 4)
-    (both (eqb (kind x) 2) (ltb (signer x) (replicas s)) (eq-eqb (kind x) 2 (blame-kind i r))
-    (lt-ltb (signer x) (replicas s) (omega (arith, blame-signer i r))))
-    (blame-blank-length i r))
+    (both (eqb (kind x) 2) (ltb (signer x) (replicas s)) (eq-eqb (kind x) 2 (blame_kind i r))
+    (lt-ltb (signer x) (replicas s) (omega (arith, blame_signer i r))))
+    (blame_blank_length i r))
     (within_of 1 (round x) s.last_round.0 (omega arith) (omega arith)))
-    (blame-blank i r)
+    (blame_blank i r)
 
 module _ (i r h : ℕ) (up entry : List ℕ) (wide : length up ≡ 32) (fits : length entry ≤ 400) where
-  blockHead-length : length (block_head i r h up entry) ≡ check_at
+  block_head_length : length (block_head i r h up entry) ≡ check_at
   unfolding block_head
-  blockHead-length = simp (length-append, length-zeros, wide) (omega arith)
+  block_head_length = simp (length-append, length_zeros, wide) (omega arith)
 
-  pub block-length : length (make_block sha256 i r h up entry) ≡ frame_size
+  pub block_length : length (make_block sha256 i r h up entry) ≡ frame_size
   unfolding make_block
-  block-length = sealed-length (block_head i r h up entry) blockHead-length
+  block_length = sealed_length (block_head i r h up entry) block_head_length
 
-  block-checked : checked sha256 (make_block sha256 i r h up entry) ≡ true
+  block_checked : checked sha256 (make_block sha256 i r h up entry) ≡ true
   unfolding make_block
-  block-checked = sealed-checked (block_head i r h up entry) blockHead-length
+  block_checked = sealed_checked (block_head i r h up entry) block_head_length
 
-  block-entry : entry_length (make_block sha256 i r h up entry) ≡ length entry
+  block_entry : entry_length (make_block sha256 i r h up entry) ≡ length entry
   unfolding number2 make_block sealed block_head
-  block-entry = omega arith
+  block_entry = omega arith
 
-  pub block-round : r < 65536 → round (make_block sha256 i r h up entry) ≡ r
+  pub block_round : r < 65536 → round (make_block sha256 i r h up entry) ≡ r
   unfolding number4 make_block sealed block_head
-  block-round l = omega arith
+  block_round l = omega arith
 
-  pub block-height : h < 65536 → height (make_block sha256 i r h up entry) ≡ h
+  pub block_height : h < 65536 → height (make_block sha256 i r h up entry) ≡ h
   unfolding number4 make_block sealed block_head
-  block-height l = omega arith
+  block_height l = omega arith
 
   -- the part up to the entry, and the zeros after it
-  block-split : (n : ℕ) → n ≡ length entry
+  block_split : (n : ℕ) → n ≡ length entry
       → part (make_block sha256 i r h up entry) (44 + n) (check_at - (44 + n)) ≡ zeros (check_at - (44 + n))
   unfolding make_block sealed block_head
-  block-split n e =
+  block_split n e =
       let front : List ℕ = 1 ∷ i ∷ (bytes2 (length entry) ++ (bytes4 r ++ (bytes4 h ++ (up ++ entry)))) in
       let size : length front ≡ 44 + n = simp (length-append, wide) (omega arith) in
       let k : 436 - length entry ≡ check_at - (44 + n) = omega arith in
@@ -120,19 +120,19 @@ module _ (i r h : ℕ) (up entry : List ℕ) (wide : length up ≡ 32) (fits : l
       simp (append_assoc, k) refl in
       ap (λ (y : List ℕ). take (check_at - (44 + n)) (drop (44 + n) y)) whole
       ∙ ap (take (check_at - (44 + n))) (drop_at front _ (44 + n) size)
-      ∙ take_at (zeros (check_at - (44 + n))) digest (check_at - (44 + n)) (length-zeros (check_at - (44 + n)))
+      ∙ take_at (zeros (check_at - (44 + n))) digest (check_at - (44 + n)) (length_zeros (check_at - (44 + n)))
 
-  pub block-kind : kind (make_block sha256 i r h up entry) ≡ 1
+  pub block_kind : kind (make_block sha256 i r h up entry) ≡ 1
   unfolding make_block sealed block_head
-  block-kind = refl
+  block_kind = refl
 
-  pub block-signer : signer (make_block sha256 i r h up entry) ≡ i
+  pub block_signer : signer (make_block sha256 i r h up entry) ≡ i
   unfolding make_block sealed block_head
-  block-signer = refl
+  block_signer = refl
 
-  pub block-parent : parent (make_block sha256 i r h up entry) ≡ up
+  pub block_parent : parent (make_block sha256 i r h up entry) ≡ up
   unfolding make_block sealed block_head
-  block-parent =
+  block_parent =
       ap (take 32) (append_assoc up (entry ++ zeros (436 - length entry)) (sha256 (block_head i r h up entry)))
       ∙ take_at up _ 32 wide
 
@@ -141,18 +141,18 @@ module _ (i r h : ℕ) (up entry : List ℕ) (wide : length up ≡ 32) (fits : l
   unfolding block block_form
   block_made s led one last small low high =
       let x : List ℕ = make_block sha256 i r h up entry in
-      let e : round x ≡ r = block-round small in
-      let g : height x ≡ h = block-height (omega arith) in
-      let n : entry_length x ≡ length entry = block-entry in
-      both (eqb (length x) frame_size) _ (eq-eqb (length x) frame_size block-length)
-      (both (checked sha256 x) _ block-checked
+      let e : round x ≡ r = block_round small in
+      let g : height x ≡ h = block_height (omega arith) in
+      let n : entry_length x ≡ length entry = block_entry in
+      both (eqb (length x) frame_size) _ (eq-eqb (length x) frame_size block_length)
+      (both (checked sha256 x) _ block_checked
       (both _ (blank x (44 + entry_length x) check_at)
       (both _ (within 1 (height x) (round x))
       (both _ (within 1 (round x) s.last_round.0)
       (both _ (leb (entry_length x) 400)
-      (both (eqb (kind x) 1) (eqb (signer x) (leader s (round x))) (eq-eqb (kind x) 1 block-kind)
-      (eq-eqb (signer x) (leader s (round x)) (block-signer ∙ led ∙ ap (leader s) (sym e))))
+      (both (eqb (kind x) 1) (eqb (signer x) (leader s (round x))) (eq-eqb (kind x) 1 block_kind)
+      (eq-eqb (signer x) (leader s (round x)) (block_signer ∙ led ∙ ap (leader s) (sym e))))
       (le-leb (entry_length x) 400 (omega arith)))
       (within_of 1 (round x) s.last_round.0 (omega arith) (omega arith)))
       (within_of 1 (height x) (round x) (omega arith) (omega arith)))
-      (same_of (block-split (entry_length x) n))))
+      (same_of (block_split (entry_length x) n))))

@@ -15,18 +15,18 @@ use Rattle.apollo.specs.declared.Setup.{Setup}
 use Rattle.apollo.specs.Bytes.{zeros, blank}
 use Rattle.apollo.specs.Rotation.{seats, each_once, is_rotation, in_turn, padded}
 use Rattle.apollo.specs.Setup.{replicas, leader, valid_rotation}
-use Rattle.apollo.proofs.Tests.{and_first, and_second, and-end, both, same_of}
-use Rattle.apollo.proofs.Slots.{part-zeros}
+use Rattle.apollo.proofs.Tests.{and_first, and_second, and_end, both, same_of}
+use Rattle.apollo.proofs.Slots.{part_zeros}
 
 -- how many seats have a card below n
 unfoldable low : ℕ → List ℕ → ℕ
 low n [] = 0
 low n (x ∷ xs) = cond (ltb x n) 1 0 + low n xs
 
-low-zero : (xs : List ℕ) → low 0 xs ≡ 0
+low_zero : (xs : List ℕ) → low 0 xs ≡ 0
 unfolding low
-low-zero [] = refl
-low-zero (x ∷ xs) = rw (le-ltb x 0 (omega arith)) (omega (arith, low-zero xs))
+low_zero [] = refl
+low_zero (x ∷ xs) = rw (le-ltb x 0 (omega arith)) (omega (arith, low_zero xs))
 
 -- one card more
 one_more : (n x : ℕ) → cond (ltb x (suc n)) 1 0 ≡ cond (eqb x n) 1 0 + cond (ltb x n) 1 0
@@ -42,116 +42,116 @@ one_more n x = go (eqb x n) refl (ltb x n) refl
         let ne : x ≢ n = eqb-false x n e in
         rw (e, d, le-ltb x (suc n) (omega arith))
 
-low-suc : (n : ℕ) (xs : List ℕ) → low (suc n) xs ≡ seats n xs + low n xs
+low_suc : (n : ℕ) (xs : List ℕ) → low (suc n) xs ≡ seats n xs + low n xs
 unfolding low seats
-low-suc n [] = refl
-low-suc n (x ∷ xs) = omega (arith, one_more n x, low-suc n xs)
+low_suc n [] = refl
+low_suc n (x ∷ xs) = omega (arith, one_more n x, low_suc n xs)
 
 at_most_one : (b : Bool) → cond b 1 0 ≤ 1
 at_most_one true = omega arith
 at_most_one false = omega arith
 
-low-le : (n : ℕ) (xs : List ℕ) → low n xs ≤ length xs
+low_le : (n : ℕ) (xs : List ℕ) → low n xs ≤ length xs
 unfolding low
-low-le n [] = omega arith
-low-le n (x ∷ xs) = omega (arith, at_most_one (ltb x n), low-le n xs)
+low_le n [] = omega arith
+low_le n (x ∷ xs) = omega (arith, at_most_one (ltb x n), low_le n xs)
 
 -- where no seat has another card, each has a card below n
-low-all : (n : ℕ) (xs : List ℕ) → low n xs ≡ length xs → (k : ℕ) → k < length xs → get_or xs k 0 < n
+low_all : (n : ℕ) (xs : List ℕ) → low n xs ≡ length xs → (k : ℕ) → k < length xs → get_or xs k 0 < n
 unfolding low
-low-all n [] e k l = absurd (omega arith)
-low-all n (x ∷ xs) e zero l = go (ltb x n) refl
+low_all n [] e k l = absurd (omega arith)
+low_all n (x ∷ xs) e zero l = go (ltb x n) refl
   where
     go : (b : Bool) → ltb x n ≡ b → x < n
     go true d = ltb-true x n d
-    go false d = absurd (omega (arith, (rw d at e), low-le n xs))
-low-all n (x ∷ xs) e (suc k) l = low-all n xs (omega (arith, at_most_one (ltb x n), low-le n xs)) k (omega arith)
+    go false d = absurd (omega (arith, (rw d at e), low_le n xs))
+low_all n (x ∷ xs) e (suc k) l = low_all n xs (omega (arith, at_most_one (ltb x n), low_le n xs)) k (omega arith)
 
 -- a card in two seats
-seats-one : (c : ℕ) (xs : List ℕ) (k : ℕ) → k < length xs → get_or xs k 0 ≡ c → 1 ≤ seats c xs
+seats_one : (c : ℕ) (xs : List ℕ) (k : ℕ) → k < length xs → get_or xs k 0 ≡ c → 1 ≤ seats c xs
 unfolding seats
-seats-one c [] k l e = absurd (omega arith)
-seats-one c (x ∷ xs) zero l e = rw (eq-eqb x c e) (omega arith)
-seats-one c (x ∷ xs) (suc k) l e = omega (arith, seats-one c xs k (omega arith) e)
+seats_one c [] k l e = absurd (omega arith)
+seats_one c (x ∷ xs) zero l e = rw (eq-eqb x c e) (omega arith)
+seats_one c (x ∷ xs) (suc k) l e = omega (arith, seats_one c xs k (omega arith) e)
 
-seats-two : (c : ℕ) (xs : List ℕ) (j k : ℕ) → j < k → k < length xs → get_or xs j 0 ≡ c → get_or xs k 0 ≡ c → 2 ≤ seats c xs
+seats_two : (c : ℕ) (xs : List ℕ) (j k : ℕ) → j < k → k < length xs → get_or xs j 0 ≡ c → get_or xs k 0 ≡ c → 2 ≤ seats c xs
 unfolding seats
-seats-two c [] j k m l e d = absurd (omega arith)
-seats-two c (x ∷ xs) j zero m l e d = absurd (omega arith)
-seats-two c (x ∷ xs) zero (suc k) m l e d = rw (eq-eqb x c e) (omega (arith, seats-one c xs k (omega arith) d))
-seats-two c (x ∷ xs) (suc j) (suc k) m l e d = omega (arith, seats-two c xs j k (omega arith) (omega arith) e d)
+seats_two c [] j k m l e d = absurd (omega arith)
+seats_two c (x ∷ xs) j zero m l e d = absurd (omega arith)
+seats_two c (x ∷ xs) zero (suc k) m l e d = rw (eq-eqb x c e) (omega (arith, seats_one c xs k (omega arith) d))
+seats_two c (x ∷ xs) (suc j) (suc k) m l e d = omega (arith, seats_two c xs j k (omega arith) (omega arith) e d)
 
 -- each card once
-once-at : (n : ℕ) (xs : List ℕ) → each_once n xs ≡ true → (c : ℕ) → c < n → seats c xs ≡ 1
+once_at : (n : ℕ) (xs : List ℕ) → each_once n xs ≡ true → (c : ℕ) → c < n → seats c xs ≡ 1
 unfolding each_once
-once-at zero xs e c l = absurd (omega arith)
-once-at (suc n) xs e c l = go (once-at n xs (and_second (eqb (seats n xs) 1) _ e) c) (eqb c n) refl
+once_at zero xs e c l = absurd (omega arith)
+once_at (suc n) xs e c l = go (once_at n xs (and_second (eqb (seats n xs) 1) _ e) c) (eqb c n) refl
   where
     go : (c < n → seats c xs ≡ 1) → (b : Bool) → eqb c n ≡ b → seats c xs ≡ 1
     go lower true d = ap (λ k. seats k xs) (eqb-true c n d) ∙ eqb-true _ _ (and_first _ (each_once n xs) e)
     go lower false d = let ne : c ≢ n = eqb-false c n d in lower (omega arith)
 
-once-low : (n : ℕ) (xs : List ℕ) → each_once n xs ≡ true → low n xs ≡ n
+once_low : (n : ℕ) (xs : List ℕ) → each_once n xs ≡ true → low n xs ≡ n
 unfolding each_once
-once-low zero xs e = low-zero xs
-once-low (suc n) xs e =
+once_low zero xs e = low_zero xs
+once_low (suc n) xs e =
     omega (
       arith,
-      low-suc n xs,
+      low_suc n xs,
       eqb-true (seats n xs) 1 (and_first _ (each_once n xs) e),
-      once-low n xs (and_second (eqb (seats n xs) 1) _ e),
+      once_low n xs (and_second (eqb (seats n xs) 1) _ e),
     )
 
 module _ (n : ℕ) (xs : List ℕ) (e : is_rotation n xs ≡ true) where
-  pub rotation-length : length xs ≡ n
+  pub rotation_length : length xs ≡ n
   unfolding is_rotation
-  rotation-length = eqb-true _ _ (and_first _ (each_once n xs) e)
+  rotation_length = eqb-true _ _ (and_first _ (each_once n xs) e)
 
   each : each_once n xs ≡ true
   unfolding is_rotation
   each = and_second (eqb (length xs) n) _ e
 
   -- a seat has a card's number
-  pub seat-low : (k : ℕ) → k < n → get_or xs k 0 < n
-  seat-low k l = low-all n xs (once-low n xs each ∙ sym rotation-length) k (omega (arith, rotation-length))
+  pub seat_low : (k : ℕ) → k < n → get_or xs k 0 < n
+  seat_low k l = low_all n xs (once_low n xs each ∙ sym rotation_length) k (omega (arith, rotation_length))
 
   -- two seats have different cards
-  pub seats-differ : (j k : ℕ) → j < k → k < n → get_or xs j 0 ≢ get_or xs k 0
-  seats-differ j k l m d =
+  pub seats_differ : (j k : ℕ) → j < k → k < n → get_or xs j 0 ≢ get_or xs k 0
+  seats_differ j k l m d =
       omega (
         arith,
-        seats-two (get_or xs j 0) xs j k l (omega (arith, rotation-length)) refl (sym d),
-        once-at n xs each (get_or xs j 0) (seat-low j (omega arith)),
+        seats_two (get_or xs j 0) xs j k l (omega (arith, rotation_length)) refl (sym d),
+        once_at n xs each (get_or xs j 0) (seat_low j (omega arith)),
       )
 
 -- no card is lacking: as many seats as cards, or more
-low-least : (n : ℕ) (xs : List ℕ) → ((c : ℕ) → c < n → 1 ≤ seats c xs) → n ≤ low n xs
-low-least zero xs h = omega arith
-low-least (suc n) xs h = omega (arith, low-suc n xs, h n (omega arith), low-least n xs (λ c l. h c (omega arith)))
+low_least : (n : ℕ) (xs : List ℕ) → ((c : ℕ) → c < n → 1 ≤ seats c xs) → n ≤ low n xs
+low_least zero xs h = omega arith
+low_least (suc n) xs h = omega (arith, low_suc n xs, h n (omega arith), low_least n xs (λ c l. h c (omega arith)))
 
-once-of : (n : ℕ) (xs : List ℕ) → ((c : ℕ) → c < n → 1 ≤ seats c xs) → low n xs ≤ n → each_once n xs ≡ true
+once_of : (n : ℕ) (xs : List ℕ) → ((c : ℕ) → c < n → 1 ≤ seats c xs) → low n xs ≤ n → each_once n xs ≡ true
 unfolding each_once
-once-of zero xs h l = refl
-once-of (suc n) xs h l =
+once_of zero xs h l = refl
+once_of (suc n) xs h l =
     let k : (c : ℕ) → c < n → 1 ≤ seats c xs = λ c m. h c (omega arith) in
     both (eqb (seats n xs) 1) (each_once n xs)
-    (eq-eqb (seats n xs) 1 (omega (arith, low-suc n xs, low-least n xs k, h n (omega arith), l)))
-    (once-of n xs k (omega (arith, low-suc n xs, h n (omega arith), l)))
+    (eq-eqb (seats n xs) 1 (omega (arith, low_suc n xs, low_least n xs k, h n (omega arith), l)))
+    (once_of n xs k (omega (arith, low_suc n xs, h n (omega arith), l)))
 
 -- n seats that lack no card of n are a rotation
-pub none-lacks : (n : ℕ) (xs : List ℕ) → length xs ≡ n → ((c : ℕ) → c < n → 1 ≤ seats c xs) → is_rotation n xs ≡ true
+pub none_lacks : (n : ℕ) (xs : List ℕ) → length xs ≡ n → ((c : ℕ) → c < n → 1 ≤ seats c xs) → is_rotation n xs ≡ true
 unfolding is_rotation
-none-lacks n xs e h = both (eqb (length xs) n) (each_once n xs) (eq-eqb (length xs) n e) (once-of n xs h (omega (arith, low-le n xs)))
+none_lacks n xs e h = both (eqb (length xs) n) (each_once n xs) (eq-eqb (length xs) n e) (once_of n xs h (omega (arith, low_le n xs)))
 
 -- and a rotation lacks none
-pub lacks-none : (n : ℕ) (xs : List ℕ) → is_rotation n xs ≡ true → (c : ℕ) → c < n → 1 ≤ seats c xs
-lacks-none n xs e c l = omega (arith, once-at n xs (each n xs e) c l)
+pub lacks_none : (n : ℕ) (xs : List ℕ) → is_rotation n xs ≡ true → (c : ℕ) → c < n → 1 ≤ seats c xs
+lacks_none n xs e c l = omega (arith, once_at n xs (each n xs e) c l)
 
 -- the old turn
-seats-append : (c : ℕ) (xs ys : List ℕ) → seats c (xs ++ ys) ≡ seats c xs + seats c ys
+seats_append : (c : ℕ) (xs ys : List ℕ) → seats c (xs ++ ys) ≡ seats c xs + seats c ys
 unfolding seats
-seats-append c [] ys = omega arith
-seats-append c (x ∷ xs) ys = omega (arith, seats-append c xs ys)
+seats_append c [] ys = omega arith
+seats_append c (x ∷ xs) ys = omega (arith, seats_append c xs ys)
 
 turn_one : (c n : ℕ) → c < n → 1 ≤ seats c (in_turn n)
 unfolding in_turn seats
@@ -159,18 +159,18 @@ turn_one c zero l = absurd (omega arith)
 turn_one c (suc n) l = go (turn_one c n) (eqb n c) refl
   where
     go : (c < n → 1 ≤ seats c (in_turn n)) → (b : Bool) → eqb n c ≡ b → 1 ≤ seats c (in_turn n ++ (n ∷ []))
-    go lower true e = omega (arith, seats-append c (in_turn n) (n ∷ []), ap {B = ℕ} (λ (b : Bool). cond b 1 0) e)
+    go lower true e = omega (arith, seats_append c (in_turn n) (n ∷ []), ap {B = ℕ} (λ (b : Bool). cond b 1 0) e)
     go lower false e =
         let ne : n ≢ c = eqb-false n c e in
-        omega (arith, seats-append c (in_turn n) (n ∷ []), lower (omega arith))
+        omega (arith, seats_append c (in_turn n) (n ∷ []), lower (omega arith))
 
-pub turn-length : (n : ℕ) → length (in_turn n) ≡ n
+pub turn_length : (n : ℕ) → length (in_turn n) ≡ n
 unfolding in_turn
-turn-length zero = refl
-turn-length (suc n) = omega (arith, length-append (in_turn n) (n ∷ []), turn-length n)
+turn_length zero = refl
+turn_length (suc n) = omega (arith, length-append (in_turn n) (n ∷ []), turn_length n)
 
-pub turn-rotation : (n : ℕ) → is_rotation n (in_turn n) ≡ true
-turn-rotation n = none-lacks n (in_turn n) (turn-length n) (λ c. turn_one c n)
+pub turn_rotation : (n : ℕ) → is_rotation n (in_turn n) ≡ true
+turn_rotation n = none_lacks n (in_turn n) (turn_length n) (λ c. turn_one c n)
 
 turn_at : (n k : ℕ) → k < n → get_or (in_turn n) k 0 ≡ k
 unfolding in_turn
@@ -180,41 +180,41 @@ turn_at (suc n) k l = go (turn_at n k) (eqb k n) refl
     go : (k < n → get_or (in_turn n) k 0 ≡ k) → (b : Bool) → eqb k n ≡ b → get_or (in_turn n ++ (n ∷ [])) k 0 ≡ k
     go lower true e =
         let q : k ≡ n = eqb-true k n e in
-        get_or_at (in_turn n) n [] 0 k (turn-length n ∙ sym q) ∙ sym q
+        get_or_at (in_turn n) n [] 0 k (turn_length n ∙ sym q) ∙ sym q
     go lower false e =
         let ne : k ≢ n = eqb-false k n e in
-        get_or-append (in_turn n) (n ∷ []) 0 k (omega (arith, turn-length n)) ∙ lower (omega arith)
+        get_or-append (in_turn n) (n ∷ []) 0 k (omega (arith, turn_length n)) ∙ lower (omega arith)
 
 -- a rotation in a record
-pub padded-seat : (xs : List ℕ) (k : ℕ) → k < length xs → k < 15 → get_or (padded xs) k 0 ≡ get_or xs k 0
+pub padded_seat : (xs : List ℕ) (k : ℕ) → k < length xs → k < 15 → get_or (padded xs) k 0 ≡ get_or xs k 0
 unfolding padded
-padded-seat xs k l m = get_or-take 15 (xs ++ zeros 15) k 0 m ∙ get_or-append xs (zeros 15) 0 k l
+padded_seat xs k l m = get_or-take 15 (xs ++ zeros 15) k 0 m ∙ get_or-append xs (zeros 15) 0 k l
 
-pub turn-seat : (n k : ℕ) → k < n → k < 15 → get_or (padded (in_turn n)) k 0 ≡ k
-turn-seat n k l m = padded-seat (in_turn n) k (omega (arith, turn-length n)) m ∙ turn_at n k l
+pub turn_seat : (n k : ℕ) → k < n → k < 15 → get_or (padded (in_turn n)) k 0 ≡ k
+turn_seat n k l m = padded_seat (in_turn n) k (omega (arith, turn_length n)) m ∙ turn_at n k l
 
 module _ (n : ℕ) (xs : List ℕ) (e : length xs ≡ n) (l : n ≤ 15) where
-  padded-is : padded xs ≡ xs ++ zeros (15 - n)
+  padded_is : padded xs ≡ xs ++ zeros (15 - n)
   unfolding padded
-  padded-is =
+  padded_is =
       let q : 15 ≡ length xs + (15 - n) = omega arith in
       ap (λ k. take k (xs ++ zeros 15)) q ∙ take-append-add xs (zeros 15) (15 - n)
-      ∙ ap (λ (ys : List ℕ). xs ++ ys) (part-zeros 15 0 (15 - n) (omega arith))
+      ∙ ap (λ (ys : List ℕ). xs ++ ys) (part_zeros 15 0 (15 - n) (omega arith))
 
-  pub padded-front : take n (padded xs) ≡ xs
-  padded-front = ap (take n) padded-is ∙ take_at xs (zeros (15 - n)) n e
+  pub padded_front : take n (padded xs) ≡ xs
+  padded_front = ap (take n) padded_is ∙ take_at xs (zeros (15 - n)) n e
 
-  pub padded-blank : blank (padded xs) n 15 ≡ true
-  padded-blank =
+  pub padded_blank : blank (padded xs) n 15 ≡ true
+  padded_blank =
       same_of
-      (ap (λ (ys : List ℕ). take (15 - n) (drop n ys)) padded-is ∙ ap (take (15 - n)) (drop_at xs (zeros (15 - n)) n e)
-      ∙ part-zeros (15 - n) 0 (15 - n) (omega arith))
+      (ap (λ (ys : List ℕ). take (15 - n) (drop n ys)) padded_is ∙ ap (take (15 - n)) (drop_at xs (zeros (15 - n)) n e)
+      ∙ part_zeros (15 - n) 0 (15 - n) (omega arith))
 
 -- The rotation that an open was lent, by what the record then holds: "n long", and each card once.
-pub padded-same : (s : Setup) (xs : List ℕ) → replicas s ≤ 15 → s.rotation ≡ padded xs
+pub padded_same : (s : Setup) (xs : List ℕ) → replicas s ≤ 15 → s.rotation ≡ padded xs
     → eqb (length xs) (replicas s) && valid_rotation s ≡ is_rotation (replicas s) xs
 unfolding valid_rotation is_rotation
-padded-same s xs l q = rw q (go (eqb (length xs) (replicas s)) refl)
+padded_same s xs l q = rw q (go (eqb (length xs) (replicas s)) refl)
   where
     n : ℕ
     n = replicas s
@@ -223,18 +223,18 @@ padded-same s xs l q = rw q (go (eqb (length xs) (replicas s)) refl)
         → b && ((eqb (length (take n (padded xs))) n && each_once n (take n (padded xs))) && blank (padded xs) n 15) ≡ b && each_once n xs
     go true e =
         let d : length xs ≡ n = eqb-true (length xs) n e in
-        rw (padded-front n xs d l, padded-blank n xs d l, e) (and-end (each_once n xs))
+        rw (padded_front n xs d l, padded_blank n xs d l, e) (and_end (each_once n xs))
     go false e = refl
 
 -- and one that a record holds
-pub padded-valid : (s : Setup) (xs : List ℕ) → is_rotation (replicas s) xs ≡ true → replicas s ≤ 15 → s.rotation ≡ padded xs
+pub padded_valid : (s : Setup) (xs : List ℕ) → is_rotation (replicas s) xs ≡ true → replicas s ≤ 15 → s.rotation ≡ padded xs
     → valid_rotation s ≡ true
 unfolding valid_rotation
-padded-valid s xs e l q =
-    let n : length xs ≡ replicas s = rotation-length (replicas s) xs e in
+padded_valid s xs e l q =
+    let n : length xs ≡ replicas s = rotation_length (replicas s) xs e in
     rw q
     (both (is_rotation (replicas s) (take (replicas s) (padded xs))) _
-    (ap (is_rotation (replicas s)) (padded-front (replicas s) xs n l) ∙ e) (padded-blank (replicas s) xs n l))
+    (ap (is_rotation (replicas s)) (padded_front (replicas s) xs n l) ∙ e) (padded_blank (replicas s) xs n l))
 
 -- the seats of a valid rotation, as those of n cards
 module _ (s : Setup) (v : valid_rotation s ≡ true) where
@@ -246,8 +246,8 @@ module _ (s : Setup) (v : valid_rotation s ≡ true) where
   seat k l = get_or-take (replicas s) s.rotation k 0 l
 
   -- a leader is a card's number
-  pub leader-low : (r : ℕ) → leader s r < replicas s
+  pub leader_low : (r : ℕ) → leader s r < replicas s
   unfolding leader
-  leader-low r =
+  leader_low r =
       let l : (r - 1) % replicas s < replicas s = mod-lt (r - 1) (omega arith) in
-      omega (arith, seat ((r - 1) % replicas s) l, seat-low (replicas s) _ seated ((r - 1) % replicas s) l)
+      omega (arith, seat ((r - 1) % replicas s) l, seat_low (replicas s) _ seated ((r - 1) % replicas s) l)

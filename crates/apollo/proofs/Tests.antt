@@ -20,9 +20,9 @@ and_second false b e = absurd (true≢false (sym e))
 pub and-true : (a b : Bool) → (a && b) ≡ true → (a ≡ true) × (b ≡ true)
 and-true a b e = (and_first a b e, and_second a b e)
 
-pub and-end : (a : Bool) → a && true ≡ a
-and-end true = refl
-and-end false = refl
+pub and_end : (a : Bool) → a && true ≡ a
+and_end true = refl
+and_end false = refl
 
 pub and_assoc : (a b c : Bool) → a && (b && c) ≡ a && b && c
 and_assoc true b c = refl
@@ -37,17 +37,17 @@ both true b e d = d
 both false b e d = e
 
 -- one part of a disjunction that holds; both of one that does not
-pub or-true : (a b : Bool) → (a || b) ≡ true → (a ≡ true) ⊎ (b ≡ true)
-or-true true b e = inl refl
-or-true false b e = inr e
+pub or_true : (a b : Bool) → (a || b) ≡ true → (a ≡ true) ⊎ (b ≡ true)
+or_true true b e = inl refl
+or_true false b e = inr e
 
-pub or-false : (a b : Bool) → (a || b) ≡ false → (a ≡ false) × (b ≡ false)
-or-false true b e = absurd (true≢false e)
-or-false false b e = (refl, e)
+pub or_false : (a b : Bool) → (a || b) ≡ false → (a ≡ false) × (b ≡ false)
+or_false true b e = absurd (true≢false e)
+or_false false b e = (refl, e)
 
 -- lo ≤ n ≤ hi, of its test, and back
-pub within-true : (lo n hi : ℕ) → within lo n hi ≡ true → (lo ≤ n) × (n ≤ hi)
-within-true lo n hi e =
+pub within_true : (lo n hi : ℕ) → within lo n hi ≡ true → (lo ≤ n) × (n ≤ hi)
+within_true lo n hi e =
     (leb-true lo n (and_first (leb lo n) (leb n hi) e), leb-true n hi (and_second (leb lo n) (leb n hi) e))
 
 pub within_of : (lo n hi : ℕ) → lo ≤ n → n ≤ hi → within lo n hi ≡ true
@@ -58,11 +58,11 @@ pub by_cond : {A : Type 0} (P : A → Type 0) (b : Bool) {x y : A} → (b ≡ tr
 by_cond P true h k = h refl
 by_cond P false h k = k refl
 
-pub cond-true : {A : Type 0} {b : Bool} (x y : A) → b ≡ true → cond b x y ≡ x
-cond-true {b} x y e = subst⁻¹ (λ (c : Bool). cond c x y ≡ x) e refl
+pub cond_true : {A : Type 0} {b : Bool} (x y : A) → b ≡ true → cond b x y ≡ x
+cond_true {b} x y e = subst⁻¹ (λ (c : Bool). cond c x y ≡ x) e refl
 
-pub cond-false : {A : Type 0} {b : Bool} (x y : A) → b ≡ false → cond b x y ≡ y
-cond-false {b} x y e = subst⁻¹ (λ (c : Bool). cond c x y ≡ y) e refl
+pub cond_false : {A : Type 0} {b : Bool} (x y : A) → b ≡ false → cond b x y ≡ y
+cond_false {b} x y e = subst⁻¹ (λ (c : Bool). cond c x y ≡ y) e refl
 
 pub same_refl : (xs : List ℕ) → same xs xs ≡ true
 unfolding same

@@ -14,38 +14,38 @@ use Rattle.apollo.specs.Bytes.{within}
 use Rattle.apollo.specs.Setup.{setup, setup_of, replicas, valid_rotation, valid_limits, valid_setup, setup_number}
 use Rattle.apollo.specs.Rotation.{is_rotation}
 use Rattle.apollo.specs.Replica.{leads, valid_own, valid_rounds, valid_marks, valid_record, valid_log, valid_replica}
-use Rattle.apollo.proofs.Tests.{and-true, both, by_cond, within-true, within_of}
+use Rattle.apollo.proofs.Tests.{and-true, both, by_cond, within_true, within_of}
 
 -- f and T are in range
 pub record Limits (s : Setup) : Type 0 where
-  pub f-least : 1 ≤ s.f
-  pub f-most : s.f ≤ 7
-  pub last-least : 1 ≤ s.last_round.0
-  pub last-most : s.last_round.0 ≤ 4096
+  pub f_least : 1 ≤ s.f
+  pub f_most : s.f ≤ 7
+  pub last_least : 1 ≤ s.last_round.0
+  pub last_most : s.last_round.0 ≤ 4096
 
 -- own number, f, wait, T and the length of the log are in range
 pub record ValidOpening (r : Replica) (log : List ℕ) : Type 0 where
   pub id_below : r.id < 2 * r.f + 1
-  pub f-least : 1 ≤ r.f
-  pub f-most : r.f ≤ 7
-  pub timeout-least : 1 ≤ r.timeout.0
-  pub timeout-most : r.timeout.0 ≤ 60000
-  pub last-least : 1 ≤ r.last_round.0
-  pub last-most : r.last_round.0 ≤ 4096
+  pub f_least : 1 ≤ r.f
+  pub f_most : r.f ≤ 7
+  pub timeout_least : 1 ≤ r.timeout.0
+  pub timeout_most : r.timeout.0 ≤ 60000
+  pub last_least : 1 ≤ r.last_round.0
+  pub last_most : r.last_round.0 ≤ 4096
   pub size : length log ≡ frame_size * r.last_round.0
 
 -- the other fields are
 pub record Valid (r : Replica) (log : List ℕ) : Type 0 where
   pub setup : ValidOpening r log
   pub rotation : valid_rotation (setup_of r) ≡ true
-  pub round-least : 1 ≤ r.round.0
-  pub round-most : r.round.0 ≤ r.last_round.0 + 1
-  pub timer-most : r.timer.0 ≤ r.timeout.0
-  pub tip-below : r.tip_round.0 < r.round.0
-  pub tip-height : r.tip_height.0 ≤ r.tip_round.0
-  pub committed-most : r.committed_round.0 ≤ r.tip_round.0
-  pub committed-height-most : r.committed_height.0 ≤ r.tip_height.0
-  pub committed-height : r.committed_height.0 ≤ r.committed_round.0
+  pub round_least : 1 ≤ r.round.0
+  pub round_most : r.round.0 ≤ r.last_round.0 + 1
+  pub timer_most : r.timer.0 ≤ r.timeout.0
+  pub tip_below : r.tip_round.0 < r.round.0
+  pub tip_height : r.tip_height.0 ≤ r.tip_round.0
+  pub committed_most : r.committed_round.0 ≤ r.tip_round.0
+  pub committed_height_most : r.committed_height.0 ≤ r.tip_height.0
+  pub committed_height_lem : r.committed_height.0 ≤ r.committed_round.0
   pub marks : r.equivocators < 2 ^ replicas (setup_of r)
   pub waits : leads r ≡ false
 
@@ -53,35 +53,35 @@ pub limits : (s : Setup) → valid_limits s ≡ true → Limits s
 unfolding valid_limits
 limits s e =
     let a = and-true (within 1 s.f 7) (within 1 s.last_round.0 4096) e in
-    let f = within-true 1 s.f 7 a.0 in
-    let l = within-true 1 s.last_round.0 4096 a.1 in
-    record { f-least = f.0; f-most = f.1; last-least = l.0; last-most = l.1 }
+    let f = within_true 1 s.f 7 a.0 in
+    let l = within_true 1 s.last_round.0 4096 a.1 in
+    record { f_least = f.0; f_most = f.1; last_least = l.0; last_most = l.1 }
 
-pub valid-opening : (r : Replica) (log : List ℕ) → valid_limits (setup_of r) ≡ true → valid_own r ≡ true → valid_log r log ≡ true
+pub valid_opening : (r : Replica) (log : List ℕ) → valid_limits (setup_of r) ≡ true → valid_own r ≡ true → valid_log r log ≡ true
     → ValidOpening r log
 unfolding valid_own
-valid-opening r log e o s =
+valid_opening r log e o s =
     let c = and-true (ltb r.id (replicas (setup_of r))) (within 1 r.timeout.0 60000) o in
     let l : Limits (setup_of r) = limits (setup_of r) e in
-    let t : (1 ≤ r.timeout.0) × (r.timeout.0 ≤ 60000) = within-true 1 r.timeout.0 60000 c.1 in
+    let t : (1 ≤ r.timeout.0) × (r.timeout.0 ≤ 60000) = within_true 1 r.timeout.0 60000 c.1 in
     record {
       id_below = ltb-true r.id (replicas (setup_of r)) c.0;
-      f-least = l.f-least;
-      f-most = l.f-most;
-      timeout-least = t.0;
-      timeout-most = t.1;
-      last-least = l.last-least;
-      last-most = l.last-most;
+      f_least = l.f_least;
+      f_most = l.f_most;
+      timeout_least = t.0;
+      timeout_most = t.1;
+      last_least = l.last_least;
+      last_most = l.last_most;
       size = eqb-true (length log) (frame_size * r.last_round.0) s;
     }
 
 opening_of : (r : Replica) (log : List ℕ) → ValidOpening r log → (valid_limits (setup_of r) ≡ true) × (valid_own r ≡ true)
 unfolding valid_limits valid_own
 opening_of r log s = (
-  both (within 1 r.f 7) (within 1 r.last_round.0 4096) (within_of 1 r.f 7 s.f-least s.f-most)
-      (within_of 1 r.last_round.0 4096 s.last-least s.last-most),
+  both (within 1 r.f 7) (within 1 r.last_round.0 4096) (within_of 1 r.f 7 s.f_least s.f_most)
+      (within_of 1 r.last_round.0 4096 s.last_least s.last_most),
   both (ltb r.id (replicas (setup_of r))) (within 1 r.timeout.0 60000) (lt-ltb r.id (replicas (setup_of r)) s.id_below)
-      (within_of 1 r.timeout.0 60000 s.timeout-least s.timeout-most),
+      (within_of 1 r.timeout.0 60000 s.timeout_least s.timeout_most),
 )
 
 -- 1 and 17 of a set-up: which numbers come, and what it has where none does
@@ -89,14 +89,14 @@ module _ (f last : ℕ) (rotation : List ℕ) where
   abbrev lent : Setup
   lent = setup f last rotation
 
-  pub setup-number : (P : ℕ → Type 0) → P 0 → P 1 → P 17 → P (setup_number f last rotation)
+  pub setup_number_lem : (P : ℕ → Type 0) → P 0 → P 1 → P 17 → P (setup_number f last rotation)
   unfolding setup_number
-  setup-number P p0 p1 p17 =
+  setup_number_lem P p0 p1 p17 =
       by_cond P (not (valid_limits lent)) (λ _. p1) (λ _. by_cond P (not (is_rotation (replicas lent) rotation)) (λ _. p17) (λ _. p0))
 
-  pub setup-good : setup_number f last rotation ≡ 0 → (valid_limits lent ≡ true) × (is_rotation (replicas lent) rotation ≡ true)
+  pub setup_good : setup_number f last rotation ≡ 0 → (valid_limits lent ≡ true) × (is_rotation (replicas lent) rotation ≡ true)
   unfolding setup_number
-  setup-good e =
+  setup_good e =
       by_cond (λ n. n ≡ 0 → Good) (not (valid_limits lent)) (λ l v. absurd (omega (arith, v)))
       (λ l. by_cond (λ n. n ≡ 0 → Good) (not (is_rotation (replicas lent) rotation)) (λ t v. absurd (omega (arith, v)))
       (λ t v. (not-false _ l, not-false _ t))) e
@@ -104,9 +104,9 @@ module _ (f last : ℕ) (rotation : List ℕ) where
       Good : Type 0
       Good = (valid_limits lent ≡ true) × (is_rotation (replicas lent) rotation ≡ true)
 
-  pub setup-none : valid_limits lent ≡ true → is_rotation (replicas lent) rotation ≡ true → setup_number f last rotation ≡ 0
+  pub setup_none : valid_limits lent ≡ true → is_rotation (replicas lent) rotation ≡ true → setup_number f last rotation ≡ 0
   unfolding setup_number
-  setup-none l t = rw (l, t)
+  setup_none l t = rw (l, t)
 
 -- the parts of a record's test
 record Parts (r : Replica) : Type 0 where
@@ -128,8 +128,8 @@ parts r e =
     record { limited = n.0; rotation = n.1; own = o.1; rounds = v.1; marks = m.1; waits = not-true (leads r) a.1 }
 
 -- a record by itself: few cards, whose rotation is valid
-pub record-turns : (r : Replica) → valid_record r ≡ true → (r.f ≤ 7) × (valid_rotation (setup_of r) ≡ true)
-record-turns r e = let p : Parts r = parts r e in ((limits (setup_of r) p.limited).f-most, p.rotation)
+pub record_turns : (r : Replica) → valid_record r ≡ true → (r.f ≤ 7) × (valid_rotation (setup_of r) ≡ true)
+record_turns r e = let p : Parts r = parts r e in ((limits (setup_of r) p.limited).f_most, p.rotation)
 
 pub valid : (r : Replica) (log : List ℕ) → valid_replica r log ≡ true → Valid r log
 unfolding valid_replica valid_rounds
@@ -143,49 +143,49 @@ valid r log e =
     let h = and-true _ (ltb r.tip_round.0 r.round.0) g.0 in
     let k = and-true (within 1 r.round.0 (r.last_round.0 + 1)) (leb r.timer.0 r.timeout.0) h.0 in
     let w : (1 ≤ r.round.0) × (r.round.0 ≤ r.last_round.0 + 1) =
-    within-true 1 r.round.0 (r.last_round.0 + 1) k.0 in
+    within_true 1 r.round.0 (r.last_round.0 + 1) k.0 in
     record {
-      setup = valid-opening r log p.limited p.own z.1;
+      setup = valid_opening r log p.limited p.own z.1;
       rotation = p.rotation;
-      round-least = w.0;
-      round-most = w.1;
-      timer-most = leb-true r.timer.0 r.timeout.0 k.1;
-      tip-below = ltb-true r.tip_round.0 r.round.0 h.1;
-      tip-height = leb-true r.tip_height.0 r.tip_round.0 g.1;
-      committed-most = leb-true r.committed_round.0 r.tip_round.0 d.1;
-      committed-height-most = leb-true r.committed_height.0 r.tip_height.0 c.1;
-      committed-height = leb-true r.committed_height.0 r.committed_round.0 b.1;
+      round_least = w.0;
+      round_most = w.1;
+      timer_most = leb-true r.timer.0 r.timeout.0 k.1;
+      tip_below = ltb-true r.tip_round.0 r.round.0 h.1;
+      tip_height = leb-true r.tip_height.0 r.tip_round.0 g.1;
+      committed_most = leb-true r.committed_round.0 r.tip_round.0 d.1;
+      committed_height_most = leb-true r.committed_height.0 r.tip_height.0 c.1;
+      committed_height_lem = leb-true r.committed_height.0 r.committed_round.0 b.1;
       marks = ltb-true r.equivocators (2 ^ replicas (setup_of r)) p.marks;
       waits = p.waits;
     }
 
-rounds-of : (r : Replica) (log : List ℕ) → Valid r log → valid_rounds r ≡ true
+rounds_of : (r : Replica) (log : List ℕ) → Valid r log → valid_rounds r ≡ true
 unfolding valid_rounds
-rounds-of r log s =
+rounds_of r log s =
     both _ (leb r.committed_height.0 r.committed_round.0)
     (both _ (leb r.committed_height.0 r.tip_height.0)
     (both _ (leb r.committed_round.0 r.tip_round.0)
     (both _ (leb r.tip_height.0 r.tip_round.0)
     (both _ (ltb r.tip_round.0 r.round.0)
     (both (within 1 r.round.0 (r.last_round.0 + 1)) (leb r.timer.0 r.timeout.0)
-    (within_of 1 r.round.0 (r.last_round.0 + 1) s.round-least s.round-most)
-    (le-leb r.timer.0 r.timeout.0 s.timer-most))
-    (lt-ltb r.tip_round.0 r.round.0 s.tip-below))
-    (le-leb r.tip_height.0 r.tip_round.0 s.tip-height))
-    (le-leb r.committed_round.0 r.tip_round.0 s.committed-most))
-    (le-leb r.committed_height.0 r.tip_height.0 s.committed-height-most))
-    (le-leb r.committed_height.0 r.committed_round.0 s.committed-height)
+    (within_of 1 r.round.0 (r.last_round.0 + 1) s.round_least s.round_most)
+    (le-leb r.timer.0 r.timeout.0 s.timer_most))
+    (lt-ltb r.tip_round.0 r.round.0 s.tip_below))
+    (le-leb r.tip_height.0 r.tip_round.0 s.tip_height))
+    (le-leb r.committed_round.0 r.tip_round.0 s.committed_most))
+    (le-leb r.committed_height.0 r.tip_height.0 s.committed_height_most))
+    (le-leb r.committed_height.0 r.committed_round.0 s.committed_height_lem)
 
-pub valid-of : (r : Replica) (log : List ℕ) → Valid r log → valid_replica r log ≡ true
+pub valid_of : (r : Replica) (log : List ℕ) → Valid r log → valid_replica r log ≡ true
 unfolding valid_replica valid_record valid_setup
-valid-of r log s =
+valid_of r log s =
     let o = opening_of r log s.setup in
     both (valid_record r) (valid_log r log)
     (both _ (not (leads r))
     (both _ (ltb r.equivocators (2 ^ replicas (setup_of r)))
     (both _ (valid_rounds r)
     (both (valid_limits (setup_of r) && valid_rotation (setup_of r)) (valid_own r)
-    (both (valid_limits (setup_of r)) (valid_rotation (setup_of r)) o.0 s.rotation) o.1) (rounds-of r log s))
+    (both (valid_limits (setup_of r)) (valid_rotation (setup_of r)) o.0 s.rotation) o.1) (rounds_of r log s))
     (lt-ltb r.equivocators (2 ^ replicas (setup_of r)) s.marks))
     (ap not s.waits))
     (eq-eqb (length log) (frame_size * r.last_round.0) s.setup.size)

@@ -116,32 +116,32 @@ pub record Held (s : Setup) (log : List ℕ) : Type 0 where
   pub linked : blocks s none (slot log 1 ∷ slot log 2 ∷ slot log 3 ∷ []) ≡ true
 
 pub record BenchSheet : Type 0 where
-  pub item-1 : (T : ℕ)
+  pub item_1 : (T : ℕ)
       → (leader (setup 1 T (turn 1)) 1 ≡ 0) × (leader (setup 1 T (turn 1)) 3 ≡ 2) × (leader (setup 1 T (turn 1)) 4 ≡ 0)
       × (leader (setup 7 T (turn 7)) 16 ≡ 0)
   -- 2, 3, 4: the chain below R; the tip is its last round
-  pub item-2 : (r : Replica) (log : List ℕ) → r.f ≡ 1
+  pub item_2 : (r : Replica) (log : List ℕ) → r.f ≡ 1
       → (r.round.0 ≡ 3 → chain_rounds log 2 ≡ 1 ∷ 2 ∷ [] → committed_round r log ≡ 1)
       × (r.round.0 ≡ 2 → chain_rounds log 1 ≡ 1 ∷ [] → (committed_round r log ≡ 0) × (committed_height r log ≡ 0))
   -- R is one past the tip, or round 4 is skipped; and so after a call that certifies round 4 and stores no block but its own
-  pub item-3 : ((r : Replica) (log : List ℕ) → r.f ≡ 1
+  pub item_3 : ((r : Replica) (log : List ℕ) → r.f ≡ 1
       → (r.round.0 ≡ 4 → chain_rounds log 3 ≡ 1 ∷ 3 ∷ [] → committed_round r log ≡ 1)
       × (r.round.0 ≡ 5 → chain_rounds log 4 ≡ 1 ∷ 3 ∷ [] → committed_round r log ≡ 3))
       × ((s : State) (entry out : List ℕ) → Item3 s out → length entry ≤ entry_most → new_committed (tick_call s entry out) ≡ 3)
-  pub item-4 : (r : Replica) (log : List ℕ) → r.f ≡ 2 → r.round.0 ≡ 4 → chain_rounds log 3 ≡ 1 ∷ 2 ∷ 3 ∷ []
+  pub item_4 : (r : Replica) (log : List ℕ) → r.f ≡ 2 → r.round.0 ≡ 4 → chain_rounds log 3 ≡ 1 ∷ 2 ∷ 3 ∷ []
       → committed_round r log ≡ 1
-  pub item-5 : (T : ℕ) (rotation masks : List ℕ) (r : ℕ)
+  pub item_5 : (T : ℕ) (rotation masks : List ℕ) (r : ℕ)
       → (mask masks r ≡ 3 → certified (setup 1 T rotation) masks r ≡ true)
       × (mask masks r ≡ 1 → certified (setup 1 T rotation) masks r ≡ false)
       × (mask masks r ≡ 21 → certified (setup 2 T rotation) masks r ≡ true)
   -- a branch of x and xs, whole frames that pass the tests before 10
-  pub item-6 : (s : State) (x : List ℕ) (xs : List (List ℕ)) (entry out : List ℕ) → Callable s out → length entry ≤ entry_most
+  pub item_6 : (s : State) (x : List ℕ) (xs : List (List ℕ)) (entry out : List ℕ) → Callable s out → length entry ≤ entry_most
       → s.replica.round.0 ≡ 3 → length (x ∷ xs) ≤ s.replica.last_round.0
       → blocks (setup_of s.replica) none (x ∷ xs) ≡ true
       → (round (last_of x xs) ≡ 2 → number (branch_call s (flatten (x ∷ xs)) entry out) ≡ 10)
       × (round (last_of x xs) ≡ 3 → ¬ (number (branch_call s (flatten (x ∷ xs)) entry out) ≡ 10))
   -- open, then branch, blame, blames and tick
-  pub item-7 : ((id f timeout T : ℕ) (rotation log masks entry out : List ℕ) → Openable id f timeout T rotation log masks out
+  pub item_7 : ((id f timeout T : ℕ) (rotation log masks entry out : List ℕ) → Openable id f timeout T rotation log masks out
       → (length entry ≡ 400 → number (open_call id f timeout T rotation log masks entry out) ≡ 0)
       × (length entry ≡ 401 → number (open_call id f timeout T rotation log masks entry out) ≡ 5))
       × ((s : State) (bytes entry out : List ℕ) → Callable s out
@@ -151,7 +151,7 @@ pub record BenchSheet : Type 0 where
       × (length entry ≡ 401 → (number (branch_call s bytes entry out) ≡ 5) × (number (blame_call s bytes entry out) ≡ 5)
       × (number (blames_call s bytes entry out) ≡ 5) × (number (tick_call s entry out) ≡ 5)))
   -- ticks on a state that has the whole timeout left
-  pub item-8 : (s : State) (entry out entry' out' : List ℕ) → Callable s out → length entry ≤ entry_most → length entry' ≤ entry_most
+  pub item_8 : (s : State) (entry out entry' out' : List ℕ) → Callable s out → length entry ≤ entry_most → length entry' ≤ entry_most
       → out_least ≤ length out' → s.replica.timer ≡ s.replica.timeout
       → (s.replica.timeout.0 ≡ 1
       → Blames (setup_of s.replica) (tick_call s entry out) s.replica.id s.replica.round.0)
@@ -159,13 +159,13 @@ pub record BenchSheet : Type 0 where
       × Blames (setup_of s.replica) (tick_call (state_of (tick_call s entry out)) entry' out') s.replica.id
       s.replica.round.0)
   -- It is taken if round 2 is not committed, else 12 may be the answer; with R = 3 and f = 1 no call commits it.
-  pub item-9 : (s : State) (x entry out : List ℕ) → Item9 s x out → length entry ≤ entry_most
+  pub item_9 : (s : State) (x entry out : List ℕ) → Item9 s x out → length entry ≤ entry_most
       → (mask s.masks 2 ≡ 1 → (number (branch_call s x entry out) ≡ 13) × (place (branch_call s x entry out) ≡ 2))
       × (mask s.masks 2 ≡ 3 → s.replica.committed_round.0 ≤ 1 → (number (branch_call s x entry out) ≡ 0)
       × (s.replica.id ≡ 1 → new_round (branch_call s x entry out) ≡ 4)
       × (s.replica.id ≡ 0 → new_round (branch_call s x entry out) ≡ 5))
   -- the committed round; a block x for round 4 whose parent is in round 1; a child y of the held frame 3 in round 4
-  pub item-10 : (s : State) (entry out : List ℕ) → Item10 s out → length entry ≤ entry_most
+  pub item_10 : (s : State) (entry out : List ℕ) → Item10 s out → length entry ≤ entry_most
       → (s.replica.committed_round.0 ≡ 2)
       × ((x : List ℕ) → block (setup_of s.replica) x ≡ true → round x ≡ 4 → ParentIn s.log x 1
       → (certified (setup_of s.replica) s.masks 2 ≡ true → certified (setup_of s.replica) s.masks 3 ≡ true
@@ -175,7 +175,7 @@ pub record BenchSheet : Type 0 where
       × ((y : List ℕ) → Held (setup_of s.replica) s.log → block (setup_of s.replica) y ≡ true
       → linked (slot s.log 3) y ≡ true → round y ≡ 4
       → number (branch_call s (slot s.log 1 ++ slot s.log 2 ++ slot s.log 3 ++ y) entry out) ≡ 0)
-  pub item-11 : (f timeout : ℕ) (log masks entry out entry' out' : List ℕ)
+  pub item_11 : (f timeout : ℕ) (log masks entry out entry' out' : List ℕ)
       → Openable 0 f timeout 1 (turn f) log masks out → length entry ≤ entry_most
       → (number (open_call 0 f timeout 1 (turn f) log masks entry out) ≡ 0)
       × ((open_call 0 f timeout 1 (turn f) log masks entry out).answer.frames ≡ 1)

@@ -22,6 +22,6 @@ one_blame s x entry out =
 
 pub record SetOfOne : Type 0 where
   -- the call blame is document 01's, and names no 16
-  pub blame-is : (s : State) (x entry out : List ℕ) → blame_call s x entry out ≡ guarded s entry out (one_blame s x entry out)
+  pub blame_is : (s : State) (x entry out : List ℕ) → blame_call s x entry out ≡ guarded s entry out (one_blame s x entry out)
   -- blames of one frame answers and leaves what blame of it does
-  pub blames-is : (s : State) (x entry out : List ℕ) → length x ≡ frame_size → blames_call s x entry out ≡ blame_call s x entry out
+  pub blames_is : (s : State) (x entry out : List ℕ) → length x ≡ frame_size → blames_call s x entry out ≡ blame_call s x entry out

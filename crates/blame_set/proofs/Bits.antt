@@ -14,9 +14,9 @@ use Rattle.apollo.specs.declared.Verdict.{Verdict}
 use Rattle.apollo.specs.Bytes.{part}
 use Rattle.apollo.specs.Frame.{signer, blame_form}
 use Rattle.apollo.specs.Judging.{verdict, fault, judged_each}
-use Rattle.frame.proofs.Frames.{rest, rest-next, frame-part}
-use Rattle.frame_forms.proofs.Facts.{BlameFields, blame-fields}
-use Rattle.apollo.proofs.Fault.{fault-none}
+use Rattle.frame.proofs.Frames.{rest, rest_next, frame_part}
+use Rattle.frame_forms.proofs.Facts.{BlameFields, blame_fields}
+use Rattle.apollo.proofs.Fault.{fault_none}
 use Rattle.blame_set.specs.Set.{HaveBits}
 
 none_first : (z : Bool) (k i : ℕ) (v : Verdict) → eqb k 0 ≡ z → (cond z v (verdict k i)).number ≡ 0 → (k ≡ 0) × (v.number ≡ 0)
@@ -24,25 +24,25 @@ none_first true k i v e h = (eqb-true k 0 e, h)
 none_first false k i v e h = absurd (eqb-false k 0 e h)
 
 -- the frames of a set that nothing refuses passed 7 and 8
-pub none-second : (w z : Bool) (u v : Verdict) → eqb v.number 0 ≡ z → (cond w (cond z u v) (verdict 6 0)).number ≡ 0 → v.number ≡ 0
-none-second true true u v e h = eqb-true v.number 0 e
-none-second true false u v e h = h
-none-second false z u v e h = absurd (omega arith)
+pub none_second : (w z : Bool) (u v : Verdict) → eqb v.number 0 ≡ z → (cond w (cond z u v) (verdict 6 0)).number ≡ 0 → v.number ≡ 0
+none_second true true u v e h = eqb-true v.number 0 e
+none_second true false u v e h = h
+none_second false z u v e h = absurd (omega arith)
 
-pub each-has-bit : (s : Setup) → s.f ≤ 7 → (i : ℕ) (xs : List (List ℕ)) → (judged_each sha256 (blame_form s) i xs).number ≡ 0 → HaveBits xs
+pub each_has_bit : (s : Setup) → s.f ≤ 7 → (i : ℕ) (xs : List (List ℕ)) → (judged_each sha256 (blame_form s) i xs).number ≡ 0 → HaveBits xs
 unfolding judged_each
-each-has-bit s l i [] e = tt
-each-has-bit s l i (x ∷ xs) e =
+each_has_bit s l i [] e = tt
+each_has_bit s l i (x ∷ xs) e =
     let k : ℕ = fault sha256 (blame_form s) x in
     let p = none_first (eqb k 0) k i (judged_each sha256 (blame_form s) (i + 1) xs) refl e in
-    let f : BlameFields s x = blame-fields s x (fault-none sha256 (blame_form s) x p.0).1 in
-    (omega (arith, f.by-replica), each-has-bit s l (i + 1) xs p.1)
+    let f : BlameFields s x = blame_fields s x (fault_none sha256 (blame_form s) x p.0).1 in
+    (omega (arith, f.by_replica), each_has_bit s l (i + 1) xs p.1)
 
 -- frame i, and those after it
-pub bits-rest : (b : List ℕ) (n i : ℕ) → i < n → HaveBits (rest b n i)
+pub bits_rest : (b : List ℕ) (n i : ℕ) → i < n → HaveBits (rest b n i)
     → (signer (part b (frame_size * i) frame_size) < 16) × HaveBits (rest b n (i + 1))
-bits-rest b n i h m = rw (rest-next b n i h) at m
+bits_rest b n i h m = rw (rest_next b n i h) at m
 
-pub bits-lent : (b : List ℕ) (n i : ℕ) → i < n → HaveBits (rest b n i)
+pub bits_lent : (b : List ℕ) (n i : ℕ) → i < n → HaveBits (rest b n i)
     → signer (take (frame_size * i + frame_size - frame_size * i) (drop (frame_size * i) b)) < 16
-bits-lent b n i h m = rw (frame-part b (frame_size * i)) (bits-rest b n i h m).0
+bits_lent b n i h m = rw (frame_part b (frame_size * i)) (bits_rest b n i h m).0

@@ -10,7 +10,7 @@ use Rattle.apollo.specs.Bytes.{part}
 use Rattle.apollo.specs.Frame.{signer, round}
 use Rattle.apollo.specs.Masks.{bit, set_bit, mask, add_blame}
 use Rattle.apollo.specs.Blame.{one_set, any_fresh, add_blames}
-use Rattle.frame.proofs.Frames.{rest, rest-next, rest_end, frame-part}
+use Rattle.frame.proofs.Frames.{rest, rest_next, rest_end, frame_part}
 
 -- frame i of the n frames of b, as the code lends it
 module _ (b : List ℕ) (n i : ℕ) where
@@ -21,25 +21,25 @@ module _ (b : List ℕ) (n i : ℕ) where
   x = part b (frame_size * i) frame_size
 
   lent_is : lent ≡ x
-  lent_is = frame-part b (frame_size * i)
+  lent_is = frame_part b (frame_size * i)
 
   -- 16
   module _ (r before : ℕ) (goal : Bool) (e : one_set r before (rest b n i) ≡ goal) where
     module _ (h : i < n) (c : Bool) (d : c ≡ (eqb (round lent) r && not (bit (signer lent) before))) where
-      joins-is : c ≡ (eqb (round x) r && not (bit (signer x) before))
-      joins-is = rw lent_is at d
+      joins_is : c ≡ (eqb (round x) r && not (bit (signer x) before))
+      joins_is = rw lent_is at d
 
-      pub set-stop : c ≡ false → false ≡ goal
+      pub set_stop : c ≡ false → false ≡ goal
       unfolding one_set
-      set-stop z = rw (rest-next b n i h, ← joins-is, z) at e
+      set_stop z = rw (rest_next b n i h, ← joins_is, z) at e
 
       pub set_more : (m : ℕ) → c ≡ true → m ≡ set_bit (signer lent) before → one_set r m (rest b n (i + 1)) ≡ goal
       unfolding one_set
-      set_more m z f = rw (f, lent_is) (rw (rest-next b n i h, ← joins-is, z) at e)
+      set_more m z f = rw (f, lent_is) (rw (rest_next b n i h, ← joins_is, z) at e)
 
-    pub set-end : n ≤ i → true ≡ goal
+    pub set_end : n ≤ i → true ≡ goal
     unfolding one_set
-    set-end h = rw (rest_end b n i h) at e
+    set_end h = rw (rest_end b n i h) at e
 
   module _ (masks : List ℕ) where
     -- 10
@@ -48,24 +48,24 @@ module _ (b : List ℕ) (n i : ℕ) where
         bit_is : c ≡ bit (signer x) (mask masks (round x))
         bit_is = rw lent_is at d
 
-        pub fresh-found : c ≡ false → true ≡ goal
+        pub fresh_found : c ≡ false → true ≡ goal
         unfolding any_fresh
-        fresh-found z = rw (rest-next b n i h, ← bit_is, z) at e
+        fresh_found z = rw (rest_next b n i h, ← bit_is, z) at e
 
-        pub fresh-more : c ≡ true → any_fresh masks (rest b n (i + 1)) ≡ goal
+        pub fresh_more : c ≡ true → any_fresh masks (rest b n (i + 1)) ≡ goal
         unfolding any_fresh
-        fresh-more z = rw (rest-next b n i h, ← bit_is, z) at e
+        fresh_more z = rw (rest_next b n i h, ← bit_is, z) at e
 
-      pub fresh-end : n ≤ i → false ≡ goal
+      pub fresh_end : n ≤ i → false ≡ goal
       unfolding any_fresh
-      fresh-end h = rw (rest_end b n i h) at e
+      fresh_end h = rw (rest_end b n i h) at e
 
     -- the bits
     module _ (goal : List ℕ) (e : add_blames masks (rest b n i) ≡ goal) where
       pub added_more : (y : List ℕ) → i < n → y ≡ add_blame masks (round lent) (signer lent) → add_blames y (rest b n (i + 1)) ≡ goal
       unfolding add_blames
-      added_more y h d = rw (d, lent_is) (rw (rest-next b n i h) at e)
+      added_more y h d = rw (d, lent_is) (rw (rest_next b n i h) at e)
 
-      pub added-end : n ≤ i → masks ≡ goal
+      pub added_end : n ≤ i → masks ≡ goal
       unfolding add_blames
-      added-end h = rw (rest_end b n i h) at e
+      added_end h = rw (rest_end b n i h) at e

@@ -23,43 +23,43 @@ module _ (r : Replica) (masks b : List ℕ) where
     round_is : q ≡ round (first_frame b)
     round_is = rw ex at eq
 
-    pub not-one : c ≡ false → verdict 16 0 ≡ judged_together r masks b
+    pub not_one : c ≡ false → verdict 16 0 ≡ judged_together r masks b
     unfolding judged_together
-    not-one z = rw (← set_is, z)
+    not_one z = rw (← set_is, z)
 
     module _ (t : c ≡ true) where
-      pub is-early : r.round.0 < q → verdict 14 0 ≡ judged_together r masks b
+      pub is_early : r.round.0 < q → verdict 14 0 ≡ judged_together r masks b
       unfolding judged_together
-      is-early h = rw (← set_is, t, ← round_is, lt-ltb r.round.0 q h)
+      is_early h = rw (← set_is, t, ← round_is, lt-ltb r.round.0 q h)
 
       module _ (h : q ≤ r.round.0) (f : Bool) (g : f ≡ any_fresh masks (frames_of b)) where
-        pub is-stale : f ≡ false → verdict 10 0 ≡ judged_together r masks b
+        pub is_stale : f ≡ false → verdict 10 0 ≡ judged_together r masks b
         unfolding judged_together
-        is-stale z = rw (← set_is, t, ← round_is, le-ltb r.round.0 q h, ← g, z)
+        is_stale z = rw (← set_is, t, ← round_is, le-ltb r.round.0 q h, ← g, z)
 
-        pub is-taken : f ≡ true → no_refusal ≡ judged_together r masks b
+        pub is_taken : f ≡ true → no_refusal ≡ judged_together r masks b
         unfolding judged_together
-        is-taken z = rw (← set_is, t, ← round_is, le-ltb r.round.0 q h, ← g, z)
+        is_taken z = rw (← set_is, t, ← round_is, le-ltb r.round.0 q h, ← g, z)
 
   -- 7 and 8
   module _ (s : Setup) (q : s ≡ setup_of r) (v : Verdict) (p : v ≡ judged_each sha256 (blame_form s) 0 (frames_of b)) where
-    each-is : v ≡ judged_each sha256 (blame_form (setup_of r)) 0 (frames_of b)
-    each-is = rw q at p
+    each_is : v ≡ judged_each sha256 (blame_form (setup_of r)) 0 (frames_of b)
+    each_is = rw q at p
 
-    pub frames-faulty : (v.number ≡ 0 → ⊥) → v ≡ judged_frames r masks b
+    pub frames_faulty : (v.number ≡ 0 → ⊥) → v ≡ judged_frames r masks b
     unfolding judged_frames
-    frames-faulty n = rw (← each-is, ne_eqb v.number 0 n)
+    frames_faulty n = rw (← each_is, ne_eqb v.number 0 n)
 
-    pub frames-sound : (u : Verdict) → v.number ≡ 0 → u ≡ judged_together r masks b → u ≡ judged_frames r masks b
+    pub frames_sound : (u : Verdict) → v.number ≡ 0 → u ≡ judged_together r masks b → u ≡ judged_frames r masks b
     unfolding judged_frames
-    frames-sound u z e = rw (← each-is, eq-eqb v.number 0 z) e
+    frames_sound u z e = rw (← each_is, eq-eqb v.number 0 z) e
 
   -- 6
   module _ (most : ℕ) (w : Bool) (e : w ≡ whole_frames most b) where
-    pub set-cut : w ≡ false → verdict 6 0 ≡ judged_set most r masks b
+    pub set_cut : w ≡ false → verdict 6 0 ≡ judged_set most r masks b
     unfolding judged_set
-    set-cut f = rw (← e, f)
+    set_cut f = rw (← e, f)
 
-    pub set-whole : (u : Verdict) → w ≡ true → u ≡ judged_frames r masks b → u ≡ judged_set most r masks b
+    pub set_whole : (u : Verdict) → w ≡ true → u ≡ judged_frames r masks b → u ≡ judged_set most r masks b
     unfolding judged_set
-    set-whole u t d = rw (← e, t) d
+    set_whole u t d = rw (← e, t) d

@@ -12,7 +12,7 @@ use Rattle.apollo.specs.declared.Setup.{Setup}
 use Rattle.apollo.specs.Frame.{round}
 use Rattle.apollo.specs.Masks.{certified, gap}
 use Rattle.apollo.specs.Branch.{first_uncertified}
-use Rattle.frame.proofs.Frames.{rest, rest-next, rest_end, frame-part}
+use Rattle.frame.proofs.Frames.{rest, rest_next, rest_end, frame_part}
 use Rattle.branch_rounds.specs.declared.Gap.TheVariants.{Uncertified, Closed}
 use Rattle.branch_rounds.specs.Answers.{gap_at}
 
@@ -45,7 +45,7 @@ module _ (s : Setup) (masks : List ℕ) where
   pub enter : (b : List ℕ) (lo n i to : ℕ) → i < n → to ≡ round (take (frame_size * i + frame_size - frame_size * i) (drop (frame_size * i) b))
       → onward lo to (rest b n (i + 1)) ≡ first_uncertified s masks lo (rest b n i)
   unfolding onward first_uncertified
-  enter b lo n i to h e = rw (rest-next b n i h, e, frame-part b (frame_size * i))
+  enter b lo n i to h e = rw (rest_next b n i h, e, frame_part b (frame_size * i))
 
   pub end : (b : List ℕ) (lo n i : ℕ) → n ≤ i → 0 ≡ first_uncertified s masks lo (rest b n i)
   unfolding first_uncertified
@@ -56,7 +56,7 @@ pub told_none : (q : ℕ) → 0 ≡ q → Closed ≡ gap_at q
 unfolding gap_at
 told_none q e = ap gap_at e
 
-pub told-round : (p q : ℕ) → 0 < p → p ≡ q → Uncertified p ≡ gap_at q
+pub told_round : (p q : ℕ) → 0 < p → p ≡ q → Uncertified p ≡ gap_at q
 unfolding gap_at
-told-round p zero h e = absurd (omega arith)
-told-round p (suc q) h e = ap Uncertified e
+told_round p zero h e = absurd (omega arith)
+told_round p (suc q) h e = ap Uncertified e

@@ -19,26 +19,26 @@ module _ (r : Replica) (log : List ℕ) (h : ℕ) (out : List ℕ) where
   Answers a after = fetched a after ≡ fetch_call r log h out
 
   module _ (v : Bool) (e : v ≡ valid_replica r log) where
-    pub fetch-invalid : (a : Fetched) → a ≡ no_frames 2 → v ≡ false → Answers a out
+    pub fetch_invalid : (a : Fetched) → a ≡ no_frames 2 → v ≡ false → Answers a out
     unfolding fetch_call
-    fetch-invalid a i f = rw (i, ← e, f)
+    fetch_invalid a i f = rw (i, ← e, f)
 
     module _ (t : v ≡ true) where
-      pub fetch-short : (a : Fetched) → a ≡ no_frames 4 → length out < 1024 → Answers a out
+      pub fetch_short : (a : Fetched) → a ≡ no_frames 4 → length out < 1024 → Answers a out
       unfolding fetch_call
-      fetch-short a i s = rw (i, ← e, t, lt-ltb (length out) 1024 s)
+      fetch_short a i s = rw (i, ← e, t, lt-ltb (length out) 1024 s)
 
       module _ (wide : 1024 ≤ length out) (k : ℕ) (after : List ℕ) (d : k ≡ fetch_count r log h out)
           (c : after ≡ flatten (take k (fetchable r log h)) ++ drop (frame_size * k) out) where
-        pub fetch-absent : (a : Fetched) → a ≡ no_frames 15 → k ≡ 0 → Answers a after
+        pub fetch_absent : (a : Fetched) → a ≡ no_frames 15 → k ≡ 0 → Answers a after
         unfolding fetch_call flatten
-        fetch-absent a i z =
+        fetch_absent a i z =
             let w : after ≡ out = rw z at c in
             rw (i, ← e, t, le-ltb (length out) 1024 wide, eq-eqb (length (fetchable r log h)) 0 (omega arith), w)
 
-        pub fetch-copied : (k ≡ 0 → ⊥) → Answers (record { number = 0; count = k }) after
+        pub fetch_copied : (k ≡ 0 → ⊥) → Answers (record { number = 0; count = k }) after
         unfolding fetch_call
-        fetch-copied n =
+        fetch_copied n =
             rw (
               ← e,
               t,

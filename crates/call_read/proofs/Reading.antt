@@ -19,20 +19,20 @@ use Rattle.apollo.proofs.Validity.{Valid, valid}
 use Rattle.call_read.specs.Answers.{no_part, entry_part}
 
 module _ (r : Replica) (log : List ℕ) (h : ℕ) (v : Bool) (e : v ≡ valid_replica r log) where
-  pub read-invalid : v ≡ false → no_part 2 ≡ (read_call r log h).answer
+  pub read_invalid : v ≡ false → no_part 2 ≡ (read_call r log h).answer
   unfolding read_call
-  read-invalid f = rw (← e, f)
+  read_invalid f = rw (← e, f)
 
   -- a log of T slots has all rounds up to the committed one
-  pub committed-fits : v ≡ true → frame_size * r.committed_round.0 ≤ length log
-  committed-fits t =
+  pub committed_fits : v ≡ true → frame_size * r.committed_round.0 ≤ length log
+  committed_fits t =
       let w : Valid r log = valid r log (sym e ∙ t) in
-      omega (arith, w.setup.size, w.round-most, w.tip-below, w.committed-most)
+      omega (arith, w.setup.size, w.round_most, w.tip_below, w.committed_most)
 
   module _ (t : v ≡ true) (q : ℕ) (d : q ≡ lowest log h 0 r.committed_round.0) where
-    pub read-absent : q ≡ 0 → no_part 15 ≡ (read_call r log h).answer
+    pub read_absent : q ≡ 0 → no_part 15 ≡ (read_call r log h).answer
     unfolding read_call
-    read-absent z = rw (← e, t, ← d, eq-eqb q 0 z)
+    read_absent z = rw (← e, t, ← d, eq-eqb q 0 z)
 
     pub read_found : (q ≡ 0 → ⊥) → entry_part log q ≡ (read_call r log h).answer
     unfolding read_call
@@ -46,38 +46,38 @@ shown log true b m n k s l o e = rw e
 shown log false true m n k s l o e = rw e
 shown log false false m n k s l o e = rw e
 
-pub read-bytes : (r : Replica) (log : List ℕ) (h : ℕ) → part log (read_call r log h).answer.start (read_call r log h).answer.length ≡ (read_call r log h).bytes
+pub read_bytes : (r : Replica) (log : List ℕ) (h : ℕ) → part log (read_call r log h).answer.start (read_call r log h).answer.length ≡ (read_call r log h).bytes
 unfolding read_call
-read-bytes r log h =
+read_bytes r log h =
     let q : ℕ = lowest log h 0 r.committed_round.0 in
     shown log (not (valid_replica r log)) (eqb q 0) 2 15 0 (frame_size * (q - 1) + 44) (entry_length (slot log q)) (read_call r log h) refl
 
 -- the lowest slot, if there is one, is one of those looked at, and readable
-lowest-found : (log : List ℕ) (h lo k : ℕ) → (lowest log h lo k ≡ 0 → ⊥)
+lowest_found : (log : List ℕ) (h lo k : ℕ) → (lowest log h lo k ≡ 0 → ⊥)
     → (lowest log h lo k ≤ lo + k) × (readable (slot log (lowest log h lo k)) h ≡ true)
 unfolding lowest
-lowest-found log h lo zero = λ n. absurd (n refl)
-lowest-found log h lo (suc k) =
+lowest_found log h lo zero = λ n. absurd (n refl)
+lowest_found log h lo (suc k) =
     by_cond (λ q. (q ≡ 0 → ⊥) → (q ≤ lo + suc k) × (readable (slot log q) h ≡ true)) (readable (slot log (lo + 1)) h) (λ e n. (omega arith, e))
-    (λ e n. let i : (lowest log h (lo + 1) k ≤ lo + 1 + k) × (readable (slot log (lowest log h (lo + 1) k)) h ≡ true) = lowest-found log h (lo + 1) k n in
+    (λ e n. let i : (lowest log h (lo + 1) k ≤ lo + 1 + k) × (readable (slot log (lowest log h (lo + 1) k)) h ≡ true) = lowest_found log h (lo + 1) k n in
     (omega (arith, i.0), i.1))
 
-entry-low : (x : List ℕ) (h : ℕ) → readable x h ≡ true → entry_length x ≤ 400
+entry_low : (x : List ℕ) (h : ℕ) → readable x h ≡ true → entry_length x ≤ 400
 unfolding readable
-entry-low x h e = leb-true (entry_length x) 400 (and_second (filled x && eqb (height x) h) (leb (entry_length x) 400) e)
+entry_low x h e = leb-true (entry_length x) 400 (and_second (filled x && eqb (height x) h) (leb (entry_length x) 400) e)
 
 -- the part lies in the log, whole
-pub part-fits : (r : Replica) (log : List ℕ) (h : ℕ) → (read_call r log h).answer.start + (read_call r log h).answer.length ≤ length log
+pub part_fits : (r : Replica) (log : List ℕ) (h : ℕ) → (read_call r log h).answer.start + (read_call r log h).answer.length ≤ length log
 unfolding read_call
-part-fits r log h =
+part_fits r log h =
     let Fits : ReadOutcome → Type 0 = λ o. o.answer.start + o.answer.length ≤ length log in
     let q : ℕ = lowest log h 0 r.committed_round.0 in
     by_cond Fits (not (valid_replica r log)) (λ _. omega arith)
     (λ v. by_cond Fits (eqb q 0) (λ _. omega arith)
     (λ n.
     let some : (q ≡ 0 → ⊥) = eqb-false q 0 n in
-    let found : (q ≤ 0 + r.committed_round.0) × (readable (slot log q) h ≡ true) = lowest-found log h 0 r.committed_round.0 some in
-    let within : frame_size * r.committed_round.0 ≤ length log = committed-fits r log h true (sym (not-false _ v)) refl in
+    let found : (q ≤ 0 + r.committed_round.0) × (readable (slot log q) h ≡ true) = lowest_found log h 0 r.committed_round.0 some in
+    let within : frame_size * r.committed_round.0 ≤ length log = committed_fits r log h true (sym (not-false _ v)) refl in
     let g : frame_size * (q - 1) + 44 + entry_length (slot log q) ≤ length log =
-    omega (arith, found.0, within, entry-low (slot log q) h found.1) in
+    omega (arith, found.0, within, entry_low (slot log q) h found.1) in
     g))

@@ -19,15 +19,15 @@ use Rattle.apollo.specs.Replica.{with_timer}
 use Rattle.apollo.specs.Enter.{State, Effect, waiting, hearing, settle, state}
 use Rattle.apollo.specs.Outcome.{Outcome, next_leader, taken, outcome}
 use Rattle.apollo.specs.Tick.{blaming, ticked, tick_with}
-use Rattle.frame_writing.proofs.Make.{length-blame}
+use Rattle.frame_writing.proofs.Make.{length_blame}
 use Rattle.refusals.specs.Number.{guard_of}
 use Rattle.refusals.proofs.Passed.{Passed, passed}
-use Rattle.refusals.proofs.Answer.{guarded-by}
+use Rattle.refusals.proofs.Answer.{guarded_by}
 use Rattle.tip.specs.Ready.{Ready}
 use Rattle.rounds.specs.Rounds.{told}
-use Rattle.rounds.proofs.Few.{settle-few}
+use Rattle.rounds.proofs.Few.{settle_few}
 use Rattle.calls.specs.Refused.{refused_answer}
-use Rattle.calls.proofs.Answers.{refused-by, taken-by, passed-ready}
+use Rattle.calls.proofs.Answers.{refused_by, taken_by, passed_ready}
 
 -- an answer with one more frame
 abbrev pub more : Answer → Answer
@@ -71,63 +71,63 @@ module _ (r : Replica) (log masks entry out : List ℕ) where
   counted k false e = rw (ne_eqb r.timer.0 1 k)
 
   module _ (n : ℕ) (en : n ≡ guard_of r log masks (length entry) (length out)) where
-    pub tick-refused : (a : Answer) → (n ≡ 0 → ⊥) → a ≡ refused_answer r n 0
+    pub tick_refused : (a : Answer) → (n ≡ 0 → ⊥) → a ≡ refused_answer r n 0
         → outcome a log masks out ≡ tick_with sha256 (state r log masks) entry out
     unfolding tick_with
-    tick-refused a h ea = refused-by (state r log masks) out _ _ n en a h ea ∙ sym (guarded-by (state r log masks) entry out _)
+    tick_refused a h ea = refused_by (state r log masks) out _ _ n en a h ea ∙ sym (guarded_by (state r log masks) entry out _)
 
     module _ (z : n ≡ 0) where
-      pub tick-passed : Passed r log (length entry) (length out)
-      tick-passed = passed r log masks (length entry) (length out) (sym en ∙ z)
+      pub tick_passed : Passed r log (length entry) (length out)
+      tick_passed = passed r log masks (length entry) (length out) (sym en ∙ z)
 
-      tick-effect : (o : Outcome) → o ≡ taken (ticked sha256 entry (state r log masks)) out
+      tick_effect : (o : Outcome) → o ≡ taken (ticked sha256 entry (state r log masks)) out
           → o ≡ tick_with sha256 (state r log masks) entry out
       unfolding tick_with
-      tick-effect o e = e ∙ taken-by (state r log masks) out _ _ n en z ∙ sym (guarded-by (state r log masks) entry out _)
+      tick_effect o e = e ∙ taken_by (state r log masks) out _ _ n en z ∙ sym (guarded_by (state r log masks) entry out _)
 
-      pub tick-down : (a : Answer) → (r.timer.0 ≡ 1 → ⊥) → a ≡ told (with_timer r (r.timer.0 - 1)) 0
+      pub tick_down : (a : Answer) → (r.timer.0 ≡ 1 → ⊥) → a ≡ told (with_timer r (r.timer.0 - 1)) 0
           → outcome a log masks out ≡ tick_with sha256 (state r log masks) entry out
       unfolding ticked
-      tick-down a k ea =
-          tick-effect (outcome a log masks out)
+      tick_down a k ea =
+          tick_effect (outcome a log masks out)
           (ap (λ (x : Answer). outcome x log masks out) ea ∙ counted k (eqb r.timer.0 0) refl)
 
       -- ticks left reach 0: what is heard on the out buffer after the blame
       module _ (out' : List ℕ) (eo : out' ≡ make_blame sha256 r.id r.round.0 ++ drop frame_size out) where
-        after-blame : take (length out' - frame_size) (drop frame_size out') ≡ drop frame_size out
-        after-blame =
+        after_blame : take (length out' - frame_size) (drop frame_size out') ≡ drop frame_size out
+        after_blame =
             let l : length (drop frame_size out') ≤ length out' - frame_size = rw length-drop (omega arith) in
-            take_all (length out' - frame_size) (drop frame_size out') l ∙ ap (drop frame_size) eo ∙ drop_at (make_blame sha256 r.id r.round.0) (drop frame_size out) frame_size (length-blame r.id r.round.0)
+            take_all (length out' - frame_size) (drop frame_size out') l ∙ ap (drop frame_size) eo ∙ drop_at (make_blame sha256 r.id r.round.0) (drop frame_size out) frame_size (length_blame r.id r.round.0)
 
-        pub tick-asks : (q : Replica) → q ≡ with_timer r 0
+        pub tick_asks : (q : Replica) → q ≡ with_timer r 0
             → Ready q log entry (take (length out' - frame_size) (drop frame_size out')) × (q.round.0 ≤ q.last_round.0) × (r.id < 16)
-        tick-asks q eq =
-            let p = tick-passed in
-            rw (after-blame, eq)
-            (passed-ready r log entry out p 0 (drop frame_size out) (rw length-drop (omega (arith, p.out-least))), p.round-last, omega (arith, p.valid.setup.id_below, p.valid.setup.f-most))
+        tick_asks q eq =
+            let p = tick_passed in
+            rw (after_blame, eq)
+            (passed_ready r log entry out p 0 (drop frame_size out) (rw length-drop (omega (arith, p.out_least_lem))), p.round_last, omega (arith, p.valid.setup.id_below, p.valid.setup.f_most))
 
-        pub tick-out : (y log' masks' : List ℕ) (q : Replica) (a : Answer) → r.timer.0 ≡ 1 → q ≡ with_timer r 0
+        pub tick_out : (y log' masks' : List ℕ) (q : Replica) (a : Answer) → r.timer.0 ≡ 1 → q ≡ with_timer r 0
             → outcome a log' masks' y
             ≡ taken (settle sha256 entry (hearing (state q log masks) r.round.0 r.id) r.round.0) (take (length out' - frame_size) (drop frame_size out'))
             → outcome (more a) log' masks' (put_mid frame_size (length out' - frame_size) out' y)
             ≡ tick_with sha256 (state r log masks) entry out
         unfolding ticked blaming waiting
-        tick-out y log' masks' q a t eq h =
+        tick_out y log' masks' q a t eq h =
             let R : ℕ = r.round.0 in
             let B : List ℕ = make_blame sha256 r.id R in
             let s : State = waiting (state r log masks) R 0 in
-            let f : take frame_size out' ≡ B = ap (take frame_size) eo ∙ take_at B (drop frame_size out) frame_size (length-blame r.id R) in
+            let f : take frame_size out' ≡ B = ap (take frame_size) eo ∙ take_at B (drop frame_size out) frame_size (length_blame r.id R) in
             let l : length (drop frame_size out') ≤ length out' - frame_size = rw length-drop (omega arith) in
             let p : put_mid frame_size (length out' - frame_size) out' y ≡ B ++ y = rw (f, drop_of_length-le (drop frame_size out') l, append-nil) in
-            let e : outcome a log' masks' y ≡ taken (settle sha256 entry (hearing s R r.id) R) (drop frame_size out) = rw (eq, after-blame) at h in
-            tick-effect (outcome (more a) log' masks' (put_mid frame_size (length out' - frame_size) out' y))
+            let e : outcome a log' masks' y ≡ taken (settle sha256 entry (hearing s R r.id) R) (drop frame_size out) = rw (eq, after_blame) at h in
+            tick_effect (outcome (more a) log' masks' (put_mid frame_size (length out' - frame_size) out' y))
             (rw (ne_eqb r.timer.0 0 (omega arith), eq-eqb r.timer.0 1 t)
             (ap (outcome (more a) log' masks') p ∙ taken_more B out log' masks' y (settle sha256 entry (hearing s R r.id) R) a e))
 
 -- a blame that is heard emits at most one frame
-pub frames-few : (entry out log masks y : List ℕ) (s : State) (k : ℕ) (a : Answer)
+pub frames_few : (entry out log masks y : List ℕ) (s : State) (k : ℕ) (a : Answer)
     → outcome a log masks y ≡ taken (settle sha256 entry s k) out → a.frames ≤ 1
 unfolding taken
-frames-few entry out log masks y s k a e =
+frames_few entry out log masks y s k a e =
     let n : a.frames ≡ length (settle sha256 entry s k).emitted = ap (λ (o : Outcome). o.answer.frames) e in
-    omega (arith, settle-few entry s k)
+    omega (arith, settle_few entry s k)

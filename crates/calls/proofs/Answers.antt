@@ -17,25 +17,25 @@ use Rattle.calls.specs.Refused.{refused_answer}
 
 -- a call's answer by the number that refuses it, for any number n that is m
 module _ (s : State) (out : List ℕ) (m : ℕ) (o : Outcome) (n : ℕ) (e : n ≡ m) where
-  pub refused-by : (a : Answer) → (n ≡ 0 → ⊥) → a ≡ refused_answer s.replica n 0
+  pub refused_by : (a : Answer) → (n ≡ 0 → ⊥) → a ≡ refused_answer s.replica n 0
       → outcome a s.log s.masks out ≡ by_number m o (λ k. refused s out k 0)
   unfolding refused
-  refused-by a h ea = rw (← e, ne_eqb n 0 h, ea)
+  refused_by a h ea = rw (← e, ne_eqb n 0 h, ea)
 
-  pub taken-by : n ≡ 0 → o ≡ by_number m o (λ k. refused s out k 0)
-  taken-by z = rw (← e, eq-eqb n 0 z)
+  pub taken_by : n ≡ 0 → o ≡ by_number m o (λ k. refused s out k 0)
+  taken_by z = rw (← e, eq-eqb n 0 z)
 
 module _ (r : Replica) (log entry out : List ℕ) where
-  pub passed-ready : Passed r log (length entry) (length out) → (t : ℕ) (y : List ℕ) → frame_size ≤ length y → Ready (with_timer r t) log entry y
-  passed-ready p t y h =
+  pub passed_ready : Passed r log (length entry) (length out) → (t : ℕ) (y : List ℕ) → frame_size ≤ length y → Ready (with_timer r t) log entry y
+  passed_ready p t y h =
       let v = p.valid in
       record {
-        f-most = v.setup.f-most;
-        last-most = v.setup.last-most;
+        f_most = v.setup.f_most;
+        last_most = v.setup.last_most;
         size = v.setup.size;
-        round-most = v.round-most;
-        tip-below = v.tip-below;
-        tip-height = v.tip-height;
-        out-least = h;
-        entry-most = p.entry-most;
+        round_most = v.round_most;
+        tip_below = v.tip_below;
+        tip_height = v.tip_height;
+        out_least_lem = h;
+        entry_most_lem = p.entry_most_lem;
       }

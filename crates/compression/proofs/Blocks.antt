@@ -4,16 +4,16 @@ use Rattle.compression.specs.declared.State.{State}
 use Rattle.compression.specs.Fips.{block, compress, hash}
 
 -- one block more
-pub hash-more : (h : State) (p : List ℕ) (k : ℕ) → hash h p (k + 1) ≡ compress (hash h p k) (block p k)
+pub hash_more : (h : State) (p : List ℕ) (k : ℕ) → hash h p (k + 1) ≡ compress (hash h p k) (block p k)
 unfolding hash
-hash-more h p k = rw add-one refl
+hash_more h p k = rw add-one refl
 
-pub hash-step : (h : State) (p : List ℕ) (v r : State) (k : ℕ) → v ≡ hash h p k
+pub hash_step : (h : State) (p : List ℕ) (v r : State) (k : ℕ) → v ≡ hash h p k
     → r ≡ compress v (take (64 * k + 64 - 64 * k) (drop (64 * k) p)) → r ≡ hash h p (k + 1)
-hash-step h p v r k e q =
+hash_step h p v r k e q =
     let n : 64 * k + 64 - 64 * k ≡ 64 = omega arith in
-    rw hash-more (q ∙ ap₂ compress e (rw n))
+    rw hash_more (q ∙ ap₂ compress e (rw n))
 
 -- the count of blocks in another form
-pub hash-end : (h : State) (p : List ℕ) (v : State) (k n : ℕ) → k ≤ n → n ≤ k → v ≡ hash h p k → v ≡ hash h p n
-hash-end h p v k n l g e = rw (← le_antisymm l g) e
+pub hash_end : (h : State) (p : List ℕ) (v : State) (k n : ℕ) → k ≤ n → n ≤ k → v ≡ hash h p k → v ≡ hash h p n
+hash_end h p v k n l g e = rw (← le_antisymm l g) e

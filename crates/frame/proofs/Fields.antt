@@ -12,23 +12,23 @@ use Rattle.apollo.proofs.Tests.{and_no}
 use Rattle.apollo.specs.Frame.{height, parent, digest, linked}
 
 -- a height that is one more
-height-next : (a h : ℕ) → (h ≡ 0 → ⊥) → eqb a (h - 1) ≡ eqb (a + 1) h
-height-next a zero n = absurd (n refl)
-height-next a (suc h) n = let e : suc h - 1 ≡ h = omega arith in rw (e, add-one) (sym (eqb-suc-suc a h))
+height_next : (a h : ℕ) → (h ≡ 0 → ⊥) → eqb a (h - 1) ≡ eqb (a + 1) h
+height_next a zero n = absurd (n refl)
+height_next a (suc h) n = let e : suc h - 1 ≡ h = omega arith in rw (e, add-one) (sym (eqb-suc-suc a h))
 
 module _ (p x d y : List ℕ) (b : Bool) (ed : d ≡ digest p) (ey : y ≡ parent x) (eb : b ≡ same d y) where
-  pub link-name : b ≡ false → false ≡ linked p x
+  pub link_name : b ≡ false → false ≡ linked p x
   unfolding linked
-  link-name t = let f : same (digest p) (parent x) ≡ false = sym (rw (ed, ey) at eb) ∙ t in rw f
+  link_name t = let f : same (digest p) (parent x) ≡ false = sym (rw (ed, ey) at eb) ∙ t in rw f
 
-  pub link-zero : (h : ℕ) → h ≡ height x → h ≡ 0 → false ≡ linked p x
+  pub link_zero : (h : ℕ) → h ≡ height x → h ≡ 0 → false ≡ linked p x
   unfolding linked
-  link-zero h e z =
+  link_zero h e z =
       let n : height p + 1 ≡ height x → ⊥ = omega arith in
       simp (ne_eqb (height p + 1) (height x) n, and_no)
 
-  pub link-height : (g h : ℕ) → g ≡ height p → h ≡ height x → b ≡ true → (h ≡ 0 → ⊥) → eqb g (h - 1) ≡ linked p x
+  pub link_height : (g h : ℕ) → g ≡ height p → h ≡ height x → b ≡ true → (h ≡ 0 → ⊥) → eqb g (h - 1) ≡ linked p x
   unfolding linked
-  link-height g h eg eh t n =
+  link_height g h eg eh t n =
       let f : same (digest p) (parent x) ≡ true = sym (rw (ed, ey) at eb) ∙ t in
-      rw (f, eg, eh) (height-next (height p) (height x) (rw eh at n))
+      rw (f, eg, eh) (height_next (height p) (height x) (rw eh at n))

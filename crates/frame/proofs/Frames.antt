@@ -14,12 +14,12 @@ use Rattle.apollo.specs.Frame.{frames}
 abbrev pub rest : (b : List ℕ) (n i : ℕ) → List (List ℕ)
 rest b n i = frames (n - i) (drop (frame_size * i) b)
 
-pub rest-start : (b : List ℕ) (n : ℕ) → rest b n 0 ≡ frames n b
-rest-start b n = rw sub-zero
+pub rest_start : (b : List ℕ) (n : ℕ) → rest b n 0 ≡ frames n b
+rest_start b n = rw sub-zero
 
-pub rest-next : (b : List ℕ) (n i : ℕ) → i < n → rest b n i ≡ part b (frame_size * i) frame_size ∷ rest b n (i + 1)
+pub rest_next : (b : List ℕ) (n i : ℕ) → i < n → rest b n i ≡ part b (frame_size * i) frame_size ∷ rest b n (i + 1)
 unfolding frames
-rest-next b n i h =
+rest_next b n i h =
     let q : n - i ≡ suc (n - (i + 1)) = omega arith in
     let p : frame_size * i + frame_size ≡ frame_size * (i + 1) = omega arith in
     rw q
@@ -33,7 +33,7 @@ rest_end b n i h =
     rw z
 
 -- the part that the code lends
-pub frame-part : (b : List ℕ) (s : ℕ) → take (s + frame_size - s) (drop s b) ≡ part b s frame_size
-frame-part b s =
+pub frame_part : (b : List ℕ) (s : ℕ) → take (s + frame_size - s) (drop s b) ≡ part b s frame_size
+frame_part b s =
     let z : s + frame_size - s ≡ frame_size = omega arith in
     rw z

@@ -6,59 +6,59 @@ use native.Mathlib.Omega.{arith}
 use lib.ListN.{length, take, drop, length-append}
 use lib.Seq.{take_at}
 use Rattle.sha256.specs.Fips.{sha256}
-use Rattle.sha256.proofs.Hash.{digest-length}
+use Rattle.sha256.proofs.Hash.{digest_length}
 use Rattle.apollo.specs.Size.{check_at, frame_size}
 use Rattle.apollo.specs.Bytes.{bytes2, bytes4, zeros}
 use Rattle.apollo.specs.Frame.{block_head, blame_head, sealed, make_block, make_blame}
 use Rattle.frame_writing.specs.Put.{Written}
-use Rattle.apollo.proofs.Slots.{length-zeros}
-use Rattle.frame_writing.proofs.Writes.{Begun, begun-start, begun_more}
+use Rattle.apollo.proofs.Slots.{length_zeros}
+use Rattle.frame_writing.proofs.Writes.{Begun, begun_start, begun_more}
 
-length-block-head : (id r h : ℕ) (parent entry : List ℕ) → length parent ≡ 32 → length entry ≤ 400
+length_block_head : (id r h : ℕ) (parent entry : List ℕ) → length parent ≡ 32 → length entry ≤ 400
     → length (block_head id r h parent entry) ≡ check_at
 unfolding block_head
-length-block-head id r h parent entry p e = simp (length-append, length-zeros) (omega arith)
+length_block_head id r h parent entry p e = simp (length-append, length_zeros) (omega arith)
 
-length-blame-head : (id r : ℕ) → length (blame_head id r) ≡ check_at
+length_blame_head : (id r : ℕ) → length (blame_head id r) ≡ check_at
 unfolding blame_head
-length-blame-head id r = simp (length-append, length-zeros)
+length_blame_head id r = simp (length-append, length_zeros)
 
-length-sealed : (x : List ℕ) → length x ≡ check_at → length (sealed sha256 x) ≡ frame_size
+length_sealed : (x : List ℕ) → length x ≡ check_at → length (sealed sha256 x) ≡ frame_size
 unfolding sealed
-length-sealed x e = length-append x (sha256 x) ∙ ap₂ (λ a b. a + b) e (digest-length x)
+length_sealed x e = length-append x (sha256 x) ∙ ap₂ (λ a b. a + b) e (digest_length x)
 
 -- For all later use: a frame that is made has 512 bytes.
-pub length-block : (id r h : ℕ) (parent entry : List ℕ) → length parent ≡ 32 → length entry ≤ 400
+pub length_block : (id r h : ℕ) (parent entry : List ℕ) → length parent ≡ 32 → length entry ≤ 400
     → length (make_block sha256 id r h parent entry) ≡ frame_size
 unfolding make_block
-length-block id r h parent entry p e = length-sealed _ (length-block-head id r h parent entry p e)
+length_block id r h parent entry p e = length_sealed _ (length_block_head id r h parent entry p e)
 
-pub length-blame : (id r : ℕ) → length (make_blame sha256 id r) ≡ frame_size
+pub length_blame : (id r : ℕ) → length (make_blame sha256 id r) ≡ frame_size
 unfolding make_blame
-length-blame id r = length-sealed _ (length-blame-head id r)
+length_blame id r = length_sealed _ (length_blame_head id r)
 
 -- the bytes before the check are written, then the check
-written-frame : (x out₀ out out' : List ℕ) → length x ≡ check_at → Begun out₀ x out → Written out check_at (sha256 (take check_at out)) out'
+written_frame : (x out₀ out out' : List ℕ) → length x ≡ check_at → Begun out₀ x out → Written out check_at (sha256 (take check_at out)) out'
     → out' ≡ sealed sha256 x ++ drop frame_size out₀
 unfolding sealed
-written-frame x out₀ out out' l b w =
+written_frame x out₀ out out' l b w =
     let t : take check_at out ≡ x = ap (take check_at) b.bytes ∙ take_at x (drop (length x) out₀) check_at l in
     let g : Begun out₀ (x ++ sha256 (take check_at out)) out' = begun_more check_at l b w in
-    let n : length (x ++ sha256 x) ≡ frame_size = length-append x (sha256 x) ∙ ap₂ (λ p q. p + q) l (digest-length x) in
+    let n : length (x ++ sha256 x) ≡ frame_size = length-append x (sha256 x) ∙ ap₂ (λ p q. p + q) l (digest_length x) in
     g.bytes ∙ rw (t, n)
 
 -- the pieces of a block, and of a blame
-pub written-block : (id r h : ℕ) (parent entry start out₀ out₁ out₂ out₃ out₄ out₅ : List ℕ)
+pub written_block : (id r h : ℕ) (parent entry start out₀ out₁ out₂ out₃ out₄ out₅ : List ℕ)
     → length parent ≡ 32 → length entry ≤ 400 → start ≡ 1 ∷ id ∷ (bytes2 (length entry) ++ (bytes4 r ++ bytes4 h))
     → Written out₀ 0 start out₁ → Written out₁ 12 parent out₂ → Written out₂ 44 entry out₃
     → Written out₃ (44 + length entry) (zeros (check_at - (44 + length entry))) out₄
     → Written out₄ check_at (sha256 (take check_at out₄)) out₅ → out₅ ≡ make_block sha256 id r h parent entry ++ drop frame_size out₀
 unfolding make_block block_head
-written-block id r h parent entry start out₀ out₁ out₂ out₃ out₄ out₅ p e s w₁ w₂ w₃ w₄ w₅ =
+written_block id r h parent entry start out₀ out₁ out₂ out₃ out₄ out₅ p e s w₁ w₂ w₃ w₄ w₅ =
     let z : List ℕ = zeros (check_at - (44 + length entry)) in
     let q : check_at - (44 + length entry) ≡ 436 - length entry = omega arith in
     let l : length start ≡ 12 = ap length s in
-    let b₂ : Begun out₀ (start ++ parent) out₂ = begun_more 12 l (begun_more 0 refl (begun-start out₀) w₁) w₂ in
+    let b₂ : Begun out₀ (start ++ parent) out₂ = begun_more 12 l (begun_more 0 refl (begun_start out₀) w₁) w₂ in
     let l₂ : length (start ++ parent) ≡ 44 = length-append start parent ∙ ap₂ (λ a b. a + b) l p in
     let b₃ : Begun out₀ ((start ++ parent) ++ entry) out₃ = begun_more 44 l₂ b₂ w₃ in
     let l₃ : length ((start ++ parent) ++ entry) ≡ 44 + length entry =
@@ -66,13 +66,13 @@ written-block id r h parent entry start out₀ out₁ out₂ out₃ out₄ out�
     let b₄ : Begun out₀ (((start ++ parent) ++ entry) ++ z) out₄ = begun_more (44 + length entry) l₃ b₃ w₄ in
     let x : ((start ++ parent) ++ entry) ++ z ≡ block_head id r h parent entry =
     simp append_assoc (rw (s, q)) in
-    written-frame (block_head id r h parent entry) out₀ out₄ out₅ (length-block-head id r h parent entry p e) (rw x at b₄) w₅
+    written_frame (block_head id r h parent entry) out₀ out₄ out₅ (length_block_head id r h parent entry p e) (rw x at b₄) w₅
 
-pub written-blame : (id r : ℕ) (start out₀ out₁ out₂ out₃ : List ℕ)
+pub written_blame : (id r : ℕ) (start out₀ out₁ out₂ out₃ : List ℕ)
     → start ≡ 2 ∷ id ∷ 0 ∷ 0 ∷ bytes4 r → Written out₀ 0 start out₁ → Written out₁ 8 (zeros 472) out₂
     → Written out₂ check_at (sha256 (take check_at out₂)) out₃ → out₃ ≡ make_blame sha256 id r ++ drop frame_size out₀
 unfolding make_blame blame_head
-written-blame id r start out₀ out₁ out₂ out₃ s w₁ w₂ w₃ =
-    let b : Begun out₀ (start ++ zeros 472) out₂ = begun_more 8 (ap length s) (begun_more 0 refl (begun-start out₀) w₁) w₂ in
+written_blame id r start out₀ out₁ out₂ out₃ s w₁ w₂ w₃ =
+    let b : Begun out₀ (start ++ zeros 472) out₂ = begun_more 8 (ap length s) (begun_more 0 refl (begun_start out₀) w₁) w₂ in
     let x : start ++ zeros 472 ≡ blame_head id r = rw s in
-    written-frame (blame_head id r) out₀ out₂ out₃ (length-blame-head id r) (rw x at b) w₃
+    written_frame (blame_head id r) out₀ out₂ out₃ (length_blame_head id r) (rw x at b) w₃

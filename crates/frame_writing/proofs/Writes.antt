@@ -11,8 +11,8 @@ pub record Begun (out₀ xs out : List ℕ) : Type 0 where
   pub bytes : out ≡ xs ++ drop (length xs) out₀
   pub size : length out ≡ length out₀
 
-pub begun-start : (out : List ℕ) → Begun out [] out
-begun-start out = record { bytes = refl; size = refl }
+pub begun_start : (out : List ℕ) → Begun out [] out
+begun_start out = record { bytes = refl; size = refl }
 
 pub begun_more : {out₀ xs ys out out' : List ℕ} (k : ℕ) → length xs ≡ k → Begun out₀ xs out → Written out k ys out'
     → Begun out₀ (xs ++ ys) out'

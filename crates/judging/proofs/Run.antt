@@ -16,8 +16,8 @@ use Rattle.apollo.specs.declared.Verdict.{Verdict}
 use Rattle.apollo.specs.Frame.{frames}
 use Rattle.apollo.specs.Judging.{verdict, no_refusal}
 use Rattle.apollo.specs.BlockRun.{faulty, judged_next, judged_run}
-use Rattle.apollo.proofs.Frames.{frames-split}
-use Rattle.frame.proofs.Frames.{rest, rest-next, rest_end, frame-part}
+use Rattle.apollo.proofs.Frames.{frames_split}
+use Rattle.frame.proofs.Frames.{rest, rest_next, rest_end, frame_part}
 
 -- behind nothing 9 does not come
 pub next_any : (s : Setup) (x : List ℕ) → judged_next sha256 s none x ≡ faulty sha256 s x
@@ -30,13 +30,13 @@ next_any s x = go (eqb (faulty sha256 s x) 0) refl
 
 -- a step of judging, by what the next frame's number is
 module _ (s : Setup) (p : Option (List ℕ)) (x : List ℕ) (xs : List (List ℕ)) (i k : ℕ) (d : k ≡ judged_next sha256 s p x) where
-  step-on : k ≡ 0 → judged_run sha256 s i p (x ∷ xs) ≡ judged_run sha256 s (i + 1) (some x) xs
+  step_on : k ≡ 0 → judged_run sha256 s i p (x ∷ xs) ≡ judged_run sha256 s (i + 1) (some x) xs
   unfolding judged_run
-  step-on z = rw (← d, eq-eqb k 0 z)
+  step_on z = rw (← d, eq-eqb k 0 z)
 
-  step-stop : (k ≡ 0 → ⊥) → judged_run sha256 s i p (x ∷ xs) ≡ verdict k i
+  step_stop : (k ≡ 0 → ⊥) → judged_run sha256 s i p (x ∷ xs) ≡ verdict k i
   unfolding judged_run
-  step-stop n = rw (← d, ne_eqb k 0 n)
+  step_stop n = rw (← d, ne_eqb k 0 n)
 
 -- along the frames
 module _ (s : Setup) (b : List ℕ) (n : ℕ) where
@@ -46,28 +46,28 @@ module _ (s : Setup) (b : List ℕ) (n : ℕ) where
     run_none e = rw e
 
     module _ (h : 0 < n) (k : ℕ) (d : k ≡ judged_next sha256 s p (take frame_size b)) where
-      pub run-first : (k ≡ 0 → ⊥) → verdict k 0 ≡ judged_run sha256 s 0 p (frames n b)
-      run-first z = sym (ap (judged_run sha256 s 0 p) (frames-split n b h) ∙ step-stop s p (take frame_size b) _ 0 k d z)
+      pub run_first : (k ≡ 0 → ⊥) → verdict k 0 ≡ judged_run sha256 s 0 p (frames n b)
+      run_first z = sym (ap (judged_run sha256 s 0 p) (frames_split n b h) ∙ step_stop s p (take frame_size b) _ 0 k d z)
 
-      pub run-start : k ≡ 0 → judged_run sha256 s 1 (some (take frame_size b)) (rest b n 1) ≡ judged_run sha256 s 0 p (frames n b)
-      run-start z = sym (ap (judged_run sha256 s 0 p) (frames-split n b h) ∙ step-on s p (take frame_size b) _ 0 k d z)
+      pub run_start : k ≡ 0 → judged_run sha256 s 1 (some (take frame_size b)) (rest b n 1) ≡ judged_run sha256 s 0 p (frames n b)
+      run_start z = sym (ap (judged_run sha256 s 0 p) (frames_split n b h) ∙ step_on s p (take frame_size b) _ 0 k d z)
 
   module _ (i k : ℕ) (goal : Verdict) (h : 1 ≤ i) (g : i < n)
       (d : k ≡ judged_next sha256 s (some (take (frame_size * i - (frame_size * i - frame_size)) (drop (frame_size * i - frame_size) b))) (take (frame_size * i + frame_size - frame_size * i) (drop (frame_size * i) b)))
       (e : judged_run sha256 s i (some (part b (frame_size * (i - 1)) frame_size)) (rest b n i) ≡ goal) where
-    next-is : k ≡ judged_next sha256 s (some (part b (frame_size * (i - 1)) frame_size)) (part b (frame_size * i) frame_size)
-    next-is =
+    next_is : k ≡ judged_next sha256 s (some (part b (frame_size * (i - 1)) frame_size)) (part b (frame_size * i) frame_size)
+    next_is =
         let y : frame_size * i - (frame_size * i - frame_size) ≡ frame_size = omega arith in
         let z : frame_size * i - frame_size ≡ frame_size * (i - 1) = omega arith in
-        rw (y, z, frame-part b (frame_size * i)) at d
+        rw (y, z, frame_part b (frame_size * i)) at d
 
-    pub run-stop : (k ≡ 0 → ⊥) → verdict k i ≡ goal
-    run-stop z = sym (step-stop s _ _ (rest b n (i + 1)) i k next-is z) ∙ (rw (rest-next b n i g) at e)
+    pub run_stop : (k ≡ 0 → ⊥) → verdict k i ≡ goal
+    run_stop z = sym (step_stop s _ _ (rest b n (i + 1)) i k next_is z) ∙ (rw (rest_next b n i g) at e)
 
     pub run_more : k ≡ 0 → judged_run sha256 s (i + 1) (some (part b (frame_size * (i + 1 - 1)) frame_size)) (rest b n (i + 1)) ≡ goal
     run_more z =
         let y : i + 1 - 1 ≡ i = omega arith in
-        rw y (sym (step-on s _ _ (rest b n (i + 1)) i k next-is z) ∙ (rw (rest-next b n i g) at e))
+        rw y (sym (step_on s _ _ (rest b n (i + 1)) i k next_is z) ∙ (rw (rest_next b n i g) at e))
 
   pub run_end : (i : ℕ) (q : Option (List ℕ)) (goal : Verdict) → n ≤ i → judged_run sha256 s i q (rest b n i) ≡ goal → no_refusal ≡ goal
   unfolding judged_run

@@ -13,30 +13,30 @@ use Rattle.apollo.specs.Size.{frame_size}
 use Rattle.apollo.specs.Frame.{height}
 use Rattle.apollo.specs.Log.{slot, filled, store, chain}
 use Rattle.apollo.specs.Fetch.{above}
-use Rattle.apollo.proofs.Fetch.{above-append}
-use Rattle.frame.proofs.Frames.{frame-part}
+use Rattle.apollo.proofs.Fetch.{above_append}
+use Rattle.frame.proofs.Frames.{frame_part}
 use Rattle.log_heights.specs.Fetch.{is_tall, last_low}
 
-above-one : (h : ℕ) (x : List ℕ) (b : Bool) → above h (cond b (x ∷ []) []) ≡ cond (b && ltb h (height x)) (x ∷ []) []
+above_one : (h : ℕ) (x : List ℕ) (b : Bool) → above h (cond b (x ∷ []) []) ≡ cond (b && ltb h (height x)) (x ∷ []) []
 unfolding above
-above-one h x true = refl
-above-one h x false = refl
+above_one h x true = refl
+above_one h x false = refl
 
-flatten-append : (xs ys : List (List ℕ)) → flatten (xs ++ ys) ≡ flatten xs ++ flatten ys
+flatten_append : (xs ys : List (List ℕ)) → flatten (xs ++ ys) ≡ flatten xs ++ flatten ys
 unfolding flatten
-flatten-append [] ys = refl
-flatten-append (x ∷ xs) ys = rw (flatten-append xs ys) (sym (append_assoc x (flatten xs) (flatten ys)))
+flatten_append [] ys = refl
+flatten_append (x ∷ xs) ys = rw (flatten_append xs ys) (sym (append_assoc x (flatten xs) (flatten ys)))
 
 -- the slot above round r as the code lends it
 abbrev lent : (log : List ℕ) (r : ℕ) → List ℕ
 lent log r = take (frame_size * r + frame_size - frame_size * r) (drop (frame_size * r) log)
 
-lent-slot : (log : List ℕ) (r : ℕ) → lent log r ≡ slot log (suc r)
+lent_slot : (log : List ℕ) (r : ℕ) → lent log r ≡ slot log (suc r)
 unfolding slot
-lent-slot log r = frame-part log (frame_size * r)
+lent_slot log r = frame_part log (frame_size * r)
 
-lent-size : (log : List ℕ) (r : ℕ) → frame_size * (r + 1) ≤ length log → length (lent log r) ≡ frame_size
-lent-size log r g = simp (length-take, length-drop) (omega arith)
+lent_size : (log : List ℕ) (r : ℕ) → frame_size * (r + 1) ≤ length log → length (lent log r) ≡ frame_size
+lent_size log r g = simp (length-take, length-drop) (omega arith)
 
 module _ (log : List ℕ) (h : ℕ) where
   -- the frames that fetch copies up to round r
@@ -46,14 +46,14 @@ module _ (log : List ℕ) (h : ℕ) where
   up_more : (r : ℕ) → up_to (suc r) ≡ up_to r ++ cond (is_tall (slot log (suc r)) h) (slot log (suc r) ∷ []) []
   unfolding chain is_tall
   up_more r =
-      above-append h (chain log r) (cond (filled (slot log (suc r))) (slot log (suc r) ∷ []) [])
-      ∙ ap (λ (l : List (List ℕ)). up_to r ++ l) (above-one h (slot log (suc r)) (filled (slot log (suc r))))
+      above_append h (chain log r) (cond (filled (slot log (suc r))) (slot log (suc r) ∷ []) [])
+      ∙ ap (λ (l : List (List ℕ)). up_to r ++ l) (above_one h (slot log (suc r)) (filled (slot log (suc r))))
 
   -- none up to the last round before the first
-  low-none : (m lo : ℕ) → up_to lo ≡ [] → (last_low log h lo m ≤ lo + m) × (up_to (last_low log h lo m) ≡ [])
+  low_none : (m lo : ℕ) → up_to lo ≡ [] → (last_low log h lo m ≤ lo + m) × (up_to (last_low log h lo m) ≡ [])
   unfolding last_low
-  low-none zero lo e = (omega arith, e)
-  low-none (suc m) lo e = by (low-none m (lo + 1)) (is_tall (slot log (lo + 1)) h) refl
+  low_none zero lo e = (omega arith, e)
+  low_none (suc m) lo e = by (low_none m (lo + 1)) (is_tall (slot log (lo + 1)) h) refl
     where
       by : (up_to (lo + 1) ≡ [] → (last_low log h (lo + 1) m ≤ lo + 1 + m) × (up_to (last_low log h (lo + 1) m) ≡ []))
           → (b : Bool) → is_tall (slot log (lo + 1)) h ≡ b
@@ -65,31 +65,31 @@ module _ (log : List ℕ) (h : ℕ) where
           ih (rw add-one (up_more lo ∙ rw (e, f))) in
           (omega (arith, r.0), r.1)
 
-  pub last-low : (c r : ℕ) → r ≡ last_low log h 0 c → (r ≤ c) × (up_to r ≡ [])
-  last-low c r e =
-      let n : (last_low log h 0 c ≤ 0 + c) × (up_to (last_low log h 0 c) ≡ []) = low-none c 0 (unfold chain above in refl) in
+  pub last_low_lem : (c r : ℕ) → r ≡ last_low log h 0 c → (r ≤ c) × (up_to r ≡ [])
+  last_low_lem c r e =
+      let n : (last_low log h 0 c ≤ 0 + c) × (up_to (last_low log h 0 c) ≡ []) = low_none c 0 (unfold chain above in refl) in
       rw e (omega (arith, n.0), n.1)
 
   -- that round found in a walk upwards, at slot lo + 1 of c
-  low-more : (lo c : ℕ) → lo < c → last_low log h lo (c - lo) ≡ cond (is_tall (slot log (lo + 1)) h) lo (last_low log h (lo + 1) (c - (lo + 1)))
+  low_more : (lo c : ℕ) → lo < c → last_low log h lo (c - lo) ≡ cond (is_tall (slot log (lo + 1)) h) lo (last_low log h (lo + 1) (c - (lo + 1)))
   unfolding last_low
-  low-more lo c g =
+  low_more lo c g =
       let q : c - lo ≡ suc (c - (lo + 1)) = omega arith in
       rw q
 
   module _ (lo c : ℕ) (b : Bool) (e : b ≡ is_tall (lent log lo) h) where
-    tall-slot : is_tall (slot log (lo + 1)) h ≡ b
-    tall-slot = rw add-one (sym (rw (lent-slot log lo) at e))
+    tall_slot : is_tall (slot log (lo + 1)) h ≡ b
+    tall_slot = rw add-one (sym (rw (lent_slot log lo) at e))
 
-    pub low-here : lo < c → b ≡ true → lo ≡ last_low log h lo (c - lo)
-    low-here g t = rw (low-more lo c g, tall-slot, t)
+    pub low_here : lo < c → b ≡ true → lo ≡ last_low log h lo (c - lo)
+    low_here g t = rw (low_more lo c g, tall_slot, t)
 
-    pub low-above : lo < c → b ≡ false → last_low log h (lo + 1) (c - (lo + 1)) ≡ last_low log h lo (c - lo)
-    low-above g t = rw (low-more lo c g, tall-slot, t)
+    pub low_above : lo < c → b ≡ false → last_low log h (lo + 1) (c - (lo + 1)) ≡ last_low log h lo (c - lo)
+    low_above g t = rw (low_more lo c g, tall_slot, t)
 
-  pub low-all : (lo c : ℕ) → c ≤ lo → lo ≡ last_low log h lo (c - lo)
+  pub low_all : (lo c : ℕ) → c ≤ lo → lo ≡ last_low log h lo (c - lo)
   unfolding last_low
-  low-all lo c g =
+  low_all lo c g =
       let z : c - lo ≡ 0 = omega arith in
       rw z
 
@@ -118,8 +118,8 @@ module _ (log : List ℕ) (h : ℕ) where
 
   module _ (o : List ℕ) (r k : ℕ) (out : List ℕ) (c : Copied o r k out) where
     -- a slot that is not among them, and one that is
-    copied-over : is_tall (slot log (suc r)) h ≡ false → Copied o (suc r) k out
-    copied-over f =
+    copied_over : is_tall (slot log (suc r)) h ≡ false → Copied o (suc r) k out
+    copied_over f =
         let e : up_to (suc r) ≡ up_to r = up_more r ∙ (rw (f, append-nil)) in
         record {
           fits = c.fits;
@@ -128,14 +128,14 @@ module _ (log : List ℕ) (h : ℕ) where
           bytes = rw e c.bytes;
         }
 
-    copied-one : is_tall (slot log (suc r)) h ≡ true → frame_size * (k + 1) ≤ length o → length (slot log (suc r)) ≡ frame_size
+    copied_one : is_tall (slot log (suc r)) h ≡ true → frame_size * (k + 1) ≤ length o → length (slot log (suc r)) ≡ frame_size
         → Copied o (suc r) (k + 1) (store out (k + 1) (slot log (suc r)))
     unfolding store flatten
-    copied-one t g l =
+    copied_one t g l =
         let x : List ℕ = slot log (suc r) in
         let f : List ℕ = flatten (up_to r) in
         let e : up_to (suc r) ≡ up_to r ++ (x ∷ []) = up_more r ∙ rw t in
-        let w : flatten (up_to (suc r)) ≡ f ++ x = rw e (flatten-append (up_to r) (x ∷ []) ∙ ap (λ (m : List ℕ). f ++ m) (append-nil x)) in
+        let w : flatten (up_to (suc r)) ≡ f ++ x = rw e (flatten_append (up_to r) (x ∷ []) ∙ ap (λ (m : List ℕ). f ++ m) (append-nil x)) in
         let y : frame_size * (k + 1 - 1) ≡ length f = omega (arith, c.size) in
         let z : frame_size * (k + 1) ≡ length f + frame_size = omega (arith, c.size) in
         let u : take (frame_size * (k + 1 - 1)) out ≡ f = rw (y, c.bytes) (take_at f (drop (frame_size * k) o) (length f) refl) in
@@ -153,18 +153,18 @@ module _ (log : List ℕ) (h : ℕ) where
         → k' ≡ cond (is_tall (lent log r) h) (k + 1) k → out' ≡ cond (is_tall (lent log r) h) (store out (k + 1) (lent log r)) out
         → Copied o (r + 1) k' out'
     copied_more k' out' g l d e =
-        let s : length (slot log (suc r)) ≡ frame_size = rw (lent-slot log r) at (lent-size log r l) in
-        rw add-one (by s (is_tall (slot log (suc r)) h) refl (rw (lent-slot log r) at d) (rw (lent-slot log r) at e))
+        let s : length (slot log (suc r)) ≡ frame_size = rw (lent_slot log r) at (lent_size log r l) in
+        rw add-one (by s (is_tall (slot log (suc r)) h) refl (rw (lent_slot log r) at d) (rw (lent_slot log r) at e))
       where
         by : length (slot log (suc r)) ≡ frame_size → (b : Bool) → is_tall (slot log (suc r)) h ≡ b → k' ≡ cond b (k + 1) k
             → out' ≡ cond b (store out (k + 1) (slot log (suc r))) out → Copied o (suc r) k' out'
-        by s true t p q = rw (p, q) (copied-one t g s)
-        by s false t p q = rw (p, q) (copied-over t)
+        by s true t p q = rw (p, q) (copied_one t g s)
+        by s false t p q = rw (p, q) (copied_over t)
 
     -- all that fit are copied
-    pub copied-full : (t : ℕ) → r ≤ t → length o / frame_size ≤ k
+    pub copied_full : (t : ℕ) → r ≤ t → length o / frame_size ≤ k
         → (k ≡ min (length (up_to t)) (length o / frame_size)) × (out ≡ flatten (take k (up_to t)) ++ drop (frame_size * k) o)
-    copied-full t g f =
+    copied_full t g f =
         let e : r + (t - r) ≡ t = omega arith in
         let p : (length (up_to r) ≤ length (up_to t)) × (take (length (up_to r)) (up_to t) ≡ up_to r) = rw e at (up_first r (t - r)) in
         let z : k ≡ length (up_to r) = c.count in

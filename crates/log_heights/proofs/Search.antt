@@ -9,31 +9,31 @@ use lib.ListN.{take, drop}
 use Rattle.apollo.specs.Size.{frame_size}
 use Rattle.apollo.specs.Log.{slot}
 use Rattle.apollo.specs.Read.{readable, lowest}
-use Rattle.frame.proofs.Frames.{frame-part}
+use Rattle.frame.proofs.Frames.{frame_part}
 
 -- the slot above lo as the code lends it
-pub readable-slot : (log : List ℕ) (h lo : ℕ) (b : Bool) → b ≡ readable (take (frame_size * lo + frame_size - frame_size * lo) (drop (frame_size * lo) log)) h
+pub readable_slot : (log : List ℕ) (h lo : ℕ) (b : Bool) → b ≡ readable (take (frame_size * lo + frame_size - frame_size * lo) (drop (frame_size * lo) log)) h
     → b ≡ readable (slot log (lo + 1)) h
 unfolding slot
-readable-slot log h lo b e = rw add-one (rw (frame-part log (frame_size * lo)) at e)
+readable_slot log h lo b e = rw add-one (rw (frame_part log (frame_size * lo)) at e)
 
 -- lowest, from slot lo + 1 upwards to c
-lowest-more : (log : List ℕ) (h lo c : ℕ) → lo < c
+lowest_more : (log : List ℕ) (h lo c : ℕ) → lo < c
     → lowest log h lo (c - lo) ≡ cond (readable (slot log (lo + 1)) h) (lo + 1) (lowest log h (lo + 1) (c - (lo + 1)))
 unfolding lowest
-lowest-more log h lo c g =
+lowest_more log h lo c g =
     let q : c - lo ≡ suc (c - (lo + 1)) = omega arith in
     rw q
 
-pub lowest-here : (log : List ℕ) (h lo c : ℕ) → lo < c → true ≡ readable (slot log (lo + 1)) h → lo + 1 ≡ lowest log h lo (c - lo)
-lowest-here log h lo c g e = rw (lowest-more log h lo c g, ← e)
+pub lowest_here : (log : List ℕ) (h lo c : ℕ) → lo < c → true ≡ readable (slot log (lo + 1)) h → lo + 1 ≡ lowest log h lo (c - lo)
+lowest_here log h lo c g e = rw (lowest_more log h lo c g, ← e)
 
-pub lowest-above : (log : List ℕ) (h lo c : ℕ) → lo < c → false ≡ readable (slot log (lo + 1)) h
+pub lowest_above : (log : List ℕ) (h lo c : ℕ) → lo < c → false ≡ readable (slot log (lo + 1)) h
     → lowest log h (lo + 1) (c - (lo + 1)) ≡ lowest log h lo (c - lo)
-lowest-above log h lo c g e = rw (lowest-more log h lo c g, ← e)
+lowest_above log h lo c g e = rw (lowest_more log h lo c g, ← e)
 
-pub lowest-none : (log : List ℕ) (h lo c : ℕ) → c ≤ lo → 0 ≡ lowest log h lo (c - lo)
+pub lowest_none : (log : List ℕ) (h lo c : ℕ) → c ≤ lo → 0 ≡ lowest log h lo (c - lo)
 unfolding lowest
-lowest-none log h lo c g =
+lowest_none log h lo c g =
     let z : c - lo ≡ 0 = omega arith in
     rw z

@@ -22,10 +22,10 @@ use Rattle.apollo.specs.Branch.{branch_with}
 use Rattle.apollo.specs.Blame.{handing}
 use Rattle.branch.specs.declared.Judged.{Judged}
 use Rattle.branch.specs.Judge.{refusal, judged_branch, answered}
-use Rattle.branch.proofs.Answer.{branch-answer}
+use Rattle.branch.proofs.Answer.{branch_answer}
 use Rattle.blame_set.specs.Set as Set
 use Rattle.blame_set.specs.Set.{judged_set}
-use Rattle.blame_set.proofs.Answer.{set-answer}
+use Rattle.blame_set.proofs.Answer.{set_answer}
 use Rattle.refusals.specs.Number.{room_number, open_number, guard_number, guard_of}
 use Rattle.refusals.specs.Blames.{guarded_set}
 use Rattle.refusals.specs.Branch.{guarded_branch}
@@ -35,32 +35,32 @@ abbrev pub by_number : (n : ℕ) (o : Outcome) (f : ℕ → Outcome) → Outcome
 by_number n o f = cond (eqb n 0) o (f n)
 
 -- chains of tests, and the number of each
-room-chain : (c d : Bool) (o : Outcome) (f : ℕ → Outcome) → cond c (f 4) (cond d (f 5) o) ≡ by_number (cond c 4 (cond d 5 0)) o f
-room-chain true d o f = refl
-room-chain false true o f = refl
-room-chain false false o f = refl
+room_chain : (c d : Bool) (o : Outcome) (f : ℕ → Outcome) → cond c (f 4) (cond d (f 5) o) ≡ by_number (cond c 4 (cond d 5 0)) o f
+room_chain true d o f = refl
+room_chain false true o f = refl
+room_chain false false o f = refl
 
 -- n is the set-up's number
-open-chain : (a : Bool) (n : ℕ) (z c d : Bool) (o : Outcome) (f : ℕ → Outcome) → eqb n 0 ≡ z
+open_chain : (a : Bool) (n : ℕ) (z c d : Bool) (o : Outcome) (f : ℕ → Outcome) → eqb n 0 ≡ z
     → cond a (f 1) (cond (not z) (f n) (cond c (f 4) (cond d (f 5) o))) ≡ by_number (cond a 1 (cond (not z) n (cond c 4 (cond d 5 0)))) o f
-open-chain true n z c d o f e = refl
-open-chain false n true c d o f e = room-chain c d o f
-open-chain false n false c d o f e = rw e
+open_chain true n z c d o f e = refl
+open_chain false n true c d o f e = room_chain c d o f
+open_chain false n false c d o f e = rw e
 
-guard-chain : (a b c d : Bool) (o : Outcome) (f : ℕ → Outcome)
+guard_chain : (a b c d : Bool) (o : Outcome) (f : ℕ → Outcome)
     → cond a (f 2) (cond b (f 3) (cond c (f 4) (cond d (f 5) o))) ≡ by_number (cond a 2 (cond b 3 (cond c 4 (cond d 5 0)))) o f
-guard-chain true b c d o f = refl
-guard-chain false true c d o f = refl
-guard-chain false false true d o f = refl
-guard-chain false false false true o f = refl
-guard-chain false false false false o f = refl
+guard_chain true b c d o f = refl
+guard_chain false true c d o f = refl
+guard_chain false false true d o f = refl
+guard_chain false false false true o f = refl
+guard_chain false false false false o f = refl
 
 -- a judgement after a number
-judged-after : (entry out : List ℕ) (s : State) (x : List ℕ) (z : Bool) (n : ℕ) (j : Judged) → eqb n 0 ≡ z
+judged_after : (entry out : List ℕ) (s : State) (x : List ℕ) (z : Bool) (n : ℕ) (j : Judged) → eqb n 0 ≡ z
     → cond z (answered entry out s x j) (refused s out n 0) ≡ answered entry out s x (cond z j (refusal n 0))
 unfolding answered
-judged-after entry out s x true n j e = refl
-judged-after entry out s x false n j e = rw e
+judged_after entry out s x true n j e = refl
+judged_after entry out s x false n j e = rw e
 
 set_after : (entry out : List ℕ) (s : State) (x : List ℕ) (z : Bool) (n : ℕ) (v : Verdict) → eqb n 0 ≡ z
     → cond z (Set.answered entry out s x v) (refused s out n 0) ≡ Set.answered entry out s x (cond z v (verdict n 0))
@@ -79,17 +79,17 @@ module _ (id f timeout last : ℕ) (rotation log masks entry out : List ℕ) whe
   abbrev r : Replica
   r = fresh id f timeout last rotation
 
-  setup-is : lent_number (setup_of r) (length rotation) ≡ setup_number f last rotation
+  setup_is : lent_number (setup_of r) (length rotation) ≡ setup_number f last rotation
   unfolding fresh
-  setup-is = lent_is f last rotation
+  setup_is = lent_is f last rotation
 
   pub open_by : open_with sha256 id f timeout last rotation log masks entry out
       ≡ by_number (open_number r (length rotation) log masks (length entry) (length out))
       (taken (enter_round sha256 entry new) out) (λ n. refused closed out n 0)
   unfolding open_with open_number room_number
   open_by =
-      rw setup-is
-      (open-chain (not (valid_own r && valid_log r log && valid_masks r masks)) (setup_number f last rotation)
+      rw setup_is
+      (open_chain (not (valid_own r && valid_log r log && valid_masks r masks)) (setup_number f last rotation)
       (eqb (setup_number f last rotation) 0) (ltb (length out) 1024) (ltb 400 (length entry)) (taken (enter_round sha256 entry new) out)
       (λ n. refused closed out n 0) refl)
 
@@ -98,10 +98,10 @@ module _ (s : State) (entry out : List ℕ) where
   number = guard_of s.replica s.log s.masks (length entry) (length out)
 
   -- branch, blame, blames and tick
-  pub guarded-by : (o : Outcome) → guarded s entry out o ≡ by_number number o (λ n. refused s out n 0)
+  pub guarded_by : (o : Outcome) → guarded s entry out o ≡ by_number number o (λ n. refused s out n 0)
   unfolding guarded guard_number valid_replica room_number
-  guarded-by o =
-      guard-chain (not (valid_replica s.replica s.log && valid_masks s.replica s.masks))
+  guarded_by o =
+      guard_chain (not (valid_replica s.replica s.log && valid_masks s.replica s.masks))
       (eqb s.replica.round.0 (s.replica.last_round.0 + 1)) (ltb (length out) 1024) (ltb 400 (length entry)) o
       (λ n. refused s out n 0)
 
@@ -110,14 +110,14 @@ module _ (s : State) (entry out : List ℕ) where
         ≡ answered entry out s x (guarded_branch s.replica s.log s.masks x (length entry) (length out))
     unfolding guarded_branch
     branch_by =
-        branch-answer s x entry out
-        ∙ guarded-by (answered entry out s x (judged_branch s.replica s.log s.masks x))
-        ∙ judged-after entry out s x (eqb number 0) number (judged_branch s.replica s.log s.masks x) refl
+        branch_answer s x entry out
+        ∙ guarded_by (answered entry out s x (judged_branch s.replica s.log s.masks x))
+        ∙ judged_after entry out s x (eqb number 0) number (judged_branch s.replica s.log s.masks x) refl
 
-    pub set-by : (most : ℕ) → handing sha256 most s x entry out
+    pub set_by : (most : ℕ) → handing sha256 most s x entry out
         ≡ Set.answered entry out s x (guarded_set most s.replica s.log s.masks x (length entry) (length out))
     unfolding handing guarded_set
-    set-by most =
-        ap (guarded s entry out) (set-answer s x entry out most)
-        ∙ guarded-by (Set.answered entry out s x (judged_set most s.replica s.masks x))
+    set_by most =
+        ap (guarded s entry out) (set_answer s x entry out most)
+        ∙ guarded_by (Set.answered entry out s x (judged_set most s.replica s.masks x))
         ∙ set_after entry out s x (eqb number 0) number (judged_set most s.replica s.masks x) refl

@@ -24,13 +24,13 @@ module _ (entry out : ℕ) where
   unfolding room_number
   room_out h = rw (lt-ltb out 1024 h)
 
-  pub room-entry : 1024 ≤ out → 400 < entry → 5 ≡ room_number entry out
+  pub room_entry : 1024 ≤ out → 400 < entry → 5 ≡ room_number entry out
   unfolding room_number
-  room-entry h g = rw (le-ltb out 1024 h, lt-ltb 400 entry g)
+  room_entry h g = rw (le-ltb out 1024 h, lt-ltb 400 entry g)
 
-  pub room-none : 1024 ≤ out → entry ≤ 400 → 0 ≡ room_number entry out
+  pub room_none : 1024 ≤ out → entry ≤ 400 → 0 ≡ room_number entry out
   unfolding room_number
-  room-none h g = rw (le-ltb out 1024 h, le-ltb 400 entry g)
+  room_none h g = rw (le-ltb out 1024 h, le-ltb 400 entry g)
 
 module _ (r : Replica) (log masks : List ℕ) (entry out : ℕ) where
   -- 1 and 17, by the set-up's own number and the other tests of 1
@@ -44,47 +44,47 @@ module _ (r : Replica) (log masks : List ℕ) (entry out : ℕ) where
     open_lent t = rw (← eo, ← el, ← em, t)
 
     module _ (t : (o && l && m) ≡ true) where
-      pub open-setup : (n ≡ 0 → ⊥) → n ≡ open_number r size log masks entry out
+      pub open_setup : (n ≡ 0 → ⊥) → n ≡ open_number r size log masks entry out
       unfolding open_number
-      open-setup h = rw (← eo, ← el, ← em, ← number_is, t, ne_eqb n 0 h)
+      open_setup h = rw (← eo, ← el, ← em, ← number_is, t, ne_eqb n 0 h)
 
-      pub open-room : (k : ℕ) → n ≡ 0 → k ≡ room_number entry out → k ≡ open_number r size log masks entry out
+      pub open_room : (k : ℕ) → n ≡ 0 → k ≡ room_number entry out → k ≡ open_number r size log masks entry out
       unfolding open_number
-      open-room k z e = rw (← eo, ← el, ← em, ← number_is, t, eq-eqb n 0 z) e
+      open_room k z e = rw (← eo, ← el, ← em, ← number_is, t, eq-eqb n 0 z) e
 
   -- 2 and 3
   module _ (a l b : Bool) (el : l ≡ valid_log r log) (eb : b ≡ valid_masks r masks) where
-    pub guard-record : (a && l && b) ≡ false → 2 ≡ guard_number a r log masks entry out
+    pub guard_record : (a && l && b) ≡ false → 2 ≡ guard_number a r log masks entry out
     unfolding guard_number
-    guard-record t = rw (← el, ← eb, t)
+    guard_record t = rw (← el, ← eb, t)
 
-    pub guard-over : (a && l && b) ≡ true → r.round.0 ≡ r.last_round.0 + 1 → 3 ≡ guard_number a r log masks entry out
+    pub guard_over : (a && l && b) ≡ true → r.round.0 ≡ r.last_round.0 + 1 → 3 ≡ guard_number a r log masks entry out
     unfolding guard_number
-    guard-over t e = rw (← el, ← eb, t, eq-eqb r.round.0 (r.last_round.0 + 1) e)
+    guard_over t e = rw (← el, ← eb, t, eq-eqb r.round.0 (r.last_round.0 + 1) e)
 
-    pub guard-room : (n : ℕ) → (a && l && b) ≡ true → (r.round.0 ≡ r.last_round.0 + 1 → ⊥) → n ≡ room_number entry out
+    pub guard_room : (n : ℕ) → (a && l && b) ≡ true → (r.round.0 ≡ r.last_round.0 + 1 → ⊥) → n ≡ room_number entry out
         → n ≡ guard_number a r log masks entry out
     unfolding guard_number
-    guard-room n t h e = rw (← el, ← eb, t, ne_eqb r.round.0 (r.last_round.0 + 1) h) e
+    guard_room n t h e = rw (← el, ← eb, t, ne_eqb r.round.0 (r.last_round.0 + 1) h) e
 
   -- by the record's own test
-  pub guard-of : {n : ℕ} {a : Bool} → a ≡ valid_record r → n ≡ guard_number a r log masks entry out → n ≡ guard_of r log masks entry out
-  guard-of d e = rw d at e
+  pub guard_of_lem : {n : ℕ} {a : Bool} → a ≡ valid_record r → n ≡ guard_number a r log masks entry out → n ≡ guard_of r log masks entry out
+  guard_of_lem d e = rw d at e
 
   -- blames and a branch behind 2 to 5
   module _ (n : ℕ) (e : n ≡ guard_of r log masks entry out) where
-    pub set-guarded : (most : ℕ) (x : List ℕ) → (n ≡ 0 → ⊥) → verdict n 0 ≡ guarded_set most r log masks x entry out
+    pub set_guarded : (most : ℕ) (x : List ℕ) → (n ≡ 0 → ⊥) → verdict n 0 ≡ guarded_set most r log masks x entry out
     unfolding guarded_set
-    set-guarded most x h = rw (← e, ne_eqb n 0 h)
+    set_guarded most x h = rw (← e, ne_eqb n 0 h)
 
-    pub set-judged : (most : ℕ) (x : List ℕ) (v : Verdict) → n ≡ 0 → v ≡ judged_set most r masks x → v ≡ guarded_set most r log masks x entry out
+    pub set_judged : (most : ℕ) (x : List ℕ) (v : Verdict) → n ≡ 0 → v ≡ judged_set most r masks x → v ≡ guarded_set most r log masks x entry out
     unfolding guarded_set
-    set-judged most x v z k = rw (← e, eq-eqb n 0 z) k
+    set_judged most x v z k = rw (← e, eq-eqb n 0 z) k
 
-    pub branch-guarded : (x : List ℕ) → (n ≡ 0 → ⊥) → refusal n 0 ≡ guarded_branch r log masks x entry out
+    pub branch_guarded : (x : List ℕ) → (n ≡ 0 → ⊥) → refusal n 0 ≡ guarded_branch r log masks x entry out
     unfolding guarded_branch
-    branch-guarded x h = rw (← e, ne_eqb n 0 h)
+    branch_guarded x h = rw (← e, ne_eqb n 0 h)
 
-    pub branch-judged : (x : List ℕ) (j : Judged) → n ≡ 0 → j ≡ judged_branch r log masks x → j ≡ guarded_branch r log masks x entry out
+    pub branch_judged : (x : List ℕ) (j : Judged) → n ≡ 0 → j ≡ judged_branch r log masks x → j ≡ guarded_branch r log masks x entry out
     unfolding guarded_branch
-    branch-judged x j z k = rw (← e, eq-eqb n 0 z) k
+    branch_judged x j z k = rw (← e, eq-eqb n 0 z) k

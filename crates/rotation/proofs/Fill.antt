@@ -11,18 +11,18 @@ use lib.Seq.{take-suc, set_at, length-take-le, append_snoc, get_or-append-add}
 use borrow.Author.Tests.{ltb-true, ltb-false}
 use Rattle.apollo.specs.Bytes.{zeros}
 use Rattle.apollo.specs.Rotation.{padded}
-use Rattle.apollo.proofs.Slots.{length-zeros}
+use Rattle.apollo.proofs.Slots.{length_zeros}
 
 module _ (xs : List ℕ) where
   abbrev long : List ℕ
   long = xs ++ zeros 15
 
-  long-length : 15 ≤ length long
-  long-length = omega (arith, length-append xs (zeros 15), length-zeros 15)
+  long_length : 15 ≤ length long
+  long_length = omega (arith, length-append xs (zeros 15), length_zeros 15)
 
-  long-at : (i : ℕ) → i < 15 → get_or long i 0 ≡ get_or xs i 0
+  long_at : (i : ℕ) → i < 15 → get_or long i 0 ≡ get_or xs i 0
   unfolding zeros
-  long-at i l = go (ltb i (length xs)) refl
+  long_at i l = go (ltb i (length xs)) refl
     where
       go : (b : Bool) → ltb i (length xs) ≡ b → get_or long i 0 ≡ get_or xs i 0
       go true e = get_or-append xs (zeros 15) 0 i (ltb-true i (length xs) e)
@@ -39,11 +39,11 @@ module _ (xs : List ℕ) where
   pub fill_one : (ys : List ℕ) (i v : ℕ) → i < 15 → Filled ys i → v ≡ get_or xs i 0 → Filled (set ys i v) (i + 1)
   unfolding zeros
   fill_one ys i v l e d =
-      let size : length (take i long) ≡ i = length-take-le i long (omega (arith, long-length)) in
+      let size : length (take i long) ≡ i = length-take-le i long (omega (arith, long_length)) in
       let q : 15 - i ≡ suc (15 - (i + 1)) = omega arith in
       let next : take (i + 1) long ≡ take i long ++ (v ∷ []) =
-      ap (λ k. take k long) (add-one i) ∙ take-suc long i 0 (omega (arith, long-length))
-      ∙ ap (λ k. take i long ++ (k ∷ [])) (long-at i l ∙ sym d) in
+      ap (λ k. take k long) (add-one i) ∙ take-suc long i 0 (omega (arith, long_length))
+      ∙ ap (λ k. take i long ++ (k ∷ [])) (long_at i l ∙ sym d) in
       ap (λ (zs : List ℕ). set zs i v) (e ∙ ap (λ k. take i long ++ replicate k 0) q)
       ∙ set_at (take i long) 0 (replicate (15 - (i + 1)) 0) v i size
       ∙ sym (append_snoc (take i long) v (replicate (15 - (i + 1)) 0))

@@ -11,9 +11,9 @@ use lib.Seq.{drop-cons, drop-nil, take_all, length-take-le}
 use borrow.Author.Tests.{ne_eqb}
 use Rattle.apollo.specs.Bytes.{same, zeros, blank}
 use Rattle.apollo.specs.Rotation.{is_rotation}
-use Rattle.apollo.proofs.Tests.{and-end, and_assoc}
+use Rattle.apollo.proofs.Tests.{and_end, and_assoc}
 use Rattle.rotation.specs.Seen.{with_replica, replicas_seen, all_seen}
-use Rattle.rotation.proofs.Seen.{all-rotation}
+use Rattle.rotation.proofs.Seen.{all_rotation}
 
 -- all of some seats are zero
 unfoldable pub zero_all : List ℕ → Bool
@@ -31,9 +31,9 @@ module _ (n : ℕ) (seats : List ℕ) (size : length seats ≡ 15) where
   rest i l = drop-cons seats i 0 (omega (arith, size)) ∙ ap (λ k. get_or seats i 0 ∷ drop k seats) (sym (add-one i))
 
   module _ (m : ℕ) (b : Bool) (i : ℕ) (l : i < 15) (c : Cards n seats m i) (z : Zeros n seats b i) where
-    pub low-cards : i < n → Cards n seats (with_replica m (get_or seats i 0)) (i + 1)
+    pub low_cards : i < n → Cards n seats (with_replica m (get_or seats i 0)) (i + 1)
     unfolding replicas_seen
-    low-cards h =
+    low_cards h =
         let q : n - i ≡ suc (n - (i + 1)) = omega arith in
         rw (q, rest i l) at c
 
@@ -42,16 +42,16 @@ module _ (n : ℕ) (seats : List ℕ) (size : length seats ≡ 15) where
         let q : n - i ≡ suc (n - (i + 1)) = omega arith in
         rw (q, rest i l) at z
 
-    pub high-cards : n ≤ i → Cards n seats m (i + 1)
+    pub high_cards : n ≤ i → Cards n seats m (i + 1)
     unfolding replicas_seen
-    high-cards h =
+    high_cards h =
         let q : n - i ≡ 0 = omega arith in
         let r : n - (i + 1) ≡ 0 = omega arith in
         rw r (rw q at c)
 
-    pub high-zeros : n ≤ i → Zeros n seats (b && eqb (get_or seats i 0) 0) (i + 1)
+    pub high_zeros : n ≤ i → Zeros n seats (b && eqb (get_or seats i 0) 0) (i + 1)
     unfolding zero_all same zeros
-    high-zeros h =
+    high_zeros h =
         let q : n - i ≡ 0 = omega arith in
         let r : n - (i + 1) ≡ 0 = omega arith in
         rw r (sym (and_assoc b _ _) ∙ (rw (q, rest i l) at z))
@@ -64,22 +64,22 @@ module _ (n : ℕ) (seats : List ℕ) (size : length seats ≡ 15) where
       rw (ne_eqb (length (take n seats)) n (λ e. omega (arith, q, e)))
 
   -- the last seat is passed
-  last-cards : (m i : ℕ) → n ≤ i → Cards n seats m i → m ≡ replicas_seen 0 (take n seats)
+  last_cards : (m i : ℕ) → n ≤ i → Cards n seats m i → m ≡ replicas_seen 0 (take n seats)
   unfolding replicas_seen
-  last-cards m i l c =
+  last_cards m i l c =
       let over : n - i ≡ 0 = omega arith in
       rw over at c
 
-  last-zeros : (b : Bool) (i : ℕ) → 15 ≤ i → Zeros n seats b i → b ≡ zero_all (drop n seats)
+  last_zeros : (b : Bool) (i : ℕ) → 15 ≤ i → Zeros n seats b i → b ≡ zero_all (drop n seats)
   unfolding zero_all same zeros
-  last-zeros b i l z =
+  last_zeros b i l z =
       let none : drop i seats ≡ [] = drop_of_length-le seats {i = i} (omega (arith, size)) in
-      sym (and-end b) ∙ (rw (none, drop-nil) at z)
+      sym (and_end b) ∙ (rw (none, drop-nil) at z)
 
   -- and zero past n
-  zeros-blank : zero_all (drop n seats) ≡ blank seats n 15
+  zeros_blank : zero_all (drop n seats) ≡ blank seats n 15
   unfolding zero_all
-  zeros-blank =
+  zeros_blank =
       let long : length (drop n seats) ≡ 15 - n = length-drop n seats ∙ ap (λ k. k - n) size in
       let all : take (15 - n) (drop n seats) ≡ drop n seats = take_all (15 - n) (drop n seats) (omega arith) in
       ap (λ k. same (drop n seats) (zeros k)) long ∙ ap (λ (xs : List ℕ). same xs (zeros (15 - n))) (sym all)
@@ -88,6 +88,6 @@ module _ (n : ℕ) (seats : List ℕ) (size : length seats ≡ 15) where
       → a && b ≡ is_rotation n (take n seats) && blank seats n 15
   passed h m b i l c z a e =
       let r : a ≡ is_rotation n (take n seats) =
-      e ∙ ap (all_seen n) (last-cards m i (omega arith) c)
-      ∙ all-rotation n (take n seats) (length-take-le n seats (omega (arith, size))) (omega arith) in
-      rw (r, last-zeros b i l z, zeros-blank)
+      e ∙ ap (all_seen n) (last_cards m i (omega arith) c)
+      ∙ all_rotation n (take n seats) (length-take-le n seats (omega (arith, size))) (omega arith) in
+      rw (r, last_zeros b i l z, zeros_blank)

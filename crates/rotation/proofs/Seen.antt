@@ -13,48 +13,48 @@ use lib.ListN.{length}
 use borrow.Author.Tests.{eqb-true, eqb-false, eq-eqb, lt-ltb}
 use Rattle.apollo.specs.Masks.{bit, set_bit}
 use Rattle.apollo.specs.Rotation.{seats, is_rotation}
-use Rattle.apollo.proofs.Masks.{bit-zero, bit-set-same, bit-set-other, bit_kept}
-use Rattle.apollo.proofs.Rotation.{none-lacks, lacks-none}
+use Rattle.apollo.proofs.Masks.{bit_zero, bit_set_same, bit_set_other, bit_kept}
+use Rattle.apollo.proofs.Rotation.{none_lacks, lacks_none}
 use Rattle.apollo.proofs.Tests.{by_cond}
 use Rattle.rotation.specs.Seen.{with_replica, replicas_seen, all_seen}
 
 -- a card's bit, with one card more
-replica-kept : (c m x : ℕ) → bit c m ≡ true → bit c (with_replica m x) ≡ true
+replica_kept : (c m x : ℕ) → bit c m ≡ true → bit c (with_replica m x) ≡ true
 unfolding with_replica
-replica-kept c m x e = by_cond (λ k. bit c k ≡ true) (ltb x 16) (λ _. bit_kept x c m e) (λ _. e)
+replica_kept c m x e = by_cond (λ k. bit c k ≡ true) (ltb x 16) (λ _. bit_kept x c m e) (λ _. e)
 
-replica-set : (c m x : ℕ) → c < 16 → x ≡ c → bit c (with_replica m x) ≡ true
+replica_set : (c m x : ℕ) → c < 16 → x ≡ c → bit c (with_replica m x) ≡ true
 unfolding with_replica
-replica-set c m x l e = rw (e, lt-ltb c 16 l) (bit-set-same c m)
+replica_set c m x l e = rw (e, lt-ltb c 16 l) (bit_set_same c m)
 
-replica-back : (c m x : ℕ) → bit c (with_replica m x) ≡ true → (bit c m ≡ true) ⊎ (x ≡ c)
+replica_back : (c m x : ℕ) → bit c (with_replica m x) ≡ true → (bit c m ≡ true) ⊎ (x ≡ c)
 unfolding with_replica
-replica-back c m x = by_cond (λ k. bit c k ≡ true → (bit c m ≡ true) ⊎ (x ≡ c)) (ltb x 16) (λ _. go (eqb x c) refl) (λ _ e. inl e)
+replica_back c m x = by_cond (λ k. bit c k ≡ true → (bit c m ≡ true) ⊎ (x ≡ c)) (ltb x 16) (λ _. go (eqb x c) refl) (λ _ e. inl e)
   where
     go : (b : Bool) → eqb x c ≡ b → bit c (set_bit x m) ≡ true → (bit c m ≡ true) ⊎ (x ≡ c)
     go true d e = inr (eqb-true x c d)
-    go false d e = inl (sym (bit-set-other c x m (λ z. eqb-false x c d (sym z))) ∙ e)
+    go false d e = inl (sym (bit_set_other c x m (λ z. eqb-false x c d (sym z))) ∙ e)
 
 -- with the cards of some seats
-seen-kept : (c m : ℕ) (xs : List ℕ) → bit c m ≡ true → bit c (replicas_seen m xs) ≡ true
+seen_kept : (c m : ℕ) (xs : List ℕ) → bit c m ≡ true → bit c (replicas_seen m xs) ≡ true
 unfolding replicas_seen
-seen-kept c m [] e = e
-seen-kept c m (x ∷ xs) e = seen-kept c (with_replica m x) xs (replica-kept c m x e)
+seen_kept c m [] e = e
+seen_kept c m (x ∷ xs) e = seen_kept c (with_replica m x) xs (replica_kept c m x e)
 
-seen-set : (c m : ℕ) (xs : List ℕ) → c < 16 → 1 ≤ seats c xs → bit c (replicas_seen m xs) ≡ true
+seen_set : (c m : ℕ) (xs : List ℕ) → c < 16 → 1 ≤ seats c xs → bit c (replicas_seen m xs) ≡ true
 unfolding replicas_seen seats
-seen-set c m [] l h = absurd (omega arith)
-seen-set c m (x ∷ xs) l h = go (seen-set c (with_replica m x) xs l) (eqb x c) refl h
+seen_set c m [] l h = absurd (omega arith)
+seen_set c m (x ∷ xs) l h = go (seen_set c (with_replica m x) xs l) (eqb x c) refl h
   where
     go : (1 ≤ seats c xs → bit c (replicas_seen (with_replica m x) xs) ≡ true) → (b : Bool) → eqb x c ≡ b → 1 ≤ cond b 1 0 + seats c xs
         → bit c (replicas_seen (with_replica m x) xs) ≡ true
-    go later true d h = seen-kept c (with_replica m x) xs (replica-set c m x l (eqb-true x c d))
+    go later true d h = seen_kept c (with_replica m x) xs (replica_set c m x l (eqb-true x c d))
     go later false d h = later (omega arith)
 
 seen_back : (c m : ℕ) (xs : List ℕ) → bit c (replicas_seen m xs) ≡ true → (bit c m ≡ true) ⊎ (1 ≤ seats c xs)
 unfolding replicas_seen seats
 seen_back c m [] e = inl e
-seen_back c m (x ∷ xs) e = ⊎_elim (λ b. ⊎_elim inl here (replica-back c m x b)) (λ l. inr (omega arith)) (seen_back c (with_replica m x) xs e)
+seen_back c m (x ∷ xs) e = ⊎_elim (λ b. ⊎_elim inl here (replica_back c m x b)) (λ l. inr (omega arith)) (seen_back c (with_replica m x) xs e)
   where
     here : x ≡ c → (bit c m ≡ true) ⊎ (1 ≤ cond (eqb x c) 1 0 + seats c xs)
     here d = inr (rw (eq-eqb x c d) (omega arith))
@@ -63,12 +63,12 @@ seen_back c m (x ∷ xs) e = ⊎_elim (λ b. ⊎_elim inl here (replica-back c m
 low_bits : (n m : ℕ) → m % 2 ^ suc n ≡ (m / 2 % 2 ^ n) * 2 + m % 2
 low_bits n m = ap (λ k. m % k) (pow-suc 2 n) ∙ mod-mul m {m = 2 ^ n} {c = 2} (pow_pos n) (omega arith)
 
-full-of : (n m : ℕ) → ((c : ℕ) → c < n → bit c m ≡ true) → m % 2 ^ n + 1 ≡ 2 ^ n
+full_of : (n m : ℕ) → ((c : ℕ) → c < n → bit c m ≡ true) → m % 2 ^ n + 1 ≡ 2 ^ n
 unfolding bit
-full-of zero m h = omega arith
-full-of (suc n) m h =
+full_of zero m h = omega arith
+full_of (suc n) m h =
     let o : m % 2 ≡ 1 = eqb-true (m % 2) 1 (h 0 (omega arith)) in
-    let q : m / 2 % 2 ^ n + 1 ≡ 2 ^ n = full-of n (m / 2) (λ c l. h (suc c) (omega arith)) in
+    let q : m / 2 % 2 ^ n + 1 ≡ 2 ^ n = full_of n (m / 2) (λ c l. h (suc c) (omega arith)) in
     omega (arith, low_bits n m, pow-suc 2 n)
 
 full_at : (n m : ℕ) → m % 2 ^ n + 1 ≡ 2 ^ n → (c : ℕ) → c < n → bit c m ≡ true
@@ -83,10 +83,10 @@ both_ways false true h k = k refl
 both_ways false false h k = refl
 
 -- n seats, no more than there are bits
-pub all-rotation : (n : ℕ) (xs : List ℕ) → length xs ≡ n → n ≤ 16 → all_seen n (replicas_seen 0 xs) ≡ is_rotation n xs
+pub all_rotation : (n : ℕ) (xs : List ℕ) → length xs ≡ n → n ≤ 16 → all_seen n (replicas_seen 0 xs) ≡ is_rotation n xs
 unfolding all_seen
-all-rotation n xs e l =
+all_rotation n xs e l =
     both_ways (eqb (replicas_seen 0 xs % 2 ^ n + 1) (2 ^ n)) (is_rotation n xs)
-    (λ a. none-lacks n xs e (λ c m. ⊎_elim (λ z. absurd (true≢false (sym z ∙ bit-zero c))) (λ h. h)
+    (λ a. none_lacks n xs e (λ c m. ⊎_elim (λ z. absurd (true≢false (sym z ∙ bit_zero c))) (λ h. h)
     (seen_back c 0 xs (full_at n (replicas_seen 0 xs) (eqb-true _ _ a) c m))))
-    (λ r. eq-eqb _ _ (full-of n (replicas_seen 0 xs) (λ c m. seen-set c 0 xs (omega arith) (lacks-none n xs r c m))))
+    (λ r. eq-eqb _ _ (full_of n (replicas_seen 0 xs) (λ c m. seen_set c 0 xs (omega arith) (lacks_none n xs r c m))))

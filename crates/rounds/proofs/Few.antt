@@ -15,13 +15,13 @@ either : (b : Bool) (x y : Effect) → length x.emitted ≤ 1 → length y.emitt
 either true x y h k = h
 either false x y h k = k
 
-enter-few : (entry : List ℕ) (s : State) → length (enter_round sha256 entry s).emitted ≤ 1
+enter_few : (entry : List ℕ) (s : State) → length (enter_round sha256 entry s).emitted ≤ 1
 unfolding enter_round
-enter-few entry s = either (leads s.replica) (record { state = entered (proposing sha256 entry s); emitted = own_block sha256 entry s ∷ [] }) _ (omega arith) (omega arith)
+enter_few entry s = either (leads s.replica) (record { state = entered (proposing sha256 entry s); emitted = own_block sha256 entry s ∷ [] }) _ (omega arith) (omega arith)
 
-pub settle-few : (entry : List ℕ) (s : State) (r : ℕ) → length (settle sha256 entry s r).emitted ≤ 1
+pub settle_few : (entry : List ℕ) (s : State) (r : ℕ) → length (settle sha256 entry s r).emitted ≤ 1
 unfolding settle
-settle-few entry s r =
+settle_few entry s r =
     let t : State = waiting s (r + 1) s.replica.timer.0 in
     either (eqb r s.replica.round.0 && certified (setup_of s.replica) s.masks r) (enter_round sha256 entry t)
-    (record { state = s; emitted = [] }) (enter-few entry t) (omega arith)
+    (record { state = s; emitted = [] }) (enter_few entry t) (omega arith)

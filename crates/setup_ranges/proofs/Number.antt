@@ -12,14 +12,14 @@ use Rattle.apollo.specs.Rotation.{is_rotation}
 use Rattle.apollo.specs.Setup.{setup, replicas, valid_rotation, valid_limits, setup_number}
 use Rattle.apollo.specs.Refusal.{bad_setup, bad_rotation}
 use Rattle.apollo.proofs.Tests.{by_cond}
-use Rattle.apollo.proofs.Rotation.{padded-same}
+use Rattle.apollo.proofs.Rotation.{padded_same}
 use Rattle.apollo.proofs.Validity.{limits}
 use Rattle.setup_ranges.specs.Number.{lent_number}
 
 -- f and T of a set-up that passed
-pub lent-limits : (s : Setup) (size : ℕ) → lent_number s size ≡ 0 → valid_limits s ≡ true
+pub lent_limits : (s : Setup) (size : ℕ) → lent_number s size ≡ 0 → valid_limits s ≡ true
 unfolding lent_number
-lent-limits s size e =
+lent_limits s size e =
     by_cond (λ n. n ≡ 0 → valid_limits s ≡ true) (not (valid_limits s)) (λ _ v. absurd (omega (arith, v))) (λ l _. not-false _ l) e
 
 -- of f, T and a rotation as they were lent
@@ -35,5 +35,5 @@ lent_is f last rotation = go (valid_limits (setup f last rotation)) refl
         ≡ refusal b (is_rotation (replicas (setup f last rotation)) rotation)
     go true e =
         let l = limits (setup f last rotation) e in
-        ap (refusal true) (padded-same (setup f last rotation) rotation (omega (arith, l.f-most)) refl)
+        ap (refusal true) (padded_same (setup f last rotation) rotation (omega (arith, l.f_most)) refl)
     go false e = refl

@@ -8,39 +8,39 @@ use lib.ListN.{length, get_or}
 use lib.Seq.{take_all}
 use Rattle.compression.specs.declared.State.{State}
 use Rattle.sha256.specs.Fips.{bytes4, zeros, padded, block, H0, compress, hash, bytes_of, sha256}
-use Rattle.sha256.proofs.Padding.{length-padded, block-front}
+use Rattle.sha256.proofs.Padding.{length_padded, block_front}
 
 -- the blocks that lie whole in the message
-hash-front : (h : State) (m : List ℕ) (k : ℕ) → 64 * k ≤ length m → hash h m k ≡ hash h (padded m) k
+hash_front : (h : State) (m : List ℕ) (k : ℕ) → 64 * k ≤ length m → hash h m k ≡ hash h (padded m) k
 unfolding hash
-hash-front h m zero l = refl
-hash-front h m (suc k) l = ap₂ compress (hash-front h m k (omega arith)) (block-front m k (omega arith))
+hash_front h m zero l = refl
+hash_front h m (suc k) l = ap₂ compress (hash_front h m k (omega arith)) (block_front m k (omega arith))
 
-pub digest-whole : (m : List ℕ) (v r : State) → v ≡ H0 → r ≡ hash v m (length m / 64) → r ≡ hash H0 (padded m) (length m / 64)
-digest-whole m v r i e = e ∙ ap (λ (w : State). hash w m (length m / 64)) i ∙ hash-front H0 m (length m / 64) (omega arith)
+pub digest_whole : (m : List ℕ) (v r : State) → v ≡ H0 → r ≡ hash v m (length m / 64) → r ≡ hash H0 (padded m) (length m / 64)
+digest_whole m v r i e = e ∙ ap (λ (w : State). hash w m (length m / 64)) i ∙ hash_front H0 m (length m / 64) (omega arith)
 
 -- one padded block more
-hash-block : (h : State) (b : List ℕ) → length b ≡ 64 → hash h b (length b / 64) ≡ compress h b
+hash_block : (h : State) (b : List ℕ) → length b ≡ 64 → hash h b (length b / 64) ≡ compress h b
 unfolding hash
-hash-block h b l = rw l (ap (compress h) (take_all 64 b (omega arith)))
+hash_block h b l = rw l (ap (compress h) (take_all 64 b (omega arith)))
 
-pub digest-step : (m b : List ℕ) (h r : State) (k : ℕ) → length b ≡ 64 → h ≡ hash H0 (padded m) k → b ≡ block (padded m) k
+pub digest_step : (m b : List ℕ) (h r : State) (k : ℕ) → length b ≡ 64 → h ≡ hash H0 (padded m) k → b ≡ block (padded m) k
     → r ≡ hash h b (length b / 64) → r ≡ hash H0 (padded m) (k + 1)
 unfolding hash
-digest-step m b h r k l e g q = rw add-one (q ∙ hash-block h b l ∙ ap₂ compress e g)
+digest_step m b h r k l e g q = rw add-one (q ∙ hash_block h b l ∙ ap₂ compress e g)
 
-pub digest-end : (m r : List ℕ) (h : State) (k n : ℕ) → 64 * n ≡ length m + 9 + zeros (length m) → k ≤ n → n ≤ k
+pub digest_end : (m r : List ℕ) (h : State) (k n : ℕ) → 64 * n ≡ length m + 9 + zeros (length m) → k ≤ n → n ≤ k
     → h ≡ hash H0 (padded m) k → r ≡ bytes_of h
     → r ≡ sha256 m
 unfolding sha256
-digest-end m r h k n p l g e q =
-    let d : length (padded m) / 64 ≡ k = omega (arith, length-padded m) in
+digest_end m r h k n p l g e q =
+    let d : length (padded m) / 64 ≡ k = omega (arith, length_padded m) in
     rw d (q ∙ ap bytes_of e)
 
 -- For all later use: a digest has 32 elements, and each is a byte.
-pub digest-length : (m : List ℕ) → length (sha256 m) ≡ 32
+pub digest_length : (m : List ℕ) → length (sha256 m) ≡ 32
 unfolding sha256
-digest-length m = refl
+digest_length m = refl
 
 pub record Bytes (xs : List ℕ) : Type 0 where
   pub small : (i : ℕ) → get_or xs i 0 < 256
@@ -63,13 +63,13 @@ word_bytes x = record { small = at }
     at (suc (suc (suc zero))) = omega arith
     at (suc (suc (suc (suc i)))) = omega arith
 
-state-bytes : (s : State) → Bytes (bytes_of s)
-state-bytes s =
+state_bytes : (s : State) → Bytes (bytes_of s)
+state_bytes s =
     let w : (x : ℕ) → Bytes (bytes4 x) = word_bytes in
     both
     (both (both (both (both (both (both (w s.a) (w s.b)) (w s.c)) (w s.d)) (w s.e)) (w s.f)) (w s.g))
     (w s.h)
 
-pub digest-bytes : (m : List ℕ) → Bytes (sha256 m)
+pub digest_bytes : (m : List ℕ) → Bytes (sha256 m)
 unfolding sha256
-digest-bytes m = state-bytes _
+digest_bytes m = state_bytes _

@@ -8,23 +8,23 @@ use lib.Seq.{get_or-append-add, get_or-append_seam, take-append-le, drop-append-
 use Rattle.sha256.specs.Fips.{padded, zeros, bytes8, block}
 
 -- the zero bytes are as few as bring the whole to 56 modulo 64
-pub zeros-fill : (l : ℕ) → (l + 1 + zeros l) % 64 ≡ 56
-zeros-fill l = omega arith
+pub zeros_fill : (l : ℕ) → (l + 1 + zeros l) % 64 ≡ 56
+zeros_fill l = omega arith
 
-pub zeros-few : (l z : ℕ) → (l + 1 + z) % 64 ≡ 56 → zeros l ≤ z
-zeros-few l z h = omega arith
+pub zeros_few : (l z : ℕ) → (l + 1 + z) % 64 ≡ 56 → zeros l ≤ z
+zeros_few l z h = omega arith
 
-pub length-padded : (m : List ℕ) → length (padded m) ≡ length m + 9 + zeros (length m)
+pub length_padded : (m : List ℕ) → length (padded m) ≡ length m + 9 + zeros (length m)
 unfolding padded
-length-padded m = simp (length-append, length-replicate) (omega arith)
+length_padded m = simp (length-append, length-replicate) (omega arith)
 
-pub padded-front : (m : List ℕ) (i : ℕ) → i < length m → get_or m i 0 ≡ get_or (padded m) i 0
+pub padded_front : (m : List ℕ) (i : ℕ) → i < length m → get_or m i 0 ≡ get_or (padded m) i 0
 unfolding padded
-padded-front m i h = sym (get_or-append m _ 0 i h)
+padded_front m i h = sym (get_or-append m _ 0 i h)
 
-pub padded-mark : (m : List ℕ) (i : ℕ) → i ≡ length m → 0x80 ≡ get_or (padded m) i 0
+pub padded_mark : (m : List ℕ) (i : ℕ) → i ≡ length m → 0x80 ≡ get_or (padded m) i 0
 unfolding padded
-padded-mark m i e = rw e (sym (get_or-append_seam m 0x80 _ 0))
+padded_mark m i e = rw e (sym (get_or-append_seam m 0x80 _ 0))
 
 -- what stands behind the mark
 behind : (m : List ℕ) (q : ℕ)
@@ -32,8 +32,8 @@ behind : (m : List ℕ) (q : ℕ)
 unfolding padded
 behind m q = get_or-append-add m _ (suc q) 0
 
-pub padded-zero : (m : List ℕ) (i : ℕ) → length m < i → i < length m + 1 + zeros (length m) → 0 ≡ get_or (padded m) i 0
-padded-zero m i h g =
+pub padded_zero : (m : List ℕ) (i : ℕ) → length m < i → i < length m + 1 + zeros (length m) → 0 ≡ get_or (padded m) i 0
+padded_zero m i h g =
     let q : ℕ = i - (length m + 1) in
     let e : i ≡ length m + suc q = omega arith in
     let l : q < zeros (length m) = omega arith in
@@ -54,20 +54,20 @@ byte8 n (suc (suc (suc (suc (suc (suc zero)))))) h = refl
 byte8 n (suc (suc (suc (suc (suc (suc (suc zero))))))) h = omega arith
 byte8 n (suc (suc (suc (suc (suc (suc (suc (suc j)))))))) h = absurd (omega arith)
 
-pub padded-length : (m : List ℕ) (i j n : ℕ) → n ≡ 8 * length m % 2 ^ 64 → i ≡ length m + 1 + zeros (length m) + j → j < 8
+pub padded_length : (m : List ℕ) (i j n : ℕ) → n ≡ 8 * length m % 2 ^ 64 → i ≡ length m + 1 + zeros (length m) + j → j < 8
     → n / 2 ^ (56 - 8 * j) % 256 ≡ get_or (padded m) i 0
-padded-length m i j n q p h =
+padded_length m i j n q p h =
     let z : List ℕ = replicate (zeros (length m)) 0 in
     let e : i ≡ length m + suc (length z + j) = omega (arith, length-replicate {A = ℕ} (zeros (length m)) 0) in
     rw (q, e, behind m (length z + j)) (sym (get_or-append-add z _ j 0 ∙ byte8 (8 * length m % 2 ^ 64) j h))
 
-pub padded-past : (m : List ℕ) (i : ℕ) → length m + 9 + zeros (length m) ≤ i → 0 ≡ get_or (padded m) i 0
-padded-past m i h = sym (get_or-eq_default (padded m) 0 (rw length-padded h))
+pub padded_past : (m : List ℕ) (i : ℕ) → length m + 9 + zeros (length m) ≤ i → 0 ≡ get_or (padded m) i 0
+padded_past m i h = sym (get_or-eq_default (padded m) 0 (rw length_padded h))
 
 -- a block that lies whole in the message
-pub block-front : (m : List ℕ) (k : ℕ) → 64 * k + 64 ≤ length m → block m k ≡ block (padded m) k
+pub block_front : (m : List ℕ) (k : ℕ) → 64 * k + 64 ≤ length m → block m k ≡ block (padded m) k
 unfolding padded
-block-front m k h =
+block_front m k h =
     let l : 64 ≤ length (drop (64 * k) m) = rw length-drop (omega arith) in
     let g : 64 * k ≤ length m = omega arith in
     rw (drop-append-le (64 * k) m _ g) (sym (take-append-le 64 (drop (64 * k) m) _ l))

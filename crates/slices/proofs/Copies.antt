@@ -6,6 +6,6 @@ use lib.ListN.{drop_of_length-le}
 use Rattle.apollo.specs.Bytes.{zeros}
 
 -- the first i bytes are zeroed
-pub clear-end : (out : List ℕ) (i : ℕ) → i ≤ length out → length out ≤ i → replicate i 0 ++ drop i out ≡ zeros (length out)
+pub clear_end : (out : List ℕ) (i : ℕ) → i ≤ length out → length out ≤ i → replicate i 0 ++ drop i out ≡ zeros (length out)
 unfolding zeros
-clear-end out i h g = rw (drop_of_length-le out g, append-nil, le_antisymm h g)
+clear_end out i h g = rw (drop_of_length-le out g, append-nil, le_antisymm h g)

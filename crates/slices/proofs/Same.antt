@@ -11,12 +11,12 @@ use lib.ListN.{length, get_or, drop, get_or-replicate, drop_of_length-le}
 use lib.Seq.{drop-cons}
 use borrow.Author.Tests.{eq-eqb, ne_eqb, eqb-true, eqb-false}
 use Rattle.apollo.specs.Bytes.{same, zeros}
-use Rattle.apollo.proofs.Tests.{and-end, and_assoc}
-use Rattle.apollo.proofs.Slots.{length-zeros}
+use Rattle.apollo.proofs.Tests.{and_end, and_assoc}
+use Rattle.apollo.proofs.Slots.{length_zeros}
 
 -- no bit of d is set, and x and y differ in none
-join-differ : (d x y : ℕ) → eqb (bit_or d (bit_xor x y)) 0 ≡ eqb d 0 && eqb x y
-join-differ d x y = by (eqb d 0) refl (eqb x y) refl
+join_differ : (d x y : ℕ) → eqb (bit_or d (bit_xor x y)) 0 ≡ eqb d 0 && eqb x y
+join_differ d x y = by (eqb d 0) refl (eqb x y) refl
   where
     by : (s : Bool) → eqb d 0 ≡ s → (t : Bool) → eqb x y ≡ t → eqb (bit_or d (bit_xor x y)) 0 ≡ s && t
     by true e true g =
@@ -37,13 +37,13 @@ pub same_next : (a b : List ℕ) (i d : ℕ) → i < length a → length a ≡ l
 unfolding same
 same_next a b i d h l =
     let g : i < length b = omega arith in
-    rw (add-one, drop-cons a i 0 h, drop-cons b i 0 g, join-differ d (get_or a i 0) (get_or b i 0))
+    rw (add-one, drop-cons a i 0 h, drop-cons b i 0 g, join_differ d (get_or a i 0) (get_or b i 0))
     (and_assoc (eqb d 0) (eqb (get_or a i 0) (get_or b i 0)) (same (drop (suc i) a) (drop (suc i) b)))
 
 pub same_end : (a b : List ℕ) (i d : ℕ) → length a ≤ i → length a ≡ length b
     → eqb d 0 && same (drop i a) (drop i b) ≡ eqb d 0
 unfolding same
-same_end a b i d h l = rw (drop_of_length-le a h, drop_of_length-le b {i = i} (omega arith)) (and-end (eqb d 0))
+same_end a b i d h l = rw (drop_of_length-le a h, drop_of_length-le b {i = i} (omega arith)) (and_end (eqb d 0))
 
 -- lists of different lengths
 pub same_length : (a b : List ℕ) → (length a ≡ length b → ⊥) → same a b ≡ false
@@ -51,25 +51,25 @@ unfolding same
 same_length [] [] n = absurd (n refl)
 same_length [] (y ∷ b) n = refl
 same_length (x ∷ a) [] n = refl
-same_length (x ∷ a) (y ∷ b) n = and-false (eqb x y) (same a b) (same_length a b (λ e. n (ap suc e)))
+same_length (x ∷ a) (y ∷ b) n = and_false (eqb x y) (same a b) (same_length a b (λ e. n (ap suc e)))
   where
-    and-false : (t s : Bool) → s ≡ false → t && s ≡ false
-    and-false true s e = e
-    and-false false s e = refl
+    and_false : (t s : Bool) → s ≡ false → t && s ≡ false
+    and_false true s e = e
+    and_false false s e = refl
 
-get_or-zeros : (n i : ℕ) → i < n → get_or (zeros n) i 0 ≡ 0
+get_or_zeros : (n i : ℕ) → i < n → get_or (zeros n) i 0 ≡ 0
 unfolding zeros
-get_or-zeros n i h = get_or-replicate n i 0 0 h
+get_or_zeros n i h = get_or-replicate n i 0 0 h
 
 -- the same of a list and zeros
-pub zero-next : (x : List ℕ) (i d : ℕ) → i < length x
+pub zero_next : (x : List ℕ) (i d : ℕ) → i < length x
     → eqb d 0 && same (drop i x) (drop i (zeros (length x)))
     ≡ eqb (bit_or d (get_or x i 0)) 0 && same (drop (i + 1) x) (drop (i + 1) (zeros (length x)))
-zero-next x i d h =
+zero_next x i d h =
     let e : bit_xor (get_or x i 0) (get_or (zeros (length x)) i 0) ≡ get_or x i 0 =
-    rw (get_or-zeros (length x) i h) (xor_zero_r (get_or x i 0)) in
-    rw e at (same_next x (zeros (length x)) i d h (sym (length-zeros (length x))))
+    rw (get_or_zeros (length x) i h) (xor_zero_r (get_or x i 0)) in
+    rw e at (same_next x (zeros (length x)) i d h (sym (length_zeros (length x))))
 
-pub zero-end : (x : List ℕ) (i d : ℕ) → length x ≤ i
+pub zero_end : (x : List ℕ) (i d : ℕ) → length x ≤ i
     → eqb d 0 && same (drop i x) (drop i (zeros (length x))) ≡ eqb d 0
-zero-end x i d h = same_end x (zeros (length x)) i d h (sym (length-zeros (length x)))
+zero_end x i d h = same_end x (zeros (length x)) i d h (sym (length_zeros (length x)))

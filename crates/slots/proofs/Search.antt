@@ -11,39 +11,39 @@ use Rattle.apollo.specs.Frame.{height}
 use Rattle.apollo.specs.Log.{genesis, slot, filled, highest, slots_read}
 
 -- the genesis is not filled, and its height is 0
-pub genesis-empty : (log : List ℕ) (r : ℕ) → r ≡ 0 → false ≡ filled (slot log r)
+pub genesis_empty : (log : List ℕ) (r : ℕ) → r ≡ 0 → false ≡ filled (slot log r)
 unfolding slot genesis zeros
-genesis-empty log r e = rw e
+genesis_empty log r e = rw e
 
-pub genesis-height : (log : List ℕ) (r : ℕ) → r ≡ 0 → 0 ≡ height (slot log r)
+pub genesis_height : (log : List ℕ) (r : ℕ) → r ≡ 0 → 0 ≡ height (slot log r)
 unfolding slot genesis zeros number4
-genesis-height log r e = rw e
+genesis_height log r e = rw e
 
 -- from round 1 on a slot is a part of the log
-pub slot-part : (log : List ℕ) (r : ℕ) → 0 < r → part log (frame_size * (r - 1)) frame_size ≡ slot log r
+pub slot_part : (log : List ℕ) (r : ℕ) → 0 < r → part log (frame_size * (r - 1)) frame_size ≡ slot log r
 unfolding slot
-slot-part log zero h = absurd (omega arith)
-slot-part log (suc k) h =
+slot_part log zero h = absurd (omega arith)
+slot_part log (suc k) h =
     let e : suc k - 1 ≡ k = omega arith in
     rw e
 
 -- highest, from slot r downwards
-pub highest-here : (log : List ℕ) (r : ℕ) → 0 < r → true ≡ filled (slot log r) → r ≡ highest log r
+pub highest_here : (log : List ℕ) (r : ℕ) → 0 < r → true ≡ filled (slot log r) → r ≡ highest log r
 unfolding highest
-highest-here log zero h e = refl
-highest-here log (suc r) h e = rw (← e)
+highest_here log zero h e = refl
+highest_here log (suc r) h e = rw (← e)
 
-pub highest-below : (log : List ℕ) (r : ℕ) → 0 < r → false ≡ filled (slot log r) → highest log (r - 1) ≡ highest log r
+pub highest_below : (log : List ℕ) (r : ℕ) → 0 < r → false ≡ filled (slot log r) → highest log (r - 1) ≡ highest log r
 unfolding highest
-highest-below log zero h e = absurd (omega arith)
-highest-below log (suc r) h e =
+highest_below log zero h e = absurd (omega arith)
+highest_below log (suc r) h e =
     let z : suc r - 1 ≡ r = omega arith in
     rw (← e, z)
 
-pub highest-none : (log : List ℕ) (r : ℕ) → r ≤ 0 → r ≡ highest log r
+pub highest_none : (log : List ℕ) (r : ℕ) → r ≤ 0 → r ≡ highest log r
 unfolding highest
-highest-none log zero h = refl
-highest-none log (suc r) h = absurd (omega arith)
+highest_none log zero h = refl
+highest_none log (suc r) h = absurd (omega arith)
 
 -- the slots read on the way down to slot r, which is the one found, or to none
 pub read_found : (log : List ℕ) (limit r n : ℕ) → 0 < r → n + r ≡ limit + 1 → r ≡ highest log limit → n ≡ slots_read log limit

@@ -12,7 +12,7 @@ use Rattle.apollo.specs.Log.{store, clear_above}
 use Rattle.apollo.specs.Frame.{round}
 use Rattle.apollo.specs.Branch.{store_all}
 use Rattle.slots.specs.Slots.{Slotted}
-use Rattle.frame.proofs.Frames.{rest, rest-next, rest_end, frame-part}
+use Rattle.frame.proofs.Frames.{rest, rest_next, rest_end, frame_part}
 
 -- a log whose slots above round r are zeroed in place, and one that has none
 pub cleared : (log y : List ℕ) (r : ℕ) → frame_size * r ≤ length log → y ≡ zeros (length (take (length log - frame_size * r) (drop (frame_size * r) log)))
@@ -45,22 +45,22 @@ pub each_more : (log y b goal : List ℕ) (n i : ℕ) → i < n
     → y ≡ store log (round (take (frame_size * i + frame_size - frame_size * i) (drop (frame_size * i) b))) (take (frame_size * i + frame_size - frame_size * i) (drop (frame_size * i) b))
     → store_all log (rest b n i) ≡ goal → store_all y (rest b n (i + 1)) ≡ goal
 unfolding store_all
-each_more log y b goal n i h d e = rw (d, frame-part b (frame_size * i)) (rw (rest-next b n i h) at e)
+each_more log y b goal n i h d e = rw (d, frame_part b (frame_size * i)) (rw (rest_next b n i h) at e)
 
-pub each-end : (log b goal : List ℕ) (n i : ℕ) → n ≤ i → store_all log (rest b n i) ≡ goal → log ≡ goal
+pub each_end : (log b goal : List ℕ) (n i : ℕ) → n ≤ i → store_all log (rest b n i) ≡ goal → log ≡ goal
 unfolding store_all
-each-end log b goal n i h e = rw (rest_end b n i h) at e
+each_end log b goal n i h e = rw (rest_end b n i h) at e
 
 -- the slot of the next frame, and of those after it
-pub slotted-next : (size : ℕ) (b : List ℕ) (n i : ℕ) → i < n → Slotted size (rest b n i)
+pub slotted_next : (size : ℕ) (b : List ℕ) (n i : ℕ) → i < n → Slotted size (rest b n i)
     → (1 ≤ round (part b (frame_size * i) frame_size)) × (frame_size * round (part b (frame_size * i) frame_size) ≤ size) × Slotted size (rest b n (i + 1))
 unfolding Slotted
-slotted-next size b n i h s = rw (rest-next b n i h) at s
+slotted_next size b n i h s = rw (rest_next b n i h) at s
 
-pub next-slot : (size : ℕ) (b : List ℕ) (n i : ℕ) → i < n → frame_size * n ≤ length b → Slotted size (rest b n i)
+pub next_slot : (size : ℕ) (b : List ℕ) (n i : ℕ) → i < n → frame_size * n ≤ length b → Slotted size (rest b n i)
     → (1 ≤ round (take (frame_size * i + frame_size - frame_size * i) (drop (frame_size * i) b)))
     × (frame_size * round (take (frame_size * i + frame_size - frame_size * i) (drop (frame_size * i) b)) ≤ size)
     × (length (take (frame_size * i + frame_size - frame_size * i) (drop (frame_size * i) b)) ≡ frame_size)
-next-slot size b n i h g s =
-    let p = slotted-next size b n i h s in
-    rw (frame-part b (frame_size * i)) (p.0, p.1, simp (length-take, length-drop) (omega arith))
+next_slot size b n i h g s =
+    let p = slotted_next size b n i h s in
+    rw (frame_part b (frame_size * i)) (p.0, p.1, simp (length-take, length-drop) (omega arith))

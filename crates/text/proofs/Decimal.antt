@@ -8,6 +8,6 @@ appends : AppendsLastDigit digits_to
 unfolding digits_to
 appends = search rules
 
-pub decimal-same : (n : ℕ) → n < 2 ^ 64 → std_decimal n ≡ decimal n
+pub decimal_same : (n : ℕ) → n < 2 ^ 64 → std_decimal n ≡ decimal n
 unfolding decimal
-decimal-same n h = sym (decimal_from_appends digits_to appends 20 n h (length-decimal-le 20 n (omega arith) (omega arith) h))
+decimal_same n h = sym (decimal_from_appends digits_to appends 20 n h (length-decimal-le 20 n (omega arith) (omega arith) h))

@@ -4,15 +4,15 @@ use Rattle.std.proofs.Math.Seq.{paste, drop-length}
 use Rattle.std.proofs.lemmas.Bool.{le-leb, lt-leb}
 use Rattle.text.specs.Row.{Line, written, put, put_number, put_from}
 
-pub put-fits : (xs s : List ℕ) (at : ℕ) → at + length s ≤ length xs
+pub put_fits : (xs s : List ℕ) (at : ℕ) → at + length s ≤ length xs
     → written (paste xs at s (length s)) (at + length s) ≡ put (written xs at) s
 unfolding put
-put-fits xs s at h = rw (le-leb (at + length s) (length xs) h)
+put_fits xs s at h = rw (le-leb (at + length s) (length xs) h)
 
-pub put-not : (xs s : List ℕ) (at : ℕ) → length xs < at + length s
+pub put_not : (xs s : List ℕ) (at : ℕ) → length xs < at + length s
     → written xs (min at (length xs)) ≡ put (written xs at) s
 unfolding put
-put-not xs s at h = rw (lt-leb (at + length s) (length xs) h)
+put_not xs s at h = rw (lt-leb (at + length s) (length xs) h)
 
 -- the number at i is put
 pub from_next : (l : Line) (i : ℕ) (ns : List ℕ) → i < length ns

@@ -10,13 +10,13 @@ use borrow.Author.Tests.{eqb-true, eq-eqb, leb-true, leb-false}
 use Rattle.apollo.specs.Frame.{kind, round, height, parent, digest}
 use Rattle.apollo.specs.Log.{genesis, filled}
 use Rattle.theorem_agreement.proofs.Tests.{clash}
-use Rattle.theorem_agreement.proofs.Frames.{round-genesis, height-genesis}
+use Rattle.theorem_agreement.proofs.Frames.{round_genesis, height_genesis}
 
-pub filled-kind : (x : List ℕ) → filled x ≡ true → kind x ≡ 1
-filled-kind x e = eqb-true _ _ e
+pub filled_kind : (x : List ℕ) → filled x ≡ true → kind x ≡ 1
+filled_kind x e = eqb-true _ _ e
 
-pub kind-filled : (x : List ℕ) → kind x ≡ 1 → filled x ≡ true
-kind-filled x e = eq-eqb _ _ e
+pub kind_filled : (x : List ℕ) → kind x ≡ 1 → filled x ≡ true
+kind_filled x e = eq-eqb _ _ e
 
 -- slot p is filled, or is the genesis
 abbrev pub Held : (ℕ → List ℕ) → ℕ → Type 0
@@ -57,18 +57,18 @@ module _ (T : ℕ) (passed : ℕ → Type 0) (known : ℕ → List ℕ → Type 
       go false t = absurd (clash e (c.above q (leb-false _ _ t)))
 
   -- the genesis has height 0, and a held slot's height is at most its round
-  pub held-level : (s : ℕ → List ℕ) (a : ℕ) → Chain s a → (q : ℕ) → Held s q → height (s q) ≤ q
-  held-level s a c q (inl e) = omega (arith, ap (λ k. height (s k)) e, ap height c.origin, height-genesis)
-  held-level s a c q (inr e) = c.level q e
+  pub held_level : (s : ℕ → List ℕ) (a : ℕ) → Chain s a → (q : ℕ) → Held s q → height (s q) ≤ q
+  held_level s a c q (inl e) = omega (arith, ap (λ k. height (s k)) e, ap height c.origin, height_genesis)
+  held_level s a c q (inr e) = c.level q e
 
   -- a held slot is no higher than a held slot above it: one link, and what is known below it
-  rise-link : (s : ℕ → List ℕ) (r q : ℕ) → q ≤ r → Held s q → (m : Link s r) → (q ≤ m.below → height (s q) ≤ height (s m.below))
+  rise_link : (s : ℕ → List ℕ) (r q : ℕ) → q ≤ r → Held s q → (m : Link s r) → (q ≤ m.below → height (s q) ≤ height (s m.below))
       → height (s q) ≤ height (s r)
-  rise-link s r q l hq m ih = go (leb q m.below) refl (leb r q) refl
+  rise_link s r q l hq m ih = go (leb q m.below) refl (leb r q) refl
     where
-      held-between : Held s q → m.below < q → q < r → ⊥
-      held-between (inl z) x y = omega arith
-      held-between (inr e) x y = clash e (m.between q x y)
+      held_between : Held s q → m.below < q → q < r → ⊥
+      held_between (inl z) x y = omega arith
+      held_between (inr e) x y = clash e (m.between q x y)
 
       go : (x : Bool) → leb q m.below ≡ x → (y : Bool) → leb r q ≡ y → height (s q) ≤ height (s r)
       go true ex y ey = omega (arith, ih (leb-true _ _ ex), m.joins.rise)
@@ -76,16 +76,16 @@ module _ (T : ℕ) (passed : ℕ → Type 0) (known : ℕ → List ℕ → Type 
           let h : r ≤ q = leb-true _ _ ey in
           let z : q ≡ r = omega arith in
           omega (arith, ap (λ k. height (s k)) z)
-      go false ex false ey = absurd (held-between hq (leb-false _ _ ex) (leb-false _ _ ey))
+      go false ex false ey = absurd (held_between hq (leb-false _ _ ex) (leb-false _ _ ey))
 
-  rise-to : (s : ℕ → List ℕ) (a : ℕ) → Chain s a → (n r q : ℕ) → r ≤ n → q ≤ r → Held s q → Held s r → height (s q) ≤ height (s r)
-  rise-to s a c zero r q le l hq hr = let z : q ≡ r = omega arith in omega (arith, ap (λ k. height (s k)) z)
-  rise-to s a c (suc n) r q le l hq (inl z) = let y : q ≡ r = omega arith in omega (arith, ap (λ k. height (s k)) y)
-  rise-to s a c (suc n) r q le l hq (inr fr) =
-      rise-link s r q l hq (c.link r fr) (λ b. rise-to s a c n _ q (omega (arith, (c.link r fr).less)) b hq (c.link r fr).held)
+  rise_to : (s : ℕ → List ℕ) (a : ℕ) → Chain s a → (n r q : ℕ) → r ≤ n → q ≤ r → Held s q → Held s r → height (s q) ≤ height (s r)
+  rise_to s a c zero r q le l hq hr = let z : q ≡ r = omega arith in omega (arith, ap (λ k. height (s k)) z)
+  rise_to s a c (suc n) r q le l hq (inl z) = let y : q ≡ r = omega arith in omega (arith, ap (λ k. height (s k)) y)
+  rise_to s a c (suc n) r q le l hq (inr fr) =
+      rise_link s r q l hq (c.link r fr) (λ b. rise_to s a c n _ q (omega (arith, (c.link r fr).less)) b hq (c.link r fr).held)
 
   pub rises : (s : ℕ → List ℕ) (a : ℕ) → Chain s a → (q r : ℕ) → q ≤ r → Held s q → Held s r → height (s q) ≤ height (s r)
-  rises s a c q r l hq hr = rise-to s a c r r q (omega arith) l hq hr
+  rises s a c q r l hq hr = rise_to s a c r r q (omega arith) l hq hr
 
   -- and a filled slot is higher than every held one below it
   pub climbs : (s : ℕ → List ℕ) (a : ℕ) → Chain s a → (k q : ℕ) → k < q → Held s k → filled (s q) ≡ true → height (s k) < height (s q)
@@ -99,9 +99,9 @@ module _ (T : ℕ) (passed : ℕ → Type 0) (known : ℕ → List ℕ → Type 
       go true e = omega (arith, (c.link q f).joins.rise, rises s a c k (c.link q f).below (leb-true _ _ e) hk (c.link q f).held)
       go false e = absurd (apart hk (leb-false _ _ e))
 
-pub chain-map : (T : ℕ) (p p' : ℕ → Type 0) (k k' : ℕ → List ℕ → Type 0) (s : ℕ → List ℕ) (a : ℕ) → ((q : ℕ) → p q → p' q)
+pub chain_map : (T : ℕ) (p p' : ℕ → Type 0) (k k' : ℕ → List ℕ → Type 0) (s : ℕ → List ℕ) (a : ℕ) → ((q : ℕ) → p q → p' q)
     → ((q : ℕ) (x : List ℕ) → k q x → k' q x) → Chain T p k s a → Chain T p' k' s a
-chain-map T p p' k k' s a f g c =
+chain_map T p p' k k' s a f g c =
     record {
       top = c.top;
       low = c.low;
@@ -118,54 +118,54 @@ chain-map T p p' k k' s a f g c =
 module _ (T : ℕ) (known : ℕ → List ℕ → Type 0) (seen : List ℕ → Type 0) (rounds : (q : ℕ) (x : List ℕ) → known q x → round x ≡ q)
     (sees : (q : ℕ) (x : List ℕ) → known q x → seen x)
     (distinct : (x y : List ℕ) → (x ≡ genesis) ⊎ seen x → (y ≡ genesis) ⊎ seen y → digest x ≡ digest y → x ≡ y) where
-  held-round : (p : ℕ → Type 0) (s : ℕ → List ℕ) (a : ℕ) → Chain T p known s a → (q : ℕ) → Held s q → round (s q) ≡ q
-  held-round p s a c q (inl e) = ap round (ap s e ∙ c.origin) ∙ round-genesis ∙ sym e
-  held-round p s a c q (inr e) = rounds q (s q) (c.fact q e)
+  held_round : (p : ℕ → Type 0) (s : ℕ → List ℕ) (a : ℕ) → Chain T p known s a → (q : ℕ) → Held s q → round (s q) ≡ q
+  held_round p s a c q (inl e) = ap round (ap s e ∙ c.origin) ∙ round_genesis ∙ sym e
+  held_round p s a c q (inr e) = rounds q (s q) (c.fact q e)
 
-  held-known : (p : ℕ → Type 0) (s : ℕ → List ℕ) (a : ℕ) → Chain T p known s a → (q : ℕ) → Held s q → (s q ≡ genesis) ⊎ seen (s q)
-  held-known p s a c q (inl e) = inl (ap s e ∙ c.origin)
-  held-known p s a c q (inr e) = inr (sees q (s q) (c.fact q e))
+  held_known : (p : ℕ → Type 0) (s : ℕ → List ℕ) (a : ℕ) → Chain T p known s a → (q : ℕ) → Held s q → (s q ≡ genesis) ⊎ seen (s q)
+  held_known p s a c q (inl e) = inl (ap s e ∙ c.origin)
+  held_known p s a c q (inr e) = inr (sees q (s q) (c.fact q e))
 
   module _ (p p' : ℕ → Type 0) (s t : ℕ → List ℕ) (a b : ℕ) (c : Chain T p known s a) (d : Chain T p' known t b) where
     -- two links from equal frames go to the same round
-    same-below : (r : ℕ) (l : Link s r) (m : Link t r) → s r ≡ t r → (l.below ≡ m.below) × (s l.below ≡ t l.below)
-    same-below r l m e =
+    same_below : (r : ℕ) (l : Link s r) (m : Link t r) → s r ≡ t r → (l.below ≡ m.below) × (s l.below ≡ t l.below)
+    same_below r l m e =
         let h : s l.below ≡ t m.below =
-        distinct (s l.below) (t m.below) (held-known p s a c l.below l.held) (held-known p' t b d m.below m.held)
+        distinct (s l.below) (t m.below) (held_known p s a c l.below l.held) (held_known p' t b d m.below m.held)
         (l.joins.named ∙ ap parent e ∙ sym m.joins.named) in
         let k : l.below ≡ m.below =
-        sym (held-round p s a c l.below l.held) ∙ ap round h ∙ held-round p' t b d m.below m.held in
+        sym (held_round p s a c l.below l.held) ∙ ap round h ∙ held_round p' t b d m.below m.held in
         (k, h ∙ ap t (sym k))
 
-    bare-both : (q : ℕ) → q ≤ T → filled (s q) ≡ false → filled (t q) ≡ false → s q ≡ t q
-    bare-both q l e g = c.bare q l e ∙ sym (d.bare q l g)
+    bare_both : (q : ℕ) → q ≤ T → filled (s q) ≡ false → filled (t q) ≡ false → s q ≡ t q
+    bare_both q l e g = c.bare q l e ∙ sym (d.bare q l g)
 
     -- what is left of `agree` at r, once it is known below r
-    agree-link : (r : ℕ) → filled (s r) ≡ true → (l : Link s r) (m : Link t r) → s r ≡ t r
+    agree_link : (r : ℕ) → filled (s r) ≡ true → (l : Link s r) (m : Link t r) → s r ≡ t r
         → ((p : ℕ) → p < r → Held s p → Held t p → s p ≡ t p → (q : ℕ) → q ≤ p → s q ≡ t q) → (q : ℕ) → q ≤ r → s q ≡ t q
-    agree-link r fr l m e ih q le = go (leb q l.below) (leb r q) refl refl
+    agree_link r fr l m e ih q le = go (leb q l.below) (leb r q) refl refl
       where
         k : l.below ≡ m.below
-        k = (same-below r l m e).0
+        k = (same_below r l m e).0
 
         go : (x y : Bool) → leb q l.below ≡ x → leb r q ≡ y → s q ≡ t q
         go true y ex ey =
-            ih l.below l.less l.held (subst (Held t) (sym k) m.held) (same-below r l m e).1 q (leb-true _ _ ex)
+            ih l.below l.less l.held (subst (Held t) (sym k) m.held) (same_below r l m e).1 q (leb-true _ _ ex)
         go false true ex ey = let z : q ≡ r = omega (arith, leb-true r q ey) in ap s z ∙ e ∙ sym (ap t z)
         go false false ex ey =
-            bare-both q (omega (arith, within T p known s a c r (inr fr), c.low)) (l.between q (leb-false _ _ ex) (leb-false _ _ ey))
+            bare_both q (omega (arith, within T p known s a c r (inr fr), c.low)) (l.between q (leb-false _ _ ex) (leb-false _ _ ey))
             (m.between q (subst (λ p. p < q) k (leb-false _ _ ex)) (leb-false _ _ ey))
 
-    agree-to : (n r : ℕ) → r ≤ n → Held s r → Held t r → s r ≡ t r → (q : ℕ) → q ≤ r → s q ≡ t q
-    agree-to zero r le hs ht e q l =
+    agree_to : (n r : ℕ) → r ≤ n → Held s r → Held t r → s r ≡ t r → (q : ℕ) → q ≤ r → s q ≡ t q
+    agree_to zero r le hs ht e q l =
         let z : q ≡ 0 = omega arith in
         ap s z ∙ c.origin ∙ sym (ap t z ∙ d.origin)
-    agree-to (suc n) r le (inl z) ht e q l =
+    agree_to (suc n) r le (inl z) ht e q l =
         let y : q ≡ 0 = omega arith in
         ap s y ∙ c.origin ∙ sym (ap t y ∙ d.origin)
-    agree-to (suc n) r le (inr fs) ht e q l =
-        agree-link r fs (c.link r fs) (d.link r (ap filled (sym e) ∙ fs)) e
-        (λ p lt hs ht' e'. agree-to n p (omega arith) hs ht' e') q l
+    agree_to (suc n) r le (inr fs) ht e q l =
+        agree_link r fs (c.link r fs) (d.link r (ap filled (sym e) ∙ fs)) e
+        (λ p lt hs ht' e'. agree_to n p (omega arith) hs ht' e') q l
 
     pub agree : (r : ℕ) → Held s r → Held t r → s r ≡ t r → (q : ℕ) → q ≤ r → s q ≡ t q
-    agree r = agree-to r r (omega arith)
+    agree r = agree_to r r (omega arith)

@@ -8,26 +8,26 @@ use Rattle.apollo.specs.Size.{frame_size}
 use Rattle.apollo.specs.Bytes.{number4, zeros}
 use Rattle.apollo.specs.Frame.{round, height, digest, frames}
 use Rattle.apollo.specs.Log.{genesis}
-pub use Rattle.apollo.proofs.Slots.{slot-length}
-pub use Rattle.apollo.proofs.Frames.{Whole, frames-whole}
+pub use Rattle.apollo.proofs.Slots.{slot_length}
+pub use Rattle.apollo.proofs.Frames.{Whole, frames_whole}
 
-pub digest-width : (x : List ℕ) → length x ≡ frame_size → length (digest x) ≡ 32
-digest-width x e = simp (length-take, length-drop, e) refl
+pub digest_width : (x : List ℕ) → length x ≡ frame_size → length (digest x) ≡ 32
+digest_width x e = simp (length-take, length-drop, e) refl
 
-pub height-genesis : height genesis ≡ 0
+pub height_genesis : height genesis ≡ 0
 unfolding genesis number4 zeros
-height-genesis = refl
+height_genesis = refl
 
-pub round-genesis : round genesis ≡ 0
+pub round_genesis : round genesis ≡ 0
 unfolding genesis number4 zeros
-round-genesis = refl
+round_genesis = refl
 
-pub frames-flatten : (xs : List (List ℕ)) (rest : List ℕ) → Whole xs → frames (length xs) (flatten xs ++ rest) ≡ xs
+pub frames_flatten : (xs : List (List ℕ)) (rest : List ℕ) → Whole xs → frames (length xs) (flatten xs ++ rest) ≡ xs
 unfolding frames flatten
-frames-flatten [] rest w = refl
-frames-flatten (x ∷ xs) rest w =
+frames_flatten [] rest w = refl
+frames_flatten (x ∷ xs) rest w =
     let a : x ++ flatten xs ++ rest ≡ x ++ (flatten xs ++ rest) = append_assoc x (flatten xs) rest in
     let t : take frame_size (x ++ flatten xs ++ rest) ≡ x = rw a (take_at x _ frame_size w.0) in
     let d : drop frame_size (x ++ flatten xs ++ rest) ≡ flatten xs ++ rest = rw a (drop_at x _ frame_size w.0) in
-    let i : frames (length xs) (flatten xs ++ rest) ≡ xs = frames-flatten xs rest w.1 in
+    let i : frames (length xs) (flatten xs ++ rest) ≡ xs = frames_flatten xs rest w.1 in
     rw (t, d, i)

@@ -19,29 +19,29 @@ use Rattle.apollo.specs.BlockRun.{last_of, child_of, blocks}
 use Rattle.apollo.specs.Branch.{store_all}
 use Rattle.apollo.specs.Fetch.{fetchable}
 use Rattle.apollo.proofs.Tests.{both}
-use Rattle.apollo.proofs.BlockRun.{block-length, block-parts, child-parts, blocks-parts, blocks-of, blocks-none, blocks-any, blocks-front}
+use Rattle.apollo.proofs.BlockRun.{block_length, block_parts, child_parts, blocks_parts, blocks_of, blocks_none, blocks_any, blocks_front}
 use Rattle.theorem_agreement.specs.Run.{Event, In, Seen, start, run}
 use Rattle.theorem_agreement.specs.GoodRun.{FromGenesis, GoodRun}
 use Rattle.theorem_agreement.proofs.Tests.{by_cond}
-use Rattle.theorem_agreement.proofs.Slots.{length-store, store_other}
-use Rattle.theorem_agreement.proofs.Frames.{round-genesis}
+use Rattle.theorem_agreement.proofs.Slots.{length_store, store_other}
+use Rattle.theorem_agreement.proofs.Frames.{round_genesis}
 use Rattle.theorem_agreement.proofs.Chain.{Held, Joins, Link, within}
 use Rattle.theorem_agreement.proofs.Stored.{Linked}
-use Rattle.theorem_agreement.proofs.Adopt.{joins-linked, Block, formed}
-use Rattle.theorem_agreement.proofs.Above.{segment, segment-chain, segment-length, segment-in, below-is, Cut, cut}
+use Rattle.theorem_agreement.proofs.Adopt.{joins_linked, Block, formed}
+use Rattle.theorem_agreement.proofs.Above.{segment, segment_chain, segment_length, segment_in, below_is, Cut, cut}
 use Rattle.theorem_agreement.proofs.Good.{Good}
-use Rattle.theorem_agreement.proofs.World.{start-inv, run-inv}
+use Rattle.theorem_agreement.proofs.World.{start_inv, run_inv}
 
 -- the last frame is one of them, and the first ones are
-pub last-in : (x : List ℕ) (ys : List (List ℕ)) → In (last_of x ys) (x ∷ ys)
+pub last_in : (x : List ℕ) (ys : List (List ℕ)) → In (last_of x ys) (x ∷ ys)
 unfolding last_of
-last-in x [] = inl refl
-last-in x (y ∷ ys) = inr (last-in y ys)
+last_in x [] = inl refl
+last_in x (y ∷ ys) = inr (last_in y ys)
 
-pub in-front : (z : List ℕ) (xs zs : List (List ℕ)) → In z xs → In z (xs ++ zs)
-in-front z [] zs p = absurd p
-in-front z (x ∷ xs) zs (inl e) = inl e
-in-front z (x ∷ xs) zs (inr p) = inr (in-front z xs zs p)
+pub in_front : (z : List ℕ) (xs zs : List (List ℕ)) → In z xs → In z (xs ++ zs)
+in_front z [] zs p = absurd p
+in_front z (x ∷ xs) zs (inl e) = inl e
+in_front z (x ∷ xs) zs (inr p) = inr (in_front z xs zs p)
 
 module _ (s : Setup) where
   -- the slots up to p's round are kept where a run on p is stored
@@ -50,41 +50,41 @@ module _ (s : Setup) where
   unfolding store_all
   stored_low [] log p f q l size = refl
   stored_low (x ∷ xs) log p f q l size =
-      let u = blocks-parts s (some p) x xs f in
-      let t = block-parts s x u.0 in
+      let u = blocks_parts s (some p) x xs f in
+      let t = block_parts s x u.0 in
       let b : Block s x = formed s x t.0 t.1 in
-      let up : round p < round x = (child-parts p x u.1).1 in
-      let wide : length x ≡ frame_size = block-length s x u.0 in
+      let up : round p < round x = (child_parts p x u.1).1 in
+      let wide : length x ≡ frame_size = block_length s x u.0 in
       let fit : frame_size * round x ≤ length log = omega (arith, b.highest) in
-      stored_low xs (store log (round x) x) x u.2 q (omega arith) (length-store log (round x) x b.lowest fit wide ∙ size)
+      stored_low xs (store log (round x) x) x u.2 q (omega arith) (length_store log (round x) x b.lowest fit wide ∙ size)
       ∙ store_other log (round x) x q b.lowest fit wide (λ e. omega arith)
 
   -- the filled slots above a held round are a run on it
   module _ (past : List Event) (masks log : List ℕ) (a : ℕ) (c : Linked s past masks log a) where
-    pub held-round : (k : ℕ) → Held (slot log) k → round (slot log k) ≡ k
-    held-round k (inl z) = omega (arith, ap (λ j. round (slot log j)) z, ap round c.origin, round-genesis)
-    held-round k (inr f) = (c.fact k f).round_is
+    pub held_round : (k : ℕ) → Held (slot log) k → round (slot log k) ≡ k
+    held_round k (inl z) = omega (arith, ap (λ j. round (slot log j)) z, ap round c.origin, round_genesis)
+    held_round k (inr f) = (c.fact k f).round_is
 
     child : (k q : ℕ) → filled (slot log q) ≡ true → k < q → Held (slot log) k → ((r : ℕ) → k < r → r < q → filled (slot log r) ≡ false)
         → child_of (slot log k) (slot log q) ≡ true
     unfolding child_of
     child k q f l hk gap =
         let m : Link (slot log) q = c.link q f in
-        let e : m.below ≡ k = below-is _ _ _ log a c q k f l hk gap m in
+        let e : m.below ≡ k = below_is _ _ _ log a c q k f l hk gap m in
         let j : Joins (slot log k) (slot log q) = subst (λ b. Joins (slot log b) (slot log q)) e m.joins in
-        both (linked (slot log k) (slot log q)) (ltb (round (slot log k)) (round (slot log q))) (joins-linked _ _ j)
-        (lt-ltb (round (slot log k)) (round (slot log q)) (omega (arith, held-round k hk, (c.fact q f).round_is)))
+        both (linked (slot log k) (slot log q)) (ltb (round (slot log k)) (round (slot log q))) (joins_linked _ _ j)
+        (lt-ltb (round (slot log k)) (round (slot log q)) (omega (arith, held_round k hk, (c.fact q f).round_is)))
 
-    pub segment-run : (m lo k : ℕ) → k ≤ lo → Held (slot log) k → ((q : ℕ) → k < q → q ≤ lo → filled (slot log q) ≡ false)
+    pub segment_run : (m lo k : ℕ) → k ≤ lo → Held (slot log) k → ((q : ℕ) → k < q → q ≤ lo → filled (slot log q) ≡ false)
         → blocks s (some (slot log k)) (segment log lo m) ≡ true
     unfolding segment
-    segment-run zero lo k l hk gap = blocks-none s (some (slot log k))
-    segment-run (suc m) lo k l hk gap =
+    segment_run zero lo k l hk gap = blocks_none s (some (slot log k))
+    segment_run (suc m) lo k l hk gap =
         by_cond (λ xs. blocks s (some (slot log k)) xs ≡ true) (filled (slot log (lo + 1)))
-        (λ f. blocks-of s (some (slot log k)) (slot log (lo + 1)) (segment log (lo + 1) m) (c.fact (lo + 1) f).block
+        (λ f. blocks_of s (some (slot log k)) (slot log (lo + 1)) (segment log (lo + 1) m) (c.fact (lo + 1) f).block
         (child k (lo + 1) f (omega arith) hk (λ r u v. gap r u (omega arith)))
-        (segment-run m (lo + 1) (lo + 1) (omega arith) (inr f) (λ q u v. absurd (omega arith))))
-        (λ f. segment-run m (lo + 1) k (omega arith) hk (λ q u v. next f q u v))
+        (segment_run m (lo + 1) (lo + 1) (omega arith) (inr f) (λ q u v. absurd (omega arith))))
+        (λ f. segment_run m (lo + 1) k (omega arith) hk (λ q u v. next f q u v))
       where
         next : filled (slot log (lo + 1)) ≡ false → (q : ℕ) → k < q → q ≤ lo + 1 → filled (slot log q) ≡ false
         next f q u v = go (leb q lo) refl
@@ -98,8 +98,8 @@ module _ (s : Setup) (past : List Event) (j : ℕ) (d : State) (g : Good s past 
   pub chain_run : (n : ℕ) → blocks s (some genesis) (chain d.log n) ≡ true
   chain_run n =
       ap (λ p. blocks s (some p) (chain d.log n)) (sym g.stored.chain.origin)
-      ∙ ap (blocks s (some (slot d.log 0))) (segment-chain d.log n)
-      ∙ segment-run s past d.masks d.log d.replica.tip_round.0 g.stored.chain n 0 0 (omega arith) (inl refl)
+      ∙ ap (blocks s (some (slot d.log 0))) (segment_chain d.log n)
+      ∙ segment_run s past d.masks d.log d.replica.tip_round.0 g.stored.chain n 0 0 (omega arith) (inl refl)
       (λ q u v. absurd (omega arith))
 
   -- its frames above a height
@@ -110,31 +110,31 @@ module _ (s : Setup) (past : List Event) (j : ℕ) (d : State) (g : Good s past 
     pub parts : Cut s.last_round.0 _ _ d.log d.replica.tip_round.0 g.stored.chain h T
     parts = cut s.last_round.0 _ _ d.log d.replica.tip_round.0 g.stored.chain h T
 
-    pub above-run : blocks s (some (slot d.log parts.from)) (fetchable d.replica d.log h) ≡ true
-    above-run =
+    pub above_run : blocks s (some (slot d.log parts.from)) (fetchable d.replica d.log h) ≡ true
+    above_run =
         ap (blocks s (some (slot d.log parts.from))) parts.is
-        ∙ segment-run s past d.masks d.log d.replica.tip_round.0 g.stored.chain parts.more parts.from parts.from
+        ∙ segment_run s past d.masks d.log d.replica.tip_round.0 g.stored.chain parts.more parts.from parts.from
         (omega arith) parts.held (λ q u v. absurd (omega arith))
 
     -- the first ones of these
-    pub front-run : (xs zs : List (List ℕ)) → fetchable d.replica d.log h ≡ xs ++ zs
+    pub front_run : (xs zs : List (List ℕ)) → fetchable d.replica d.log h ≡ xs ++ zs
         → blocks s (some (slot d.log parts.from)) xs ≡ true
-    front-run xs zs m =
-        blocks-front s (some (slot d.log parts.from)) xs zs (ap (blocks s (some (slot d.log parts.from))) (sym m) ∙ above-run)
+    front_run xs zs m =
+        blocks_front s (some (slot d.log parts.from)) xs zs (ap (blocks s (some (slot d.log parts.from))) (sym m) ∙ above_run)
 
-    pub front-good : (xs zs : List (List ℕ)) → fetchable d.replica d.log h ≡ xs ++ zs → blocks s none xs ≡ true
-    front-good xs zs m = blocks-any s (some (slot d.log parts.from)) xs (front-run xs zs m)
+    pub front_good : (xs zs : List (List ℕ)) → fetchable d.replica d.log h ≡ xs ++ zs → blocks s none xs ≡ true
+    front_good xs zs m = blocks_any s (some (slot d.log parts.from)) xs (front_run xs zs m)
 
     module _ (x : List ℕ) (ys zs : List (List ℕ)) (m : fetchable d.replica d.log h ≡ x ∷ (ys ++ zs)) where
-      same-frames : segment d.log parts.from parts.more ≡ x ∷ (ys ++ zs)
-      same-frames = sym parts.is ∙ m
+      same_frames : segment d.log parts.from parts.more ≡ x ∷ (ys ++ zs)
+      same_frames = sym parts.is ∙ m
 
       pub run_short : length (x ∷ ys) ≤ T
       run_short =
           omega (
             arith,
-            ap length same-frames,
-            segment-length d.log parts.from parts.more,
+            ap length same_frames,
+            segment_length d.log parts.from parts.more,
             parts.to,
             length-append (x ∷ ys) zs,
           )
@@ -142,27 +142,27 @@ module _ (s : Setup) (past : List Event) (j : ℕ) (d : State) (g : Good s past 
       -- each of its frames is in a filled slot
       run_in : (z : List ℕ) → In z (x ∷ ys) → (q : ℕ) × (filled (slot d.log q) ≡ true) × (z ≡ slot d.log q)
       run_in z i =
-          segment-in d.log parts.from parts.more z (subst (In z) (sym same-frames) (in-front z (x ∷ ys) zs i))
+          segment_in d.log parts.from parts.more z (subst (In z) (sym same_frames) (in_front z (x ∷ ys) zs i))
 
-      pub run-seen : (z : List ℕ) → In z (x ∷ ys) → Seen z past
-      run-seen z i =
+      pub run_seen : (z : List ℕ) → In z (x ∷ ys) → Seen z past
+      run_seen z i =
           let p = run_in z i in
           subst (λ y. Seen y past) (sym p.2) (g.stored.chain.fact p.0 p.1).seen
 
       -- the last one's round is below R
-      pub last-below : round (last_of x ys) < d.replica.round.0
-      last-below =
-          let p = run_in (last_of x ys) (last-in x ys) in
+      pub last_below : round (last_of x ys) < d.replica.round.0
+      last_below =
+          let p = run_in (last_of x ys) (last_in x ys) in
           omega (
             arith,
             ap round p.2,
             (g.stored.chain.fact p.0 p.1).round_is,
             within s.last_round.0 _ _ (slot d.log) _ g.stored.chain p.0 (inr p.1),
-            g.tip-below,
+            g.tip_below,
           )
 
-pub from-genesis : FromGenesis
-from-genesis s calls l j d e = chain_run s (run start calls).past j d ((run-inv s calls start l (start-inv s)).good j d e)
+pub from_genesis : FromGenesis
+from_genesis s calls l j d e = chain_run s (run start calls).past j d ((run_inv s calls start l (start_inv s)).good j d e)
 
-pub good-run : GoodRun
-good-run s calls l j d e = front-good s (run start calls).past j d ((run-inv s calls start l (start-inv s)).good j d e)
+pub good_run : GoodRun
+good_run s calls l j d e = front_good s (run start calls).past j d ((run_inv s calls start l (start_inv s)).good j d e)

@@ -12,8 +12,8 @@ use Rattle.apollo.specs.declared.Verdict.{Verdict}
 use Rattle.apollo.specs.declared.Setup.{Setup}
 use Rattle.apollo.specs.Judging.{fault, judged_each}
 use Rattle.apollo.specs.BlockRun.{judged_run}
-use Rattle.apollo.proofs.Fault.{Passes, fault-none, each_number}
-use Rattle.apollo.proofs.BlockRun.{run-number}
+use Rattle.apollo.proofs.Fault.{Passes, fault_none, each_number}
+use Rattle.apollo.proofs.BlockRun.{run_number}
 use Rattle.theorem_agreement.specs.Run.{In}
 use Rattle.theorem_agreement.proofs.Tests.{by_cond}
 
@@ -22,17 +22,17 @@ abbrev pub Low : ℕ → Type 0
 Low k = (eqb k 2 ≡ false) × (eqb k 12 ≡ false) × (eqb k 6 ≡ false)
 
 -- a run of blocks
-pub run-low : (s : Setup) (k : ℕ) (p : Option (List ℕ)) (xs : List (List ℕ)) → Low (judged_run sha256 s k p xs).number
-run-low = run-number Low (refl, refl, refl) (refl, refl, refl) (refl, refl, refl) (refl, refl, refl)
+pub run_low : (s : Setup) (k : ℕ) (p : Option (List ℕ)) (xs : List (List ℕ)) → Low (judged_run sha256 s k p xs).number
+run_low = run_number Low (refl, refl, refl) (refl, refl, refl) (refl, refl, refl) (refl, refl, refl)
 
 module _ (hash : List ℕ → List ℕ) (form : List ℕ → Bool) where
-  pub each-low : (k : ℕ) (xs : List (List ℕ)) → Low (judged_each hash form k xs).number
-  each-low = each_number Low (refl, refl, refl) (refl, refl, refl) (refl, refl, refl) hash form
+  pub each_low : (k : ℕ) (xs : List (List ℕ)) → Low (judged_each hash form k xs).number
+  each_low = each_number Low (refl, refl, refl) (refl, refl, refl) (refl, refl, refl) hash form
 
   pub each_none : (k : ℕ) (xs : List (List ℕ)) → (judged_each hash form k xs).number ≡ 0 → (x : List ℕ) → In x xs → Passes hash form x
   unfolding judged_each
   each_none k [] e x p = absurd p
   each_none k (y ∷ ys) e x p =
       by_cond (λ (v : Verdict). v.number ≡ 0 → Passes hash form x) (eqb (fault hash form y) 0)
-      (λ g v. ⊎_elim (λ q. subst⁻¹ (Passes hash form) q (fault-none hash form y (eqb-true _ _ g))) (λ q. each_none (k + 1) ys v x q) p)
+      (λ g v. ⊎_elim (λ q. subst⁻¹ (Passes hash form) q (fault_none hash form y (eqb-true _ _ g))) (λ q. each_none (k + 1) ys v x q) p)
       (λ g v. absurd (eqb-false _ _ g v)) e

@@ -12,13 +12,13 @@ use borrow.Author.Tests.{leb-true, leb-false, ltb-true, ltb-false, not-false}
 use Rattle.apollo.specs.declared.Setup.{Setup}
 use Rattle.apollo.specs.Setup.{replicas, leader, valid_rotation}
 use Rattle.apollo.specs.Masks.{count}
-use Rattle.apollo.proofs.Rotation.{seats-differ, seated, seat, leader-low}
+use Rattle.apollo.proofs.Rotation.{seats_differ, seated, seat, leader_low}
 use Rattle.theorem_agreement.specs.Claim.{LeadersDiffer}
 use Rattle.theorem_agreement.proofs.Counts.{more, spread, Row, row}
 
 -- two of n rounds in a row have different seats
-apart-mod : (n a d : ℕ) → 0 < d → d < n → a % n ≢ (a + d) % n
-apart-mod n a d pos low e = go (leb ((a + d) / n) (a / n)) refl
+apart_mod : (n a d : ℕ) → 0 < d → d < n → a % n ≢ (a + d) % n
+apart_mod n a d pos low e = go (leb ((a + d) / n) (a / n)) refl
   where
     go : (b : Bool) → leb ((a + d) / n) (a / n) ≡ b → ⊥
     go true t =
@@ -39,38 +39,38 @@ module _ (s : Setup) (v : valid_rotation s ≡ true) where
   apart j k ne a b e = go (ltb j k) refl
     where
       go : (t : Bool) → ltb j k ≡ t → ⊥
-      go true t = seats-differ (replicas s) _ (seated s v) j k (ltb-true j k t) b (seat s v j a ∙ e ∙ sym (seat s v k b))
+      go true t = seats_differ (replicas s) _ (seated s v) j k (ltb-true j k t) b (seat s v j a ∙ e ∙ sym (seat s v k b))
       go false t =
           let l : k ≤ j = ltb-false j k t in
-          seats-differ (replicas s) _ (seated s v) k j (omega arith) a (seat s v k b ∙ sym e ∙ sym (seat s v j a))
+          seats_differ (replicas s) _ (seated s v) k j (omega arith) a (seat s v k b ∙ sym e ∙ sym (seat s v j a))
 
 -- The only two laws about leaders that the proof of demand 3 uses: n rounds in a row have different ones, and each is a replica's number
--- (`leader-low`).
-pub leaders-differ : LeadersDiffer
+-- (`leader_low`).
+pub leaders_differ : LeadersDiffer
 unfolding leader
-leaders-differ s v r q one lt near =
+leaders_differ s v r q one lt near =
     apart s v ((r - 1) % replicas s) ((q - 1) % replicas s)
-    (λ e. apart-mod (replicas s) (r - 1) (q - r) (omega arith) (omega arith) (e ∙ ap (λ k. k % replicas s) (omega arith)))
+    (λ e. apart_mod (replicas s) (r - 1) (q - r) (omega arith) (omega arith) (e ∙ ap (λ k. k % replicas s) (omega arith)))
     (mod-lt (r - 1) (omega arith)) (mod-lt (q - 1) (omega arith))
 
 module _ (s : Setup) (correct : ℕ → Bool) (mostly : count (replicas s) (λ i. not (correct i)) ≤ s.f) where
   -- more than f marks among the n replicas: a correct one has one
-  pub correct-mark : (p : ℕ → Bool) → s.f + 1 ≤ count (replicas s) p
+  pub correct_mark : (p : ℕ → Bool) → s.f + 1 ≤ count (replicas s) p
       → (i : ℕ) × (i < replicas s) × (p i ≡ true) × (correct i ≡ true)
-  correct-mark p h =
+  correct_mark p h =
       let r : (i : ℕ) × (i < replicas s) × (p i ≡ true) × (not (correct i) ≡ false) =
       more (replicas s) p (λ i. not (correct i)) (omega arith) in
       (r.0, r.1, r.2, not-false _ r.3)
 
   -- of the f + 1 rounds from r on one has a correct leader
-  pub correct-round : valid_rotation s ≡ true → (r : ℕ) → 1 ≤ r → (q : ℕ) × (r ≤ q) × (q ≤ r + s.f) × (correct (leader s q) ≡ true)
-  correct-round v r one = go (row (λ q. correct (leader s q)) r (suc s.f))
+  pub correct_round : valid_rotation s ≡ true → (r : ℕ) → 1 ≤ r → (q : ℕ) × (r ≤ q) × (q ≤ r + s.f) × (correct (leader s q) ≡ true)
+  correct_round v r one = go (row (λ q. correct (leader s q)) r (suc s.f))
     where
       others : ((q : ℕ) → r ≤ q → q < r + suc s.f → correct (leader s q) ≡ false) → suc s.f ≤ count (replicas s) (λ i. not (correct i))
       others h =
-          spread (suc s.f) (replicas s) (λ i. leader s (r + i)) (λ i. not (correct i)) (λ i l. leader-low s v (r + i))
+          spread (suc s.f) (replicas s) (λ i. leader s (r + i)) (λ i. not (correct i)) (λ i l. leader_low s v (r + i))
           (λ i l. ap not (h (r + i) (omega arith) (omega arith)))
-          (λ i j a b. leaders-differ s v (r + i) (r + j) (omega arith) (omega arith) (omega arith))
+          (λ i j a b. leaders_differ s v (r + i) (r + j) (omega arith) (omega arith) (omega arith))
 
       go : Row (λ q. correct (leader s q)) r (suc s.f) → (q : ℕ) × (r ≤ q) × (q ≤ r + s.f) × (correct (leader s q) ≡ true)
       go (inl h) = (h.0, h.1, omega (arith, h.2), h.3)

@@ -16,9 +16,9 @@ use Rattle.apollo.specs.Enter.{State, Effect}
 use Rattle.apollo.specs.Outcome.{Outcome, refused, taken, guarded, state_of}
 use Rattle.theorem_agreement.specs.Run.{Event, emit, emitted_by}
 use Rattle.theorem_agreement.proofs.Tests.{clash, by_cond}
-use Rattle.theorem_agreement.proofs.Frames.{frames-flatten}
+use Rattle.theorem_agreement.proofs.Frames.{frames_flatten}
 use Rattle.theorem_agreement.proofs.Stored.{Stored}
-use Rattle.theorem_agreement.proofs.Good.{Renewed, Rested, Extends, extends-refl}
+use Rattle.theorem_agreement.proofs.Good.{Renewed, Rested, Extends, extends_refl}
 use Rattle.theorem_agreement.proofs.Effects.{Standing, Kept}
 use Rattle.theorem_agreement.proofs.Valid.{valid}
 
@@ -38,7 +38,7 @@ module _ (s : Setup) where
     pub standing : Standing s (emit i (emitted_by o) past) i (state_of o)
     pub rests : Rested (state_of o)
     pub extends : Extends c (state_of o)
-    pub valid-ok : o.answer.number ≢ 2
+    pub valid_ok : o.answer.number ≢ 2
     pub reverts : o.answer.number ≡ 12 → Reverts past c
 
   module _ (past : List Event) (i : ℕ) (c : State) where
@@ -46,33 +46,33 @@ module _ (s : Setup) where
     unfolding taken emitted_by
     taken_fine e out k =
         let q : frames (length e.emitted) (flatten e.emitted ++ drop (frame_size * length e.emitted) out) ≡ e.emitted =
-        frames-flatten e.emitted _ k.whole in
+        frames_flatten e.emitted _ k.whole in
         record {
           standing = subst (λ xs. Standing s (emit i xs past) i e.state) (sym q) k.standing;
           rests = k.rests;
           extends = k.extends;
-          valid-ok = λ z. omega (arith, z);
+          valid_ok = λ z. omega (arith, z);
           reverts = λ z. absurd (omega (arith, z));
         }
 
     module _ (st : Standing s past i c) (rests : Rested c) where
-      pub refused-fine : (out : List ℕ) (k p : ℕ) → k ≢ 2 → (k ≡ 12 → Reverts past c) → Fine past i c (refused c out k p)
+      pub refused_fine : (out : List ℕ) (k p : ℕ) → k ≢ 2 → (k ≡ 12 → Reverts past c) → Fine past i c (refused c out k p)
       unfolding refused frames emit emitted_by
-      refused-fine out k p a b =
-          record { standing = st; rests = rests; extends = extends-refl c; valid-ok = a; reverts = b }
+      refused_fine out k p a b =
+          record { standing = st; rests = rests; extends = extends_refl c; valid_ok = a; reverts = b }
 
       -- any other number than 2 and 12
-      pub refused-plain : (out : List ℕ) (k p : ℕ) → eqb k 2 ≡ false → eqb k 12 ≡ false → Fine past i c (refused c out k p)
-      refused-plain out k p a b = refused-fine out k p (eqb-false k 2 a) (λ e. absurd (eqb-false k 12 b e))
+      pub refused_plain : (out : List ℕ) (k p : ℕ) → eqb k 2 ≡ false → eqb k 12 ≡ false → Fine past i c (refused c out k p)
+      refused_plain out k p a b = refused_fine out k p (eqb-false k 2 a) (λ e. absurd (eqb-false k 12 b e))
 
-      pub guarded-fine : (entry out : List ℕ) (o : Outcome)
+      pub guarded_fine : (entry out : List ℕ) (o : Outcome)
           → (c.replica.round.0 ≤ s.last_round.0 → length entry ≤ 400 → Fine past i c o) → Fine past i c (guarded c entry out o)
       unfolding guarded
-      guarded-fine entry out o h =
+      guarded_fine entry out o h =
           by_cond (Fine past i c) (not (valid_replica c.replica c.log && valid_masks c.replica c.masks))
           (λ e. absurd (clash (valid s past i c st.good rests) (not-true _ e)))
-          (λ _. by_cond (Fine past i c) (eqb c.replica.round.0 (c.replica.last_round.0 + 1)) (λ _. refused-plain out 3 0 refl refl)
-          (λ e. by_cond (Fine past i c) (ltb (length out) 1024) (λ _. refused-plain out 4 0 refl refl)
-          (λ _. by_cond (Fine past i c) (ltb 400 (length entry)) (λ _. refused-plain out 5 0 refl refl)
+          (λ _. by_cond (Fine past i c) (eqb c.replica.round.0 (c.replica.last_round.0 + 1)) (λ _. refused_plain out 3 0 refl refl)
+          (λ e. by_cond (Fine past i c) (ltb (length out) 1024) (λ _. refused_plain out 4 0 refl refl)
+          (λ _. by_cond (Fine past i c) (ltb 400 (length entry)) (λ _. refused_plain out 5 0 refl refl)
           (λ l. let ne : c.replica.round.0 ≢ c.replica.last_round.0 + 1 = eqb-false _ _ e in
-          h (omega (arith, st.good.reach, st.good.fixed.last-is)) (ltb-false _ _ l)))))
+          h (omega (arith, st.good.reach, st.good.fixed.last_is)) (ltb-false _ _ l)))))

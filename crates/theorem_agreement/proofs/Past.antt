@@ -12,24 +12,24 @@ use Rattle.theorem_agreement.proofs.Tests.{clash, by_cond}
 abbrev pub Grows : List Event → List Event → Type 0
 Grows past now = (e : Event) → In e past → In e now
 
-pub seen-grows : (past now : List Event) → Grows past now → (x : List ℕ) → Seen x past → Seen x now
-seen-grows past now g x (inl p) = inl (g (handed x) p)
-seen-grows past now g x (inr p) = inr (p.0, g (emitted p.0 x) p.1)
+pub seen_grows : (past now : List Event) → Grows past now → (x : List ℕ) → Seen x past → Seen x now
+seen_grows past now g x (inl p) = inl (g (handed x) p)
+seen_grows past now g x (inr p) = inr (p.0, g (emitted p.0 x) p.1)
 
-pub emitted-is : (i j : ℕ) (x y : List ℕ) → emitted i x ≡ emitted j y → (i ≡ j) × (x ≡ y)
-emitted-is i j x y e = (cc, cc)
+pub emitted_is : (i j : ℕ) (x y : List ℕ) → emitted i x ≡ emitted j y → (i ≡ j) × (x ≡ y)
+emitted_is i j x y e = (cc, cc)
 
 -- frames emitted
-pub emit-grows : (i : ℕ) (xs : List (List ℕ)) (past : List Event) → Grows past (emit i xs past)
+pub emit_grows : (i : ℕ) (xs : List (List ℕ)) (past : List Event) → Grows past (emit i xs past)
 unfolding emit
-emit-grows i [] past e p = p
-emit-grows i (x ∷ xs) past e p = emit-grows i xs (emitted i x ∷ past) e (inr p)
+emit_grows i [] past e p = p
+emit_grows i (x ∷ xs) past e p = emit_grows i xs (emitted i x ∷ past) e (inr p)
 
-pub emit-back : (i : ℕ) (xs : List (List ℕ)) (past : List Event) (e : Event) → In e (emit i xs past)
+pub emit_back : (i : ℕ) (xs : List (List ℕ)) (past : List Event) (e : Event) → In e (emit i xs past)
     → In e past ⊎ ((x : List ℕ) × (e ≡ emitted i x))
 unfolding emit
-emit-back i [] past e p = inl p
-emit-back i (y ∷ ys) past e p = go (emit-back i ys (emitted i y ∷ past) e p)
+emit_back i [] past e p = inl p
+emit_back i (y ∷ ys) past e p = go (emit_back i ys (emitted i y ∷ past) e p)
   where
     go : ((e ≡ emitted i y) ⊎ In e past) ⊎ ((x : List ℕ) × (e ≡ emitted i x)) → In e past ⊎ ((x : List ℕ) × (e ≡ emitted i x))
     go (inl (inl q)) = inr (y, q)
@@ -37,18 +37,18 @@ emit-back i (y ∷ ys) past e p = go (emit-back i ys (emitted i y ∷ past) e p)
     go (inr q) = inr q
 
 -- frames handed in
-pub hand-grows : (xs : List (List ℕ)) (past : List Event) → Grows past (hand xs past)
+pub hand_grows : (xs : List (List ℕ)) (past : List Event) → Grows past (hand xs past)
 unfolding hand
-hand-grows [] past e p = p
-hand-grows (x ∷ xs) past e p =
-    hand-grows xs (cond (checked sha256 x) (handed x ∷ past) past) e
+hand_grows [] past e p = p
+hand_grows (x ∷ xs) past e p =
+    hand_grows xs (cond (checked sha256 x) (handed x ∷ past) past) e
     (by_cond (λ (es : List Event). In e es) (checked sha256 x) (λ _. inr p) (λ _. p))
 
 pub hand_in : (xs : List (List ℕ)) (past : List Event) (x : List ℕ) → In x xs → checked sha256 x ≡ true → In (handed x) (hand xs past)
 unfolding hand
 hand_in [] past x p r = absurd p
 hand_in (y ∷ ys) past x (inl e) r =
-    hand-grows ys (cond (checked sha256 y) (handed y ∷ past) past) (handed x)
+    hand_grows ys (cond (checked sha256 y) (handed y ∷ past) past) (handed x)
     (by_cond (λ (es : List Event). In (handed x) es) (checked sha256 y) (λ _. inl (ap handed e))
     (λ w. absurd (clash (ap (checked sha256) (sym e) ∙ r) w)))
 hand_in (y ∷ ys) past x (inr p) r = hand_in ys (cond (checked sha256 y) (handed y ∷ past) past) x p r
@@ -57,10 +57,10 @@ hand_in (y ∷ ys) past x (inr p) r = hand_in ys (cond (checked sha256 y) (hande
 abbrev pub Given : Event → List (List ℕ) → Type 0
 Given e xs = (x : List ℕ) × In x xs × (checked sha256 x ≡ true) × (e ≡ handed x)
 
-pub hand-back : (xs : List (List ℕ)) (past : List Event) (e : Event) → In e (hand xs past) → In e past ⊎ Given e xs
+pub hand_back : (xs : List (List ℕ)) (past : List Event) (e : Event) → In e (hand xs past) → In e past ⊎ Given e xs
 unfolding hand
-hand-back [] past e p = inl p
-hand-back (y ∷ ys) past e p = go (hand-back ys (cond (checked sha256 y) (handed y ∷ past) past) e p)
+hand_back [] past e p = inl p
+hand_back (y ∷ ys) past e p = go (hand_back ys (cond (checked sha256 y) (handed y ∷ past) past) e p)
   where
     now : In e (cond (checked sha256 y) (handed y ∷ past) past) → In e past ⊎ Given e (y ∷ ys)
     now =

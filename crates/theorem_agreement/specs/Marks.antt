@@ -11,9 +11,9 @@ pub record Equivocated (s : Setup) (past : List Event) (k : ℕ) : Type 0 where
   pub one : List ℕ
   pub other : List ℕ
   pub one_seen : Seen one past
-  pub other-seen : Seen other past
+  pub other_seen : Seen other past
   pub one_block : block s one ≡ true
   pub other_block : block s other ≡ true
-  pub one-round : round one ≡ round other
-  pub names-differ : digest one ≢ digest other
+  pub one_round : round one ≡ round other
+  pub names_differ : digest one ≢ digest other
   pub led : leader s (round one) ≡ k

@@ -27,25 +27,25 @@ use Rattle.apollo.specs.Calls.{branch_call}
 use Rattle.apollo.specs.BenchSheet.{Callable}
 use Rattle.apollo.proofs.Tests.{both}
 use Rattle.apollo.proofs.Validity as Validity
-use Rattle.apollo.proofs.BlockRun.{child-parts, blocks-parts, blocks-whole}
-use Rattle.apollo.proofs.Judging.{stale-branch, fresh-branch, attach-from}
+use Rattle.apollo.proofs.BlockRun.{child_parts, blocks_parts, blocks_whole}
+use Rattle.apollo.proofs.Judging.{stale_branch, fresh_branch, attach_from}
 use Rattle.theorem_agreement.specs.Run.{Call, Event, start, run}
 use Rattle.theorem_agreement.specs.Premises.{Each, Lawful, Premises}
 use Rattle.theorem_agreement.specs.Cases.{Had}
-use Rattle.theorem_agreement.proofs.Tests.{clash, either, and-true, same_true, same_of, by_cond, cond-true, cond-false}
-use Rattle.theorem_agreement.proofs.Slots.{length-clear, clear-low, take-slots}
+use Rattle.theorem_agreement.proofs.Tests.{clash, either, and-true, same_true, same_of, by_cond, cond_true, cond_false}
+use Rattle.theorem_agreement.proofs.Slots.{length_clear, clear_low, take_slots}
 use Rattle.theorem_agreement.proofs.Chain.{Held, within, climbs}
 use Rattle.theorem_agreement.proofs.Extend.{held_same}
 use Rattle.theorem_agreement.proofs.Stored.{Stored}
-use Rattle.theorem_agreement.proofs.Good.{Good, Rested, Extends, committed-held, committed-low, setup-is}
+use Rattle.theorem_agreement.proofs.Good.{Good, Rested, Extends, committed_held, committed_low, setup_is}
 use Rattle.theorem_agreement.proofs.Valid.{valid}
-use Rattle.theorem_agreement.proofs.Adopt.{linked-joins, Block, Row, blocks-row, grown-stored}
-use Rattle.theorem_agreement.proofs.Above.{cut-from}
-use Rattle.theorem_agreement.proofs.World.{start-inv, run-inv}
-use Rattle.theorem_agreement.proofs.GoodRun.{stored_low, held-round, parts, front-run, front-good, run_short, run-seen, last-below}
-use Rattle.theorem_agreement.proofs.Honest.{Honest, same-limit, no-revert}
+use Rattle.theorem_agreement.proofs.Adopt.{linked_joins, Block, Row, blocks_row, grown_stored}
+use Rattle.theorem_agreement.proofs.Above.{cut_from}
+use Rattle.theorem_agreement.proofs.World.{start_inv, run_inv}
+use Rattle.theorem_agreement.proofs.GoodRun.{stored_low, held_round, parts, front_run, front_good, run_short, run_seen, last_below}
+use Rattle.theorem_agreement.proofs.Honest.{Honest, same_limit, no_revert}
 use Rattle.theorem_agreement.proofs.Agreement.{honest}
-use Rattle.theorem_agreement.proofs.Earlier.{has, had-good, had-rested, had-extends}
+use Rattle.theorem_agreement.proofs.Earlier.{has, had_good, had_rested, had_extends}
 use Rattle.theorem_catch_up.specs.CatchUp.{verdict_of, lacking, received, Answers, Continues, Common, CatchUp, CatchUpLater}
 
 -- a branch attaches to round k and, where all that it skips is certified, keeps what is committed
@@ -71,67 +71,67 @@ module _ (c : State) (entry out : List ℕ) (fits : length entry ≤ 400) (room 
   over e =
       let v : not (valid_replica c.replica c.log && valid_masks c.replica c.masks) ≡ false =
       ap not (both (valid_replica c.replica c.log) (valid_masks c.replica c.masks) valid lent) in
-      ap verdict_of (cond-false _ _ v ∙ cond-true _ _ (eq-eqb R (T + 1) e))
+      ap verdict_of (cond_false _ _ v ∙ cond_true _ _ (eq-eqb R (T + 1) e))
 
   module _ (runs : R ≢ T + 1) where
     callable : Callable c out
     callable =
-        record { valid = valid; lent = lent; running = omega (arith, runs, (Validity.valid c.replica c.log valid).round-most); room = room }
+        record { valid = valid; lent = lent; running = omega (arith, runs, (Validity.valid c.replica c.log valid).round_most); room = room }
 
     ends_low : round (last_of x ys) < R → verdict_of (branch_call c (flatten (x ∷ ys)) entry out) ≡ verdict 10 0
     unfolding refused
-    ends_low l = ap verdict_of (stale-branch callable entry fits x ys few good l)
+    ends_low l = ap verdict_of (stale_branch callable entry fits x ys few good l)
 
     module _ (high : R ≤ round (last_of x ys)) (e : Extending c k x ys) where
       comes : branch_call c (flatten (x ∷ ys)) entry out ≡ placed sha256 entry out c x ys (some k)
-      comes = fresh-branch callable entry fits x ys few good high ∙ ap (placed sha256 entry out c x ys) e.attached
+      comes = fresh_branch callable entry fits x ys few good high ∙ ap (placed sha256 entry out c x ys) e.attached
 
       uncertified : eqb (lacking c k x ys) 0 ≡ false
           → verdict_of (branch_call c (flatten (x ∷ ys)) entry out) ≡ verdict 13 (lacking c k x ys)
       unfolding placed refused
-      uncertified z = ap verdict_of (comes ∙ cond-false _ _ z)
+      uncertified z = ap verdict_of (comes ∙ cond_false _ _ z)
 
-      pub all-certified : eqb (lacking c k x ys) 0 ≡ true → branch_call c (flatten (x ∷ ys)) entry out ≡ taken (adopting sha256 entry c k x ys) out
+      pub all_certified : eqb (lacking c k x ys) 0 ≡ true → branch_call c (flatten (x ∷ ys)) entry out ≡ taken (adopting sha256 entry c k x ys) out
       unfolding placed
-      all-certified z = comes ∙ cond-true _ _ z ∙ cond-true _ _ (same_of (e.keeps (eqb-true _ _ z)))
+      all_certified z = comes ∙ cond_true _ _ z ∙ cond_true _ _ (same_of (e.keeps (eqb-true _ _ z)))
 
-  pub answered-so : (R ≤ round (last_of x ys) → Extending c k x ys) → verdict_of (branch_call c (flatten (x ∷ ys)) entry out) ≡ received c k x ys
+  pub answered_so : (R ≤ round (last_of x ys) → Extending c k x ys) → verdict_of (branch_call c (flatten (x ∷ ys)) entry out) ≡ received c k x ys
   unfolding received taken
-  answered-so h =
+  answered_so h =
       by_cond (λ v. verdict_of (branch_call c (flatten (x ∷ ys)) entry out) ≡ v) (eqb R (T + 1)) (λ z. over (eqb-true _ _ z))
       (λ z. by_cond (λ v. verdict_of (branch_call c (flatten (x ∷ ys)) entry out) ≡ v) (ltb (round (last_of x ys)) R)
       (λ l. ends_low (eqb-false _ _ z) (ltb-true _ _ l))
       (λ l. by_cond (λ v. verdict_of (branch_call c (flatten (x ∷ ys)) entry out) ≡ v) (eqb (lacking c k x ys) 0)
-      (λ a. ap verdict_of (all-certified (eqb-false _ _ z) (ltb-false _ _ l) (h (ltb-false _ _ l)) a))
+      (λ a. ap verdict_of (all_certified (eqb-false _ _ z) (ltb-false _ _ l) (h (ltb-false _ _ l)) a))
       (uncertified (eqb-false _ _ z) (ltb-false _ _ l) (h (ltb-false _ _ l)))))
 
 -- c, which answers, and d, from which it fetched, are good in one world; c's state is one that a call left
 module _ (s : Setup) (past : List Event) (i j : ℕ) (c d : State) (gc : Good s past i c) (rc : Rested c) (gd : Good s past j d) where
   -- the setup of c is the common one
   pub own : (k : ℕ) (xs : List (List ℕ)) → first_uncertified (setup_of c.replica) c.masks k xs ≡ first_uncertified s c.masks k xs
-  own k xs = ap (λ u. first_uncertified u c.masks k xs) (setup-is s i c.replica gc.fixed)
+  own k xs = ap (λ u. first_uncertified u c.masks k xs) (setup_is s i c.replica gc.fixed)
 
   -- what d has above a height
   module _ (h : ℕ) (x : List ℕ) (ys zs : List (List ℕ)) (m : fetchable d.replica d.log h ≡ x ∷ (ys ++ zs)) where
     good : blocks (setup_of c.replica) none (x ∷ ys) ≡ true
-    good = ap (λ u. blocks u none (x ∷ ys)) (setup-is s i c.replica gc.fixed) ∙ front-good s past j d gd h (x ∷ ys) zs m
+    good = ap (λ u. blocks u none (x ∷ ys)) (setup_is s i c.replica gc.fixed) ∙ front_good s past j d gd h (x ∷ ys) zs m
 
     few : length (x ∷ ys) ≤ c.replica.last_round.0
-    few = omega (arith, run_short s past j d gd h x ys zs m, gc.fixed.last-is, gd.fixed.last-is)
+    few = omega (arith, run_short s past j d gd h x ys zs m, gc.fixed.last_is, gd.fixed.last_is)
 
-    valid-c : (valid_replica c.replica c.log ≡ true) × (valid_masks c.replica c.masks ≡ true)
-    valid-c = and-true _ _ (valid s past i c gc rc)
+    valid_c : (valid_replica c.replica c.log ≡ true) × (valid_masks c.replica c.masks ≡ true)
+    valid_c = and-true _ _ (valid s past i c gc rc)
 
     -- it is answered so, where it attaches to round k and keeps what is committed unless it is stale
     pub answered : (k : ℕ) → (c.replica.round.0 ≤ round (last_of x ys) → Extending c k x ys)
         → Answers c (flatten (x ∷ ys)) (received c k x ys)
-    answered k e entry out fits room = answered-so c entry out fits room valid-c.0 valid-c.1 x ys few good k e
+    answered k e entry out fits room = answered_so c entry out fits room valid_c.0 valid_c.1 x ys few good k e
 
-    pub taken-so : (k : ℕ) (entry out : List ℕ) → length entry ≤ 400 → 1024 ≤ length out → c.replica.round.0 ≢ c.replica.last_round.0 + 1
+    pub taken_so : (k : ℕ) (entry out : List ℕ) → length entry ≤ 400 → 1024 ≤ length out → c.replica.round.0 ≢ c.replica.last_round.0 + 1
         → c.replica.round.0 ≤ round (last_of x ys) → Extending c k x ys → lacking c k x ys ≡ 0
         → branch_call c (flatten (x ∷ ys)) entry out ≡ taken (adopting sha256 entry c k x ys) out
-    taken-so k entry out fits room runs late e u =
-        all-certified c entry out fits room valid-c.0 valid-c.1 x ys few good k runs late e (eq-eqb (lacking c k x ys) 0 u)
+    taken_so k entry out fits room runs late e u =
+        all_certified c entry out fits room valid_c.0 valid_c.1 x ys few good k runs late e (eq-eqb (lacking c k x ys) 0 u)
 
   -- above a block that both hold
   module _ (k : ℕ) (held : Held (slot c.log) k) (alike : slot c.log k ≡ slot d.log k) (x : List ℕ) (ys zs : List (List ℕ))
@@ -139,31 +139,31 @@ module _ (s : Setup) (past : List Event) (i j : ℕ) (c d : State) (gc : Good s 
     abbrev h : ℕ
     h = height (slot c.log k)
 
-    pub tip-most : k ≤ c.replica.tip_round.0
-    tip-most = within s.last_round.0 _ _ (slot c.log) _ gc.stored.chain k held
+    pub tip_most : k ≤ c.replica.tip_round.0
+    tip_most = within s.last_round.0 _ _ (slot c.log) _ gc.stored.chain k held
 
     low : k ≤ s.last_round.0
-    low = omega (arith, tip-most, gc.stored.chain.low)
+    low = omega (arith, tip_most, gc.stored.chain.low)
 
-    held-d : Held (slot d.log) k
-    held-d = held_same (slot d.log) (slot c.log) k (sym alike) held
+    held_d : Held (slot d.log) k
+    held_d = held_same (slot d.log) (slot c.log) k (sym alike) held
 
-    pub round-d : round (slot d.log k) ≡ k
-    round-d = held-round s past d.masks d.log d.replica.tip_round.0 gd.stored.chain k held-d
+    pub round_d : round (slot d.log k) ≡ k
+    round_d = held_round s past d.masks d.log d.replica.tip_round.0 gd.stored.chain k held_d
 
     starts : (parts s past j d gd h).from ≡ k
     starts =
-        cut-from s.last_round.0 _ _ d.log d.replica.tip_round.0 gd.stored.chain h d.replica.last_round.0 k
-        (parts s past j d gd h) (omega (arith, low, gd.fixed.last-is)) held-d (ap height (sym alike))
+        cut_from s.last_round.0 _ _ d.log d.replica.tip_round.0 gd.stored.chain h d.replica.last_round.0 k
+        (parts s past j d gd h) (omega (arith, low, gd.fixed.last_is)) held_d (ap height (sym alike))
 
     pub run_on : blocks s (some (slot d.log k)) (x ∷ ys) ≡ true
-    run_on = subst (λ q. blocks s (some (slot d.log q)) (x ∷ ys) ≡ true) starts (front-run s past j d gd h (x ∷ ys) zs m)
+    run_on = subst (λ q. blocks s (some (slot d.log q)) (x ∷ ys) ≡ true) starts (front_run s past j d gd h (x ∷ ys) zs m)
 
     on : (linked (slot c.log k) x ≡ true) × (k < round x)
     on =
         let t : (linked (slot d.log k) x ≡ true) × (round (slot d.log k) < round x) =
-        child-parts (slot d.log k) x (blocks-parts s (some (slot d.log k)) x ys run_on).1 in
-        (ap (λ y. linked y x) alike ∙ t.0, omega (arith, t.1, round-d))
+        child_parts (slot d.log k) x (blocks_parts s (some (slot d.log k)) x ys run_on).1 in
+        (ap (λ y. linked y x) alike ∙ t.0, omega (arith, t.1, round_d))
 
     -- no slot of c above that block fits
     no_other : (q : ℕ) → k < q → (filled (slot c.log q) && linked (slot c.log q) x) ≡ false
@@ -177,16 +177,16 @@ module _ (s : Setup) (past : List Event) (i j : ℕ) (c d : State) (gc : Good s 
             absurd (omega (
               arith,
               climbs s.last_round.0 _ _ (slot c.log) c.replica.tip_round.0 gc.stored.chain k q u held t.0,
-              (linked-joins (slot c.log q) x t.1).rise,
-              (linked-joins (slot c.log k) x on.0).rise,
+              (linked_joins (slot c.log q) x t.1).rise,
+              (linked_joins (slot c.log k) x on.0).rise,
             ))
 
-    filled-c : Held (slot c.log) k → 1 ≤ k → filled (slot c.log k) ≡ true
-    filled-c (inl z) o = absurd (omega arith)
-    filled-c (inr f) o = f
+    filled_c : Held (slot c.log) k → 1 ≤ k → filled (slot c.log k) ≡ true
+    filled_c (inl z) o = absurd (omega arith)
+    filled_c (inr f) o = f
 
     attached : attach c.log x (round x - 1) ≡ some k
-    attached = attach-from c.log x k (round x - 1) (omega (arith, on.1)) (filled-c held) on.0 (λ q u v. no_other q u)
+    attached = attach_from c.log x k (round x - 1) (omega (arith, on.1)) (filled_c held) on.0 (λ q u v. no_other q u)
 
     -- where it is not below the committed round, nothing up to there changes
     kept : c.replica.committed_round.0 ≤ k → (q : ℕ) → 1 ≤ q → q ≤ c.replica.committed_round.0
@@ -194,15 +194,15 @@ module _ (s : Setup) (past : List Event) (i j : ℕ) (c d : State) (gc : Good s 
     unfolding grown
     kept above q o u =
         let fit : frame_size * k ≤ length c.log = omega (arith, low, gc.stored.size) in
-        stored_low s (x ∷ ys) (clear_above c.log k) (slot d.log k) run_on q (omega (arith, round-d))
-        (length-clear c.log k fit ∙ gc.stored.size)
-        ∙ clear-low c.log k q fit (omega arith)
+        stored_low s (x ∷ ys) (clear_above c.log k) (slot d.log k) run_on q (omega (arith, round_d))
+        (length_clear c.log k fit ∙ gc.stored.size)
+        ∙ clear_low c.log k q fit (omega arith)
 
     pub extending : c.replica.committed_round.0 ≤ k → Extending c k x ys
     extending above =
         record {
           attached = attached;
-          keeps = λ _. take-slots (grown c.log k (x ∷ ys)) c.log c.replica.committed_round.0 (kept above);
+          keeps = λ _. take_slots (grown c.log k (x ∷ ys)) c.log c.replica.committed_round.0 (kept above);
         }
 
     -- and elsewhere nothing does if the premises hold: a linked log that reaches R has the committed slots of c
@@ -210,38 +210,38 @@ module _ (s : Setup) (past : List Event) (i j : ℕ) (c d : State) (gc : Good s 
       abbrev new : List ℕ
       new = grown c.log k (x ∷ ys)
 
-      linked-new : lacking c k x ys ≡ 0 → Stored s past c.masks new (round (last_of x ys)) (height (last_of x ys))
-      linked-new u =
-          let r : Block s x × Row s x ys = blocks-row s (some (slot d.log k)) x ys run_on in
-          grown-stored s past c.masks c.log _ _ k x ys gc.stored attached r.0 r.1 (λ z p _. run-seen s past j d gd h x ys zs m z p)
-          (blocks-whole s (some (slot d.log k)) (x ∷ ys) run_on) (sym (own k (x ∷ ys)) ∙ u)
+      linked_new : lacking c k x ys ≡ 0 → Stored s past c.masks new (round (last_of x ys)) (height (last_of x ys))
+      linked_new u =
+          let r : Block s x × Row s x ys = blocks_row s (some (slot d.log k)) x ys run_on in
+          grown_stored s past c.masks c.log _ _ k x ys gc.stored attached r.0 r.1 (λ z p _. run_seen s past j d gd h x ys zs m z p)
+          (blocks_whole s (some (slot d.log k)) (x ∷ ys) run_on) (sym (own k (x ∷ ys)) ∙ u)
 
-      keeps-all : lacking c k x ys ≡ 0 → take (frame_size * c.replica.committed_round.0) new ≡ take (frame_size * c.replica.committed_round.0) c.log
-      keeps-all u =
+      keeps_all_lem : lacking c k x ys ≡ 0 → take (frame_size * c.replica.committed_round.0) new ≡ take (frame_size * c.replica.committed_round.0) c.log
+      keeps_all_lem u =
           ⊎_elim (same_true _ _)
-          (λ e. absurd (no-revert s correct past sound i c gc
+          (λ e. absurd (no_revert s correct past sound i c gc
           (record {
             log = new;
             tip = round (last_of x ys);
             level = height (last_of x ys);
-            stored = linked-new u;
+            stored = linked_new u;
             beyond = late;
             renewed = rc.renewed;
             differs = λ z. clash (same_of z) e;
           })))
           (either (same (take (frame_size * c.replica.committed_round.0) new) (take (frame_size * c.replica.committed_round.0) c.log)))
 
-      pub extending-late : Extending c k x ys
-      extending-late = record { attached = attached; keeps = keeps-all }
+      pub extending_late : Extending c k x ys
+      extending_late = record { attached = attached; keeps = keeps_all_lem }
 
 -- two replicas in the world of a lawful list
 module _ (s : Setup) (calls : List (ℕ × Call)) (l : Each (Lawful s) start calls) (i : ℕ) (c : State)
     (ec : (run start calls).states i ≡ some c) where
   pub goods : Good s (run start calls).past i c
-  goods = (run-inv s calls start l (start-inv s)).good i c ec
+  goods = (run_inv s calls start l (start_inv s)).good i c ec
 
   pub rests : Rested c
-  rests = (run-inv s calls start l (start-inv s)).rests i c ec
+  rests = (run_inv s calls start l (start_inv s)).rests i c ec
 
 pub continues : Continues
 continues s calls l i j c d ec ed k sh x ys zs m =
@@ -250,7 +250,7 @@ continues s calls l i j c d ec ed k sh x ys zs m =
     let rc : Rested c = rests s calls l i c ec in
     let gd : Good s past j d = goods s calls l j d ed in
     answered s past i j c d gc rc gd (height (slot c.log k)) x ys zs m k
-    (λ _. extending s past i j c d gc rc gd k sh.held sh.same x ys zs m sh.from-committed)
+    (λ _. extending s past i j c d gc rc gd k sh.held sh.same x ys zs m sh.from_committed)
 
 -- c now and earlier (c₀), and d at any time, in the world of a list that meets the premises
 module _ (s : Setup) (correct : ℕ → Bool) (calls : List (ℕ × Call)) (p : Premises s correct calls) (i j : ℕ) (c c₀ d : State)
@@ -265,14 +265,14 @@ module _ (s : Setup) (correct : ℕ → Bool) (calls : List (ℕ × Call)) (p : 
   rc = rests s calls p.lawful i c ec
 
   abbrev pub gd : Good s past j d
-  gd = had-good s calls p.lawful j d hd
+  gd = had_good s calls p.lawful j d hd
 
   -- the block that c₀ had committed
   abbrev pub k₀ : ℕ
   k₀ = c₀.replica.committed_round.0
 
   grew : Extends c₀ c
-  grew = had-extends s calls p.lawful i c₀ hc c ec
+  grew = had_extends s calls p.lawful i c₀ hc c ec
 
   -- c holds it still
   kept₀ : slot c.log k₀ ≡ slot c₀.log k₀
@@ -282,11 +282,11 @@ module _ (s : Setup) (correct : ℕ → Bool) (calls : List (ℕ × Call)) (p : 
       go true e =
           let z : k₀ ≡ 0 = omega (arith, leb-true k₀ 0 e) in
           ap (slot c.log) z ∙ gc.stored.chain.origin
-          ∙ sym (ap (slot c₀.log) z ∙ (had-good s calls p.lawful i c₀ hc).stored.chain.origin)
-      go false e = grew.same-slots k₀ (leb-false _ _ e) (omega arith)
+          ∙ sym (ap (slot c₀.log) z ∙ (had_good s calls p.lawful i c₀ hc).stored.chain.origin)
+      go false e = grew.same_slots k₀ (leb-false _ _ e) (omega arith)
 
   pub held₀ : Held (slot c.log) k₀
-  held₀ = held_same (slot c.log) (slot c₀.log) k₀ kept₀ (committed-held (had-rested s calls p.lawful i c₀ hc).renewed)
+  held₀ = held_same (slot c.log) (slot c₀.log) k₀ kept₀ (committed_held (had_rested s calls p.lawful i c₀ hc).renewed)
 
   -- at the height above which c fetched
   module _ (x : List ℕ) (ys zs : List (List ℕ))
@@ -294,7 +294,7 @@ module _ (s : Setup) (correct : ℕ → Bool) (calls : List (ℕ × Call)) (p : 
     pub from₀ : fetchable d.replica d.log (height (slot c.log k₀)) ≡ x ∷ (ys ++ zs)
     from₀ =
         subst (λ u. fetchable d.replica d.log u ≡ x ∷ (ys ++ zs))
-        ((had-rested s calls p.lawful i c₀ hc).renewed.committed-height ∙ ap height (sym kept₀)) m
+        ((had_rested s calls p.lawful i c₀ hc).renewed.committed_height_lem ∙ ap height (sym kept₀)) m
 
     -- where d's frames reach c's R, d's R was not the lower, and both hold the same up to c's committed round
     pub same₀ : c.replica.round.0 ≤ round (last_of x ys) → slot c.log k₀ ≡ slot d.log k₀
@@ -305,26 +305,26 @@ module _ (s : Setup) (correct : ℕ → Bool) (calls : List (ℕ × Call)) (p : 
             let z : k₀ ≡ 0 = omega (arith, leb-true k₀ 0 e) in
             ap (slot c.log) z ∙ gc.stored.chain.origin ∙ sym (ap (slot d.log) z ∙ gd.stored.chain.origin)
         go false e =
-            same-limit s correct past (honest s correct calls p) i j c d gc gd
-            (omega (arith, late, last-below s past j d gd c₀.replica.committed_height.0 x ys zs m)) k₀ (leb-false _ _ e)
-            (omega (arith, grew.further, committed-low rc.renewed))
+            same_limit s correct past (honest s correct calls p) i j c d gc gd
+            (omega (arith, late, last_below s past j d gd c₀.replica.committed_height.0 x ys zs m)) k₀ (leb-false _ _ e)
+            (omega (arith, grew.further, committed_low rc.renewed))
 
     pub extending₀ : c.replica.round.0 ≤ round (last_of x ys) → Extending c k₀ x ys
-    extending₀ late = extending-late s past i j c d gc rc gd k₀ held₀ (same₀ late) x ys zs from₀ correct (honest s correct calls p) late
+    extending₀ late = extending_late s past i j c d gc rc gd k₀ held₀ (same₀ late) x ys zs from₀ correct (honest s correct calls p) late
 
-pub catch-up-later : CatchUpLater
-catch-up-later s correct calls p i j c c₀ d ec hc hd x ys zs m =
+pub catch_up_later : CatchUpLater
+catch_up_later s correct calls p i j c c₀ d ec hc hd x ys zs m =
     answered s (run start calls).past i j c d (gc s correct calls p i j c c₀ d ec hc hd) (rc s correct calls p i j c c₀ d ec hc hd)
     (gd s correct calls p i j c c₀ d ec hc hd) c₀.replica.committed_height.0 x ys zs m c₀.replica.committed_round.0
     (extending₀ s correct calls p i j c c₀ d ec hc hd x ys zs m)
 
-pub catch-up : CatchUp
-catch-up s correct calls p i j c d ec ed = catch-up-later s correct calls p i j c c d ec (has calls i c ec) (has calls j d ed)
+pub catch_up : CatchUp
+catch_up s correct calls p i j c d ec ed = catch_up_later s correct calls p i j c c d ec (has calls i c ec) (has calls j d ed)
 
 pub common : Common
 common s correct calls p i j c d ec ed x ys zs m late =
     record {
-      from-committed = omega arith;
+      from_committed = omega arith;
       held = held₀ s correct calls p i j c c d ec (has calls i c ec) (has calls j d ed);
       same = same₀ s correct calls p i j c c d ec (has calls i c ec) (has calls j d ed) x ys zs m late;
     }

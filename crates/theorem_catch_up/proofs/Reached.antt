@@ -15,17 +15,17 @@ use Rattle.apollo.specs.Calls.{branch_call, blames_call}
 use Rattle.apollo.specs.BenchSheet.{number}
 use Rattle.theorem_agreement.specs.Run.{Call, start, run}
 use Rattle.theorem_agreement.specs.Premises.{Premises}
-use Rattle.theorem_witness.proofs.Frames.{b1, b3, b4, m0, m2, checked1, checked-m0, checked-m2}
-use Rattle.theorem_witness.proofs.Answers.{out, all, opened-1, blaming-2, heard-0, skipped-0, skipped-2, last-0, last-2}
-use Rattle.theorem_witness.proofs.Witness.{setup, correct, first-five, first-seven, first-eight, first-ten, five-premises, seven-premises, eight-premises, ten-premises, five-leave, seven-leave, eight-leave, ten-leave, had-waited}
+use Rattle.theorem_witness.proofs.Frames.{b1, b3, b4, m0, m2, checked1, checked_m0, checked_m2}
+use Rattle.theorem_witness.proofs.Answers.{out, all, opened_1, blaming_2, heard_0, skipped_0, skipped_2, last_0, last_2}
+use Rattle.theorem_witness.proofs.Witness.{setup, correct, first_five, first_seven, first_eight, first_ten, five_premises, seven_premises, eight_premises, ten_premises, five_leave, seven_leave, eight_leave, ten_leave, had_waited}
 use Rattle.theorem_catch_up.specs.CatchUp.{missing, received, beneath, Comes, VerdictsCome, TakenLater}
 
-early-blames : number (blames_call opened-1 (m2 ++ m0) [] out) ≡ 14
-unfolding all opened-1 refused
-early-blames = rw (checked-m2, checked-m0) refl
+early_blames : number (blames_call opened_1 (m2 ++ m0) [] out) ≡ 14
+unfolding all opened_1 refused
+early_blames = rw (checked_m2, checked_m0) refl
 
-first_taken : number (branch_call opened-1 (flatten (beneath 2 (b1 ∷ b3 ∷ []))) [] out) ≡ 0
-unfolding all opened-1 beneath flatten
+first_taken : number (branch_call opened_1 (flatten (beneath 2 (b1 ∷ b3 ∷ []))) [] out) ≡ 0
+unfolding all opened_1 beneath flatten
 first_taken = rw checked1 refl
 
 -- in the world of some calls
@@ -41,48 +41,48 @@ at es p i j c d ec ed ne x ys m v e =
       ys = ys;
       apart = ne;
       has = m;
-      verdict-is = e;
+      verdict_is = e;
     }
 
-pub verdicts-come : VerdictsCome
-unfolding setup all opened-1 blaming-2 heard-0 skipped-0 skipped-2 last-0 last-2 above chain received
-verdicts-come =
+pub verdicts_come : VerdictsCome
+unfolding setup all opened_1 blaming_2 heard_0 skipped_0 skipped_2 last_0 last_2 above chain received
+verdicts_come =
     record {
-      over = at first-ten ten-premises 0 2 last-0 last-2 ten-leave.0 ten-leave.1 (λ z. omega (arith, z)) b4 [] refl (verdict 3 0) refl;
-      behind = at first-five five-premises 0 2 heard-0 blaming-2 five-leave.0 five-leave.1 (λ z. omega (arith, z)) b1 [] refl (verdict 10 0) refl;
-      taken = at first-eight eight-premises 2 0 skipped-2 skipped-0 eight-leave.1 eight-leave.0 (λ z. omega (arith, z)) b3 [] refl (verdict 0 0) refl;
-      waits = at first-seven seven-premises 2 0 blaming-2 skipped-0 seven-leave.2 seven-leave.0 (λ z. omega (arith, z)) b1 (b3 ∷ []) refl (verdict 13 2) refl;
-      waits-for = refl;
-      shared = record { from-committed = omega arith; held = inr refl; same = refl };
+      over = at first_ten ten_premises 0 2 last_0 last_2 ten_leave.0 ten_leave.1 (λ z. omega (arith, z)) b4 [] refl (verdict 3 0) refl;
+      behind = at first_five five_premises 0 2 heard_0 blaming_2 five_leave.0 five_leave.1 (λ z. omega (arith, z)) b1 [] refl (verdict 10 0) refl;
+      taken = at first_eight eight_premises 2 0 skipped_2 skipped_0 eight_leave.1 eight_leave.0 (λ z. omega (arith, z)) b3 [] refl (verdict 0 0) refl;
+      waits = at first_seven seven_premises 2 0 blaming_2 skipped_0 seven_leave.2 seven_leave.0 (λ z. omega (arith, z)) b1 (b3 ∷ []) refl (verdict 13 2) refl;
+      waits_for = refl;
+      shared = record { from_committed = omega arith; held = inr refl; same = refl };
       uncommitted = refl;
       one_more = refl;
-      far = at first-seven seven-premises 1 0 opened-1 skipped-0 seven-leave.1 seven-leave.0 (λ z. omega (arith, z)) b1 (b3 ∷ []) refl (verdict 13 2) refl;
+      far = at first_seven seven_premises 1 0 opened_1 skipped_0 seven_leave.1 seven_leave.0 (λ z. omega (arith, z)) b1 (b3 ∷ []) refl (verdict 13 2) refl;
       far_from = refl;
-      f-one = refl;
+      f_one = refl;
       blames = m2 ++ m0;
-      of-round = refl;
+      of_round = refl;
       two = refl;
       out = out;
-      too-early = early-blames;
-      below-taken = first_taken;
+      too_early = early_blames;
+      below_taken = first_taken;
     }
 
 -- replica 2 passes round 2 by the blames of the eighth call, and commits block 1; then blocks 1 and 3 go in again
-pub taken-later : TakenLater
-unfolding setup all blaming-2 skipped-0 skipped-2 above chain received
-taken-later =
+pub taken_later : TakenLater
+unfolding setup all blaming_2 skipped_0 skipped_2 above chain received
+taken_later =
     record {
-      list = record { s = setup; correct = correct; calls = first-eight; premises = eight-premises };
-      back = record { i = 2; c = skipped-2; left = eight-leave.1 };
-      other = record { i = 0; c = skipped-0; left = eight-leave.0 };
-      before = blaming-2;
-      had = had-waited;
+      list = record { s = setup; correct = correct; calls = first_eight; premises = eight_premises };
+      back = record { i = 2; c = skipped_2; left = eight_leave.1 };
+      other = record { i = 0; c = skipped_0; left = eight_leave.0 };
+      before = blaming_2;
+      had = had_waited;
       x = b1;
       ys = b3 ∷ [];
       apart = λ z. omega (arith, z);
       fetched = refl;
       waited = refl;
       more = omega arith;
-      begins-low = omega arith;
+      begins_low = omega arith;
       taken = refl;
     }

@@ -24,23 +24,23 @@ use Rattle.apollo.specs.Branch.{first_uncertified, adopting}
 use Rattle.apollo.specs.Fetch.{fetchable}
 use Rattle.apollo.specs.Calls.{branch_call}
 use Rattle.apollo.specs.BenchSheet.{number, new_round}
-use Rattle.apollo.proofs.BlockRun.{child-parts, blocks-parts}
+use Rattle.apollo.proofs.BlockRun.{child_parts, blocks_parts}
 use Rattle.theorem_agreement.specs.Run.{Event, start, run}
-use Rattle.theorem_agreement.proofs.Tests.{clash, by_cond, cond-true}
+use Rattle.theorem_agreement.proofs.Tests.{clash, by_cond, cond_true}
 use Rattle.theorem_agreement.proofs.Chain.{Held}
-use Rattle.theorem_agreement.proofs.Good.{Good, Rested, setup-is}
+use Rattle.theorem_agreement.proofs.Good.{Good, Rested, setup_is}
 use Rattle.theorem_agreement.proofs.Agreement.{honest}
 use Rattle.theorem_catch_up.specs.CatchUp.{lacking, received, beneath, Split, SplitLater}
-use Rattle.theorem_catch_up.proofs.CatchUp.{Extending, own, taken-so, tip-most, round-d, run_on, extending, extending-late, goods, rests, gc, rc, gd, held₀, from₀, same₀}
+use Rattle.theorem_catch_up.proofs.CatchUp.{Extending, own, taken_so, tip_most, round_d, run_on, extending, extending_late, goods, rests, gc, rc, gd, held₀, from₀, same₀}
 
 -- the first round above lo that is not certified: all before it are
-gap-found : (s : Setup) (masks : List ℕ) (lo k q : ℕ) → gap s masks lo k ≡ q → q ≢ 0
+gap_found : (s : Setup) (masks : List ℕ) (lo k q : ℕ) → gap s masks lo k ≡ q → q ≢ 0
     → (lo < q) × (q ≤ lo + k) × ((r : ℕ) → lo < r → r < q → certified s masks r ≡ true)
 unfolding gap
-gap-found s masks lo zero q e n = absurd (n (sym e))
-gap-found s masks lo (suc k) q e n =
+gap_found s masks lo zero q e n = absurd (n (sym e))
+gap_found s masks lo (suc k) q e n =
     by_cond (λ g. g ≡ q → (lo < q) × (q ≤ lo + suc k) × ((r : ℕ) → lo < r → r < q → certified s masks r ≡ true)) (certified s masks (lo + 1))
-    (λ t v. let ih = gap-found s masks (lo + 1) k q v n in
+    (λ t v. let ih = gap_found s masks (lo + 1) k q v n in
     (omega (arith, ih.0), omega (arith, ih.1), λ r a b. first t ih.2 r a b (eqb r (lo + 1)) refl))
     (λ t v. (omega arith, omega arith, λ r a b. absurd (omega arith))) e
   where
@@ -54,16 +54,16 @@ abbrev end_of : ℕ → List (List ℕ) → ℕ
 end_of lo [] = lo
 end_of lo (x ∷ xs) = end_of (round x) xs
 
-end-last : (lo : ℕ) (x : List ℕ) (xs : List (List ℕ)) → end_of lo (x ∷ xs) ≡ round (last_of x xs)
+end_last : (lo : ℕ) (x : List ℕ) (xs : List (List ℕ)) → end_of lo (x ∷ xs) ≡ round (last_of x xs)
 unfolding last_of
-end-last lo x [] = refl
-end-last lo x (y ∷ ys) = end-last (round x) y ys
+end_last lo x [] = refl
+end_last lo x (y ∷ ys) = end_last (round x) y ys
 
-beneath-front : (q : ℕ) (xs : List (List ℕ)) → (zs : List (List ℕ)) × (xs ≡ beneath q xs ++ zs)
+beneath_front : (q : ℕ) (xs : List (List ℕ)) → (zs : List (List ℕ)) × (xs ≡ beneath q xs ++ zs)
 unfolding beneath
-beneath-front q [] = ([], refl)
-beneath-front q (x ∷ xs) =
-    let r : (zs : List (List ℕ)) × (xs ≡ beneath q xs ++ zs) = beneath-front q xs in
+beneath_front q [] = ([], refl)
+beneath_front q (x ∷ xs) =
+    let r : (zs : List (List ℕ)) × (xs ≡ beneath q xs ++ zs) = beneath_front q xs in
     by_cond (λ us. (zs : List (List ℕ)) × (x ∷ xs ≡ us ++ zs)) (ltb (round x) q) (λ _. (r.0, ap (λ us. x ∷ us) r.1)) (λ _. (x ∷ xs, refl))
 
 -- q is the first skipped round that is not certified
@@ -80,21 +80,21 @@ module _ (s : Setup) (masks : List ℕ) (q : ℕ) (is : q ≢ 0) where
   below [] p f lo e u = absurd (is (sym u))
   below (x ∷ xs) p f lo e u =
       by_cond (λ v. v ≡ q → Below lo (cond (ltb (round x) q) (x ∷ beneath q xs) [])) (eqb (gap s masks lo (round x - lo - 1)) 0)
-      (λ z v. on z (below xs x (blocks-parts s (some p) x xs f).2 (round x) refl v)) (λ z v. here v) u
+      (λ z v. on z (below xs x (blocks_parts s (some p) x xs f).2 (round x) refl v)) (λ z v. here v) u
     where
       up : lo < round x
-      up = omega (arith, (child-parts p x (blocks-parts s (some p) x xs f).1).1)
+      up = omega (arith, (child_parts p x (blocks_parts s (some p) x xs f).1).1)
 
       on : eqb (gap s masks lo (round x - lo - 1)) 0 ≡ true → Below (round x) (beneath q xs)
           → Below lo (cond (ltb (round x) q) (x ∷ beneath q xs) [])
       on z b =
           by_cond (Below lo) (ltb (round x) q)
-          (λ _. record { before = omega (arith, b.before, up); none = cond-true _ _ z ∙ b.none; ends = b.ends; between = b.between })
+          (λ _. record { before = omega (arith, b.before, up); none = cond_true _ _ z ∙ b.none; ends = b.ends; between = b.between })
           (λ t. absurd (omega (arith, ltb-false (round x) q t, b.before)))
 
       here : gap s masks lo (round x - lo - 1) ≡ q → Below lo (cond (ltb (round x) q) (x ∷ beneath q xs) [])
       here v =
-          let g = gap-found s masks lo (round x - lo - 1) q v is in
+          let g = gap_found s masks lo (round x - lo - 1) q v is in
           by_cond (Below lo) (ltb (round x) q) (λ t. absurd (omega (arith, ltb-true (round x) q t, g.1, up)))
           (λ _. record { before = g.0; none = refl; ends = g.0; between = g.2 })
 
@@ -118,10 +118,10 @@ lacks c k x ys q =
     record { runs = eqb-false _ _ n; late = ltb-false _ _ l; first = e; lies = λ w. eqb-false _ _ z (e ∙ w) })))
 
 -- a taken branch leaves R above its last round
-round-after : (c : State) (a : ℕ) (x : List ℕ) (ys : List (List ℕ)) (entry out : List ℕ)
+round_after : (c : State) (a : ℕ) (x : List ℕ) (ys : List (List ℕ)) (entry out : List ℕ)
     → round (last_of x ys) < new_round (taken (adopting sha256 entry c a x ys) out)
 unfolding taken adopting enter_round
-round-after c a x ys entry out =
+round_after c a x ys entry out =
     by_cond (λ (e : Effect). round (last_of x ys) < e.state.replica.round.0) (leads (holding c _ _ _).replica)
     (λ _. unfold entered commit proposing holding tipped in omega arith) (λ _. unfold entered commit holding tipped in omega arith)
 
@@ -138,7 +138,7 @@ module _ (s : Setup) (past : List Event) (i j : ℕ) (c d : State) (gc : Good s 
   under : Below s c.masks q w.lies k us
   under =
       below s c.masks q w.lies (x ∷ ys) (slot d.log k) (run_on s past i j c d gc rc gd k held same x ys zs m) k
-      (round-d s past i j c d gc rc gd k held same x ys zs m) (sym (own s past i j c d gc rc gd k (x ∷ ys)) ∙ w.first)
+      (round_d s past i j c d gc rc gd k held same x ys zs m) (sym (own s past i j c d gc rc gd k (x ∷ ys)) ∙ w.first)
 
   -- a certified round is below R
   passed : (r : ℕ) → certified s c.masks r ≡ true → r < R
@@ -146,12 +146,12 @@ module _ (s : Setup) (past : List Event) (i j : ℕ) (c d : State) (gc : Good s 
     where
       go : (b : Bool) → leb R r ≡ b → r < R
       go true e =
-          absurd (clash (ap (λ u. certified u c.masks r) (setup-is s i c.replica gc.fixed) ∙ t) (rc.ahead r (leb-true _ _ e)))
+          absurd (clash (ap (λ u. certified u c.masks r) (setup_is s i c.replica gc.fixed) ∙ t) (rc.ahead r (leb-true _ _ e)))
       go false e = leb-false _ _ e
 
   -- above R, the frames below q end right before it
-  ends-right : R < q → end_of k us + 1 ≡ q
-  ends-right u = go (leb q (end_of k us + 1)) refl
+  ends_right : R < q → end_of k us + 1 ≡ q
+  ends_right u = go (leb q (end_of k us + 1)) refl
     where
       go : (b : Bool) → leb q (end_of k us + 1) ≡ b → end_of k us + 1 ≡ q
       go true e = omega (arith, leb-true q (end_of k us + 1) e, under.ends)
@@ -167,24 +167,24 @@ module _ (s : Setup) (past : List Event) (i j : ℕ) (c d : State) (gc : Good s 
 
     those : R < q → (vs : List (List ℕ)) → us ≡ vs → Taken vs
     those high [] e =
-        absurd (omega (arith, ends-right high, ap (end_of k) e, tip-most s past i j c d gc rc gd k held same x ys zs m, gc.tip-below))
+        absurd (omega (arith, ends_right high, ap (end_of k) e, tip_most s past i j c d gc rc gd k held same x ys zs m, gc.tip_below))
     those high (z ∷ vs) e =
-        let r : (rest : List (List ℕ)) × (x ∷ ys ≡ us ++ rest) = beneath-front q (x ∷ ys) in
+        let r : (rest : List (List ℕ)) × (x ∷ ys ≡ us ++ rest) = beneath_front q (x ∷ ys) in
         let n : fetchable d.replica d.log (height (slot c.log k)) ≡ z ∷ (vs ++ (r.0 ++ zs)) =
         m ∙ ap (λ ws. ws ++ zs) (r.1 ∙ ap (λ ws. ws ++ r.0) e) ∙ append_assoc (z ∷ vs) r.0 zs in
-        let end : round (last_of z vs) + 1 ≡ q = ap (λ t. t + 1) (sym (end-last k z vs) ∙ ap (end_of k) (sym e)) ∙ ends-right high in
+        let end : round (last_of z vs) + 1 ≡ q = ap (λ t. t + 1) (sym (end_last k z vs) ∙ ap (end_of k) (sym e)) ∙ ends_right high in
         let late : R ≤ round (last_of z vs) = omega (arith, end) in
         let none : lacking c k z vs ≡ 0 =
         own s past i j c d gc rc gd k (z ∷ vs) ∙ ap (first_uncertified s c.masks k) (sym e) ∙ under.none in
         let o : branch_call c (flatten (z ∷ vs)) entry out ≡ taken (adopting sha256 entry c k z vs) out =
-        taken-so s past i j c d gc rc gd (height (slot c.log k)) z vs (r.0 ++ zs) n k entry out fits room w.runs late
+        taken_so s past i j c d gc rc gd (height (slot c.log k)) z vs (r.0 ++ zs) n k entry out fits room w.runs late
         (ext z vs (r.0 ++ zs) n late) none in (
           ap number o ∙ (unfold taken in refl),
-          subst (λ t. q ≤ new_round t) (sym o) (omega (arith, end, round-after c k z vs entry out)),
+          subst (λ t. q ≤ new_round t) (sym o) (omega (arith, end, round_after c k z vs entry out)),
         )
 
-    no-dead-end : (q ≤ R) ⊎ Taken us
-    no-dead-end = go (leb q R) refl
+    no_dead_end : (q ≤ R) ⊎ Taken us
+    no_dead_end = go (leb q R) refl
       where
         go : (b : Bool) → leb q R ≡ b → (q ≤ R) ⊎ Taken us
         go true z = inl (leb-true _ _ z)
@@ -196,17 +196,17 @@ split s calls l i j c d ec ed k sh x ys zs m q e =
     let gc : Good s past i c = goods s calls l i c ec in
     let rc : Rested c = rests s calls l i c ec in
     let gd : Good s past j d = goods s calls l j d ed in
-    no-dead-end s past i j c d gc rc gd k sh.held sh.same x ys zs m q (lacks c k x ys q e)
-    (λ z vs rest n _. extending s past i j c d gc rc gd k sh.held sh.same z vs rest n sh.from-committed)
+    no_dead_end s past i j c d gc rc gd k sh.held sh.same x ys zs m q (lacks c k x ys q e)
+    (λ z vs rest n _. extending s past i j c d gc rc gd k sh.held sh.same z vs rest n sh.from_committed)
 
-pub split-later : SplitLater
-split-later s correct calls p i j c c₀ d ec hc hd x ys zs m q e =
+pub split_later : SplitLater
+split_later s correct calls p i j c c₀ d ec hc hd x ys zs m q e =
     let k : ℕ = c₀.replica.committed_round.0 in
     let w : Lacks c k x ys q = lacks c k x ys q e in
     let held : Held (slot c.log) k = held₀ s correct calls p i j c c₀ d ec hc hd in
     let same : slot c.log k ≡ slot d.log k = same₀ s correct calls p i j c c₀ d ec hc hd x ys zs m w.late in
-    no-dead-end s (run start calls).past i j c d (gc s correct calls p i j c c₀ d ec hc hd) (rc s correct calls p i j c c₀ d ec hc hd)
+    no_dead_end s (run start calls).past i j c d (gc s correct calls p i j c c₀ d ec hc hd) (rc s correct calls p i j c c₀ d ec hc hd)
     (gd s correct calls p i j c c₀ d ec hc hd) k held same x ys zs (from₀ s correct calls p i j c c₀ d ec hc hd x ys zs m) q w
-    (λ z vs rest n late. extending-late s (run start calls).past i j c d (gc s correct calls p i j c c₀ d ec hc hd)
+    (λ z vs rest n late. extending_late s (run start calls).past i j c d (gc s correct calls p i j c c₀ d ec hc hd)
     (rc s correct calls p i j c c₀ d ec hc hd) (gd s correct calls p i j c c₀ d ec hc hd) k held same z vs rest n correct
     (honest s correct calls p) late)

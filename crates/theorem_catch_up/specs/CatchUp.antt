@@ -46,7 +46,7 @@ received c k x ys =
 
 -- c and d hold the same block in round k, not below c's committed round; or k is 0, the genesis of both
 pub record Shared (c d : State) (k : ℕ) : Type 0 where
-  pub from-committed : c.replica.committed_round.0 ≤ k
+  pub from_committed : c.replica.committed_round.0 ≤ k
   pub held : (k ≡ 0) ⊎ (filled (slot c.log k) ≡ true)
   pub same : slot c.log k ≡ slot d.log k
 
@@ -139,7 +139,7 @@ pub record Comes (v : Verdict) : Type 0 where
   pub ys : List (List ℕ)
   pub apart : back.i ≢ other.i
   pub has : missing back.c other.c ≡ x ∷ ys
-  pub verdict-is : received back.c back.c.replica.committed_round.0 x ys ≡ v
+  pub verdict_is : received back.c back.c.replica.committed_round.0 x ys ≡ v
 
 pub record VerdictsCome : Type 0 where
   pub over : Comes (verdict rounds_over 0)
@@ -147,7 +147,7 @@ pub record VerdictsCome : Type 0 where
   pub taken : Comes no_refusal
   -- the round named is R: its blames go in at once
   pub waits : Comes (verdict not_certified 2)
-  pub waits-for : waits.back.c.replica.round.0 ≡ 2
+  pub waits_for : waits.back.c.replica.round.0 ≡ 2
   -- both hold the block of round 1 there, and c has committed nothing: from that block on d has one frame for it
   pub shared : Shared waits.back.c waits.other.c 1
   pub uncommitted : waits.back.c.replica.committed_round.0 ≡ 0
@@ -155,13 +155,13 @@ pub record VerdictsCome : Type 0 where
   -- The split is needed: the round named is above R, its two blames, f + 1 of them, are early, and the frames below it are taken
   pub far : Comes (verdict not_certified 2)
   pub far_from : far.back.c.replica.round.0 ≡ 1
-  pub f-one : far.list.s.f ≡ 1
+  pub f_one : far.list.s.f ≡ 1
   pub blames : List ℕ
-  pub of-round : round blames ≡ 2
+  pub of_round : round blames ≡ 2
   pub two : length blames ≡ pair_size
   pub out : List ℕ
-  pub too-early : number (blames_call far.back.c blames [] out) ≡ early
-  pub below-taken : number (branch_call far.back.c (flatten (beneath 2 (far.x ∷ far.ys))) [] out) ≡ 0
+  pub too_early : number (blames_call far.back.c blames [] out) ≡ early
+  pub below_taken : number (branch_call far.back.c (flatten (beneath 2 (far.x ∷ far.ys))) [] out) ≡ 0
 
 -- Frames are answered 13, the committed round grows by the blames of the round named (document 02, F-2), and the same frames are taken: they
 -- begin at or below the committed height now, so that `CatchUp` does not speak of them any more
@@ -177,5 +177,5 @@ pub record TakenLater : Type 0 where
   pub fetched : missing before other.c ≡ x ∷ ys
   pub waited : received before before.replica.committed_round.0 x ys ≡ verdict not_certified 2
   pub more : before.replica.committed_round.0 < back.c.replica.committed_round.0
-  pub begins-low : height x ≤ back.c.replica.committed_height.0
+  pub begins_low : height x ≤ back.c.replica.committed_height.0
   pub taken : received back.c before.replica.committed_round.0 x ys ≡ no_refusal

@@ -30,6 +30,6 @@ ReadsFew = OfPremises (λ s calls. EachState calls (λ c. searched c ≤ s.f + 1
 pub record BoundsReached : Type 0 where
   pub list : PremisesMet
   pub reader : StateLeft list
-  pub f-one : list.s.f ≡ 1
-  pub by-masks : searched reader.c ≡ certified_run list.s reader.c.masks (commit_limit reader.c.replica) + 1
-  pub by-f : searched reader.c ≡ list.s.f + 1
+  pub f_one : list.s.f ≡ 1
+  pub by_masks : searched reader.c ≡ certified_run list.s reader.c.masks (commit_limit reader.c.replica) + 1
+  pub by_f : searched reader.c ≡ list.s.f + 1

@@ -69,11 +69,11 @@ head2 = block_head 1 2 2 d1 []
 unfoldable pub head2' : List ℕ
 head2' = block_head 1 2 2 d1 (1 ∷ [])
 
-unfoldable pub head-m0 : List ℕ
-head-m0 = blame_head 0 2
+unfoldable pub head_m0 : List ℕ
+head_m0 = blame_head 0 2
 
-unfoldable pub head-m2 : List ℕ
-head-m2 = blame_head 2 2
+unfoldable pub head_m2 : List ℕ
+head_m2 = blame_head 2 2
 
 -- the frames
 unfoldable pub b1 : List ℕ
@@ -92,10 +92,10 @@ unfoldable pub b2' : List ℕ
 b2' = head2' ++ d2'
 
 unfoldable pub m0 : List ℕ
-m0 = head-m0 ++ e0
+m0 = head_m0 ++ e0
 
 unfoldable pub m2 : List ℕ
-m2 = head-m2 ++ e2
+m2 = head_m2 ++ e2
 
 -- the digests are right
 pub name1 : sha256 head1 ≡ d1
@@ -118,13 +118,13 @@ name2' : sha256 head2' ≡ d2'
 unfolding K padded schedule t1 round rounds plus compress hash sha256 head2' d1 d2' block_head zeros
 name2' = refl
 
-pub name-m0 : sha256 head-m0 ≡ e0
-unfolding K padded schedule t1 round rounds plus compress hash sha256 head-m0 e0 blame_head zeros
-name-m0 = refl
+pub name_m0 : sha256 head_m0 ≡ e0
+unfolding K padded schedule t1 round rounds plus compress hash sha256 head_m0 e0 blame_head zeros
+name_m0 = refl
 
-pub name-m2 : sha256 head-m2 ≡ e2
-unfolding K padded schedule t1 round rounds plus compress hash sha256 head-m2 e2 blame_head zeros
-name-m2 = refl
+pub name_m2 : sha256 head_m2 ≡ e2
+unfolding K padded schedule t1 round rounds plus compress hash sha256 head_m2 e2 blame_head zeros
+name_m2 = refl
 
 -- so the checks are
 pub checked1 : checked sha256 b1 ≡ true
@@ -147,10 +147,10 @@ pub checked2' : checked sha256 b2' ≡ true
 unfolding checked b2' head2' d1 d2' block_head zeros
 checked2' = same_of (sym name2')
 
-pub checked-m0 : checked sha256 m0 ≡ true
-unfolding checked m0 head-m0 e0 blame_head zeros
-checked-m0 = same_of (sym name-m0)
+pub checked_m0 : checked sha256 m0 ≡ true
+unfolding checked m0 head_m0 e0 blame_head zeros
+checked_m0 = same_of (sym name_m0)
 
-pub checked-m2 : checked sha256 m2 ≡ true
-unfolding checked m2 head-m2 e2 blame_head zeros
-checked-m2 = same_of (sym name-m2)
+pub checked_m2 : checked sha256 m2 ≡ true
+unfolding checked m2 head_m2 e2 blame_head zeros
+checked_m2 = same_of (sym name_m2)

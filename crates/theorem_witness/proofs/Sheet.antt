@@ -8,24 +8,24 @@ use Rattle.apollo.specs.Enter.{State, hearing}
 use Rattle.apollo.specs.Outcome.{state_of}
 use Rattle.apollo.specs.Calls.{blame_call}
 use Rattle.apollo.specs.BenchSheet.{Callable, Item3, chain_rounds}
-use Rattle.apollo.proofs.BenchMade.{hears-at}
-use Rattle.theorem_witness.proofs.Answers.{out, all, skipped-0}
+use Rattle.apollo.proofs.BenchMade.{hears_at}
+use Rattle.theorem_witness.proofs.Answers.{out, all, skipped_0}
 
 -- Replica 0 has skipped round 2 and holds the blocks 1 and 3; then it hears replica 1's blame for round 4.
-skipped-callable : Callable skipped-0 out
-unfolding all skipped-0
-skipped-callable = record { valid = refl; lent = refl; running = omega arith; room = omega arith }
+skipped_callable : Callable skipped_0 out
+unfolding all skipped_0
+skipped_callable = record { valid = refl; lent = refl; running = omega arith; room = omega arith }
 
-pub blamed-4 : State
-blamed-4 = state_of (blame_call skipped-0 (make_blame sha256 1 4) [] out)
+pub blamed_4 : State
+blamed_4 = state_of (blame_call skipped_0 (make_blame sha256 1 4) [] out)
 
-blamed-is : blamed-4 ≡ hearing skipped-0 4 1
-unfolding blamed-4 all skipped-0
-blamed-is = ap state_of (hears-at skipped-callable [] (omega arith) 1 4 (omega arith) (omega arith) (omega arith) refl)
+blamed_is : blamed_4 ≡ hearing skipped_0 4 1
+unfolding blamed_4 all skipped_0
+blamed_is = ap state_of (hears_at skipped_callable [] (omega arith) 1 4 (omega arith) (omega arith) (omega arith) refl)
 
-pub item-3-met : Item3 blamed-4 out
-item-3-met =
-    subst (λ s. Item3 s out) (sym blamed-is) (unfold all skipped-0 chain_rounds in record {
+pub item_3_met : Item3 blamed_4 out
+item_3_met =
+    subst (λ s. Item3 s out) (sym blamed_is) (unfold all skipped_0 chain_rounds in record {
       callable = record { valid = refl; lent = refl; running = omega arith; room = omega arith };
       f = refl;
       awaited = refl;

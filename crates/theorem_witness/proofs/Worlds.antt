@@ -15,11 +15,11 @@ use Rattle.apollo.specs.Enter.{State, state}
 use Rattle.apollo.specs.Outcome.{Outcome, taken}
 use Rattle.apollo.specs.Equivocation.{marked}
 use Rattle.apollo.specs.Calls.{open_call, equivocation_call}
-use Rattle.apollo.proofs.Tests.{cond-true}
+use Rattle.apollo.proofs.Tests.{cond_true}
 use Rattle.theorem_agreement.proofs.Tests.{clash}
 use Rattle.theorem_agreement.specs.Run.{Act, equivocation, Call, opening, act, Event, handed, emitted, answered, In, World, frames_in, hand, emit, emitted_by, note, after, opened, record_only, answer, call_at, step, run}
 use Rattle.theorem_agreement.specs.Premises.{Each, Lawful, Unforged}
-use Rattle.theorem_agreement.proofs.Frames.{Whole, frames-flatten}
+use Rattle.theorem_agreement.proofs.Frames.{Whole, frames_flatten}
 use Rattle.theorem_witness.proofs.Answers.{out, made}
 
 -- the past after frames with a right check were handed in
@@ -40,22 +40,22 @@ abbrev pub Checked : List (List ℕ) → Type 0
 Checked [] = Unit {0}
 Checked (x ∷ xs) = (checked sha256 x ≡ true) × Checked xs
 
-hand-given : (xs : List (List ℕ)) (past : List Event) → Checked xs → hand xs past ≡ given xs past
+hand_given : (xs : List (List ℕ)) (past : List Event) → Checked xs → hand xs past ≡ given xs past
 unfolding hand given
-hand-given [] past k = refl
-hand-given (x ∷ xs) past k = ap (hand xs) (cond-true _ _ k.0) ∙ hand-given xs (handed x ∷ past) k.1
+hand_given [] past k = refl
+hand_given (x ∷ xs) past k = ap (hand xs) (cond_true _ _ k.0) ∙ hand_given xs (handed x ∷ past) k.1
 
-after-made : (w : World) (i : ℕ) (c : State) (ys : List (List ℕ)) → Whole ys → after w i (made c ys) ≡ next w i [] c ys
+after_made : (w : World) (i : ℕ) (c : State) (ys : List (List ℕ)) → Whole ys → after w i (made c ys) ≡ next w i [] c ys
 unfolding after note emitted_by made taken next given
-after-made w i c ys whole =
+after_made w i c ys whole =
     ap (λ zs. record { states = λ j. cond (eqb i j) (some c) (w.states j); past = answered 0 ∷ emit i zs w.past })
-    (frames-flatten ys _ whole)
+    (frames_flatten ys _ whole)
 
-opened-so : (w : World) (i id f timeout last : ℕ) (rotation log masks entry : List ℕ) (c : State) (ys : List (List ℕ))
+opened_so : (w : World) (i id f timeout last : ℕ) (rotation log masks entry : List ℕ) (c : State) (ys : List (List ℕ))
     → open_call id f timeout last rotation log masks entry out ≡ made c ys → Whole ys
     → step w i (opening id f timeout last rotation log masks entry out) ≡ next w i [] c ys
 unfolding step call_at opened made taken
-opened-so w i id f timeout last rotation log masks entry c ys e whole = ap (opened w i) e ∙ after-made w i c ys whole
+opened_so w i id f timeout last rotation log masks entry c ys e whole = ap (opened w i) e ∙ after_made w i c ys whole
 
 -- what a taken outcome leaves is known for every world
 acted : (w : World) (i : ℕ) (a : Act) (c d : State) (o : Outcome) (xs ys : List (List ℕ)) → w.states i ≡ some c → frames_in c a ≡ xs
@@ -64,13 +64,13 @@ unfolding step call_at next given
 acted w i a c d o xs ys at hands right e left =
     ap (λ o. call_at w i o (act a)) at
     ∙ ap₂ (λ past o. after (record { states = w.states; past = past }) i o)
-    (ap (λ zs. hand zs w.past) hands ∙ hand-given xs w.past right) e
+    (ap (λ zs. hand zs w.past) hands ∙ hand_given xs w.past right) e
     ∙ left (record { states = w.states; past = given xs w.past })
 
-after-marked : (u : World) (i : ℕ) (c : State) (r : Replica)
+after_marked : (u : World) (i : ℕ) (c : State) (r : Replica)
     → after u i (record_only c (marked 0 0 r)) ≡ next u i [] (state r c.log c.masks) []
 unfolding after note emitted_by frames emit record_only next given
-after-marked u i c r = refl
+after_marked u i c r = refl
 
 -- each of some frames was emitted before, by the replica that it names
 abbrev pub Earlier : World → List (List ℕ) → Type 0
@@ -124,13 +124,13 @@ module _ (s : Setup) (correct : ℕ → Bool) where
         → Goes (next w i [] c ys) es v → Goes w ((i, opening i s.f timeout s.last_round.0 rotation log masks entry out) ∷ es) v
     opens timeout rotation log masks entry c ys new turn e whole =
         go {d = opening i s.f timeout s.last_round.0 rotation log masks entry out} (λ _. (new, refl, refl, refl, turn)) tt
-        (opened-so w i i s.f timeout s.last_round.0 rotation log masks entry c ys e whole)
+        (opened_so w i i s.f timeout s.last_round.0 rotation log masks entry c ys e whole)
 
     -- any other call
     pub acts : (a : Act) (c d : State) (xs ys : List (List ℕ)) → w.states i ≡ some c → frames_in c a ≡ xs → Checked xs → Earlier w xs
         → answer c a ≡ made d ys → Whole ys → Goes (next w i xs d ys) es v → Goes w ((i, act a) ∷ es) v
     acts a c d xs ys at hands right old e whole =
-        go {d = act a} (c, at) honest (acted w i a c d (made d ys) xs ys at hands right e (λ u. after-made u i d ys whole))
+        go {d = act a} (c, at) honest (acted w i a c d (made d ys) xs ys at hands right e (λ u. after_made u i d ys whole))
       where
         honest : Unforged s correct w i (act a)
         honest b x f p r l k =
@@ -144,7 +144,7 @@ module _ (s : Setup) (correct : ℕ → Bool) where
     marks bytes c m xs at hands right others e =
         go {d = act (equivocation bytes)} (c, at) honest
         (acted w i (equivocation bytes) c (state m c.log c.masks) (record_only c (marked 0 0 m)) xs [] at hands right
-        (unfold answer in ap (record_only c) e) (λ u. after-marked u i c m))
+        (unfold answer in ap (record_only c) e) (λ u. after_marked u i c m))
       where
         honest : Unforged s correct w i (act (equivocation bytes))
         honest b x f p r l k =

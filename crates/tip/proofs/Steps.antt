@@ -13,26 +13,26 @@ use Rattle.apollo.specs.Frame.{round, height, digest, make_block}
 use Rattle.apollo.specs.Log.{genesis, slot, store}
 use Rattle.apollo.specs.Replica.{with_round, with_tip}
 use Rattle.apollo.specs.Enter.{tipped, holding, own_block, proposing, state}
-use Rattle.frame_writing.proofs.Make.{length-block}
+use Rattle.frame_writing.proofs.Make.{length_block}
 use Rattle.tip.specs.Ready.{Ready}
 
 -- the tip and R are set one after the other
-pub tipped-steps : (r : Replica) (t h : ℕ) (a q : Replica) → a ≡ with_tip r t h → q ≡ with_round a (t + 1) → q ≡ tipped r t h
+pub tipped_steps : (r : Replica) (t h : ℕ) (a q : Replica) → a ≡ with_tip r t h → q ≡ with_round a (t + 1) → q ≡ tipped r t h
 unfolding tipped
-tipped-steps r t h a q ea eq = rw ea at eq
+tipped_steps r t h a q ea eq = rw ea at eq
 
 -- the digest of the tip: of the genesis, and of a slot
-pub genesis-digest : (log : List ℕ) (t : ℕ) → t ≡ 0 → replicate 32 0 ≡ digest (slot log t)
+pub genesis_digest : (log : List ℕ) (t : ℕ) → t ≡ 0 → replicate 32 0 ≡ digest (slot log t)
 unfolding slot genesis zeros
-genesis-digest log t e = rw e
+genesis_digest log t e = rw e
 
-pub slot-digest : (log x y : List ℕ) (t : ℕ) → x ≡ slot log t → y ≡ part x check_at 32 → y ≡ digest (slot log t)
-slot-digest log x y t ex ey = ey ∙ ap digest ex
+pub slot_digest : (log x y : List ℕ) (t : ℕ) → x ≡ slot log t → y ≡ part x check_at 32 → y ≡ digest (slot log t)
+slot_digest log x y t ex ey = ey ∙ ap digest ex
 
-pub digest-size : (log : List ℕ) (t : ℕ) → frame_size * t ≤ length log → length (digest (slot log t)) ≡ 32
+pub digest_size : (log : List ℕ) (t : ℕ) → frame_size * t ≤ length log → length (digest (slot log t)) ≡ 32
 unfolding slot genesis zeros
-digest-size log zero h = refl
-digest-size log (suc k) h = simp (length-take, length-drop) (omega arith)
+digest_size log zero h = refl
+digest_size log (suc k) h = simp (length-take, length-drop) (omega arith)
 
 -- a proposal by its steps
 pub proposal : (r : Replica) (log entry out : List ℕ) → Ready r log entry out → (out' x log' : List ℕ) (q : Replica)
@@ -45,7 +45,7 @@ proposal r log entry out g out' x log' q eo ex el eq masks =
     let p : List ℕ = digest (slot log r.tip_round.0) in
     let B : List ℕ = make_block sha256 r.id r.round.0 (r.tip_height.0 + 1) p entry in
     let n : length B ≡ frame_size =
-    length-block r.id r.round.0 (r.tip_height.0 + 1) p entry (digest-size log r.tip_round.0 (omega arith)) g.entry-most in
+    length_block r.id r.round.0 (r.tip_height.0 + 1) p entry (digest_size log r.tip_round.0 (omega arith)) g.entry_most_lem in
     let b : x ≡ B = ex ∙ ap (take frame_size) eo ∙ take_at B (drop frame_size out) frame_size n in
     (eo, rw (eq, el, b))
 

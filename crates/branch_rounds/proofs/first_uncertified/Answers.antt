@@ -1,6 +1,6 @@
 -- `branch_rounds::first_uncertified` meets its contract. By a law for each step of the walk.
 use Rattle.std.proofs.Common.{◌∙◌, sym, arith}
-use Rattle.branch_rounds.proofs.Walk.{pass, stop, leave, enter, end, told_none, told-round}
+use Rattle.branch_rounds.proofs.Walk.{pass, stop, leave, enter, end, told_none, told_round}
 use Rattle.branch_rounds.proofs.first_uncertified.Goals as goal
 
 pub loop-p-init : goal.loop-p-init
@@ -31,6 +31,6 @@ returns-then-n-i c =
 
 pub returns-then-not-certified : goal.returns-then-not-certified
 returns-then-not-certified c =
-    told-round _ _ (omega arith)
+    told_round _ _ (omega arith)
     (stop c.args.s c.args.masks.now c.loop-p.p c.round-to.result _ c.loop-p-test.true (sym c.if-not-certified.ensures)
     ∙ c.loop-p.invariant.answer)

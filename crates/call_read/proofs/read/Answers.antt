@@ -2,12 +2,12 @@
 use Rattle.std.proofs.Common.{ap, ◌∙◌}
 use Rattle.apollo.specs.declared.Part.{Part}
 use Rattle.apollo.specs.Bytes.{part}
-use Rattle.call_read.proofs.Reading.{read-bytes, part-fits}
+use Rattle.call_read.proofs.Reading.{read_bytes, part_fits}
 use Rattle.call_read.proofs.read.Goals as goal
 
 pub cut-requires : goal.cut-requires
-cut-requires c = rw c.read_part-p.ensures (part-fits _ _ _)
+cut-requires c = rw c.read_part-p.ensures (part_fits _ _ _)
 
 pub returns-clause-bytes : goal.returns-clause-bytes
 returns-clause-bytes c =
-    c.cut.ensures.bytes ∙ ap (λ (p : Part). part c.args.log.now p.start p.length) c.read_part-p.ensures ∙ read-bytes _ _ _
+    c.cut.ensures.bytes ∙ ap (λ (p : Part). part c.args.log.now p.start p.length) c.read_part-p.ensures ∙ read_bytes _ _ _

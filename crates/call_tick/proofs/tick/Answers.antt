@@ -1,59 +1,59 @@
 -- `call_tick::tick` meets its contract. By what a tick answers behind its refusals.
 use Rattle.std.proofs.Common.{arith}
-use Rattle.refusals.proofs.Number.{guard-of}
-use Rattle.call_tick.proofs.Call.{tick-refused, tick-down, tick-passed, tick-asks, tick-out, frames-few}
+use Rattle.refusals.proofs.Number.{guard_of_lem}
+use Rattle.call_tick.proofs.Call.{tick_refused, tick_down, tick_passed, tick_asks, tick_out, frames_few}
 use Rattle.call_tick.proofs.tick.Goals as goal
 
 pub returns-then-number-ne0 : goal.returns-then-number-ne0
 returns-then-number-ne0 c =
     let a = c.args in
-    tick-refused a.replica a.log.now a.masks.now a.entry.now a.out.now _
-    (guard-of _ _ _ _ _ c.valid_record-is_valid.ensures c.guard-number.ensures) _ c.if-number-ne0.true c.refused.ensures
+    tick_refused a.replica a.log.now a.masks.now a.entry.now a.out.now _
+    (guard_of_lem _ _ _ _ _ c.valid_record-is_valid.ensures c.guard-number.ensures) _ c.if-number-ne0.true c.refused.ensures
 
 pub returns-then-replica-ne1 : goal.returns-then-replica-ne1
 returns-then-replica-ne1 c =
     let a = c.args in
-    tick-down a.replica a.log.now a.masks.now a.entry.now a.out.now _
-    (guard-of _ _ _ _ _ c.valid_record-is_valid.ensures c.guard-number.ensures) c.if-number-ne0.false _ c.if-replica-ne1.true
+    tick_down a.replica a.log.now a.masks.now a.entry.now a.out.now _
+    (guard_of_lem _ _ _ _ _ c.valid_record-is_valid.ensures c.guard-number.ensures) c.if-number-ne0.false _ c.if-replica-ne1.true
     c.count_down.ensures
 
 pub put_blame-requires : goal.put_blame-requires
 put_blame-requires c =
     let a = c.args in
     let p =
-    tick-passed a.replica a.log.now a.masks.now a.entry.now a.out.now _
-    (guard-of _ _ _ _ _ c.valid_record-is_valid.ensures c.guard-number.ensures) c.if-number-ne0.false in
-    omega (arith, p.out-least)
+    tick_passed a.replica a.log.now a.masks.now a.entry.now a.out.now _
+    (guard_of_lem _ _ _ _ _ c.valid_record-is_valid.ensures c.guard-number.ensures) c.if-number-ne0.false in
+    omega (arith, p.out_least_lem)
 
 pub slice_bounds-hear-count : goal.slice_bounds-hear-count
 slice_bounds-hear-count c =
     let a = c.args in
     let p =
-    tick-passed a.replica a.log.now a.masks.now a.entry.now a.out.now _
-    (guard-of _ _ _ _ _ c.valid_record-is_valid.ensures c.guard-number.ensures) c.if-number-ne0.false in
-    omega (arith, p.out-least, c.put_blame.auto.out)
+    tick_passed a.replica a.log.now a.masks.now a.entry.now a.out.now _
+    (guard_of_lem _ _ _ _ _ c.valid_record-is_valid.ensures c.guard-number.ensures) c.if-number-ne0.false in
+    omega (arith, p.out_least_lem, c.put_blame.auto.out)
 
 pub slice_bounds-hear-start : goal.slice_bounds-hear-start
 slice_bounds-hear-start c =
     let a = c.args in
     let p =
-    tick-passed a.replica a.log.now a.masks.now a.entry.now a.out.now _
-    (guard-of _ _ _ _ _ c.valid_record-is_valid.ensures c.guard-number.ensures) c.if-number-ne0.false in
-    omega (arith, p.out-least, c.put_blame.auto.out)
+    tick_passed a.replica a.log.now a.masks.now a.entry.now a.out.now _
+    (guard_of_lem _ _ _ _ _ c.valid_record-is_valid.ensures c.guard-number.ensures) c.if-number-ne0.false in
+    omega (arith, p.out_least_lem, c.put_blame.auto.out)
 
 pub hear-a-requires : goal.hear-a-requires
 hear-a-requires c =
     let a = c.args in
-    tick-asks a.replica a.log.now a.masks.now a.entry.now a.out.now _
-    (guard-of _ _ _ _ _ c.valid_record-is_valid.ensures c.guard-number.ensures) c.if-number-ne0.false _ c.put_blame.ensures _
+    tick_asks a.replica a.log.now a.masks.now a.entry.now a.out.now _
+    (guard_of_lem _ _ _ _ _ c.valid_record-is_valid.ensures c.guard-number.ensures) c.if-number-ne0.false _ c.put_blame.ensures _
     c.with_timer-q.ensures
 
 pub overflow_add-a : goal.overflow_add-a
-overflow_add-a c = omega (arith, frames-few _ _ _ _ _ _ _ _ c.hear-a.ensures)
+overflow_add-a c = omega (arith, frames_few _ _ _ _ _ _ _ _ c.hear-a.ensures)
 
 pub returns : goal.returns
 returns c =
     let a = c.args in
-    tick-out a.replica a.log.now a.masks.now a.entry.now a.out.now _
-    (guard-of _ _ _ _ _ c.valid_record-is_valid.ensures c.guard-number.ensures) c.if-number-ne0.false _ c.put_blame.ensures _ _ _ _ _
+    tick_out a.replica a.log.now a.masks.now a.entry.now a.out.now _
+    (guard_of_lem _ _ _ _ _ c.valid_record-is_valid.ensures c.guard-number.ensures) c.if-number-ne0.false _ c.put_blame.ensures _ _ _ _ _
     c.if-replica-ne1.false c.with_timer-q.ensures c.hear-a.ensures

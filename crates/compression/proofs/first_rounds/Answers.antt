@@ -1,5 +1,5 @@
 -- `compression::first_rounds` meets its contract. By the contract of `load_round`, sixteen times. Assumes nothing.
-use Rattle.compression.proofs.Schedule.{turned-start}
+use Rattle.compression.proofs.Schedule.{turned_start}
 use Rattle.compression.proofs.first_rounds.Goals as goal
 
 pub returns : goal.returns
@@ -20,4 +20,4 @@ returns c =
     (c.load_round-v-3.ensures c.args.s
     (c.load_round-v-2.ensures c.args.s
     (c.load_round-v.ensures c.args.s
-    (turned-start _ _ _ c.requires.1)))))))))))))))))
+    (turned_start _ _ _ c.requires.1)))))))))))))))))

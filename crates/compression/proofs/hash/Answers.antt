@@ -1,7 +1,7 @@
 -- `compression::hash` meets its contract. The table K is the definition's, by computation. Assumes nothing.
 use Rattle.std.proofs.Common.{refl, arith, length-drop, length-take, rules}
 use Rattle.compression.specs.Fips.{K, hash}
-use Rattle.compression.proofs.Blocks.{hash-step, hash-end}
+use Rattle.compression.proofs.Blocks.{hash_step, hash_end}
 use Rattle.compression.proofs.hash.Goals as goal
 
 pub loop-i-init : goal.loop-i-init
@@ -14,7 +14,7 @@ compress-v-requires c = (refl, simp (length-take, length-drop) (omega arith))
 
 pub loop-i-preserved : goal.loop-i-preserved
 loop-i-preserved c =
-    (search rules, hash-step _ _ _ _ c.loop-i.i (search rules) c.compress-v.ensures)
+    (search rules, hash_step _ _ _ _ c.loop-i.i (search rules) c.compress-v.ensures)
 
 pub returns : goal.returns
-returns c = hash-end _ _ _ c.loop-i.i _ (omega arith) (omega arith) (search rules)
+returns c = hash_end _ _ _ c.loop-i.i _ (omega arith) (omega arith) (search rules)

@@ -1,7 +1,7 @@
 -- `judging::judge_each` meets its contract. By a law for each way that a frame's judging goes.
 use Rattle.std.proofs.Common.{arith}
 use Rattle.frame_checks.proofs.Ahead.{turn, held_next}
-use Rattle.judging.proofs.Each.{each-stop, each_more, each-end}
+use Rattle.judging.proofs.Each.{each_stop, each_more, each_end}
 use Rattle.judging.proofs.judge_each.Goals as goal
 
 pub fault-number-requires : goal.fault-number-requires
@@ -9,7 +9,7 @@ fault-number-requires c = turn c.args.frames.now c.loop-i.i _ (omega arith) c.re
 
 pub returns-then-number-ne0 : goal.returns-then-number-ne0
 returns-then-number-ne0 c =
-    each-stop c.args.frames.now _ c.loop-i.i _ _ c.loop-i.invariant.answer c.loop-i-test.true _ c.fault-number.ensures c.if-number-ne0.true
+    each_stop c.args.frames.now _ c.loop-i.i _ _ c.loop-i.invariant.answer c.loop-i-test.true _ c.fault-number.ensures c.if-number-ne0.true
 
 pub loop-i-preserved : goal.loop-i-preserved
 loop-i-preserved c = record {
@@ -19,4 +19,4 @@ loop-i-preserved c = record {
 }
 
 pub returns : goal.returns
-returns c = each-end c.args.frames.now _ c.loop-i.i _ _ c.loop-i.invariant.answer c.loop-i-test.false
+returns c = each_end c.args.frames.now _ c.loop-i.i _ _ c.loop-i.invariant.answer c.loop-i-test.false

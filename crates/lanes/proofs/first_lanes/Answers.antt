@@ -1,6 +1,6 @@
 -- `lanes::first_lanes` meets its contract. Lane by lane, the first sixteen rounds. Assumes nothing.
 use Rattle.std.proofs.Common.{◌∙◌, arith, rules}
-use Rattle.lanes.proofs.Lane.{upto_put, upto-end}
+use Rattle.lanes.proofs.Lane.{upto_put, upto_end}
 use Rattle.lanes.proofs.first_lanes.Invariants.{Done, Left}
 use Rattle.lanes.proofs.first_lanes.Goals as goal
 
@@ -17,4 +17,4 @@ loop-l-preserved c =
     )
 
 pub returns-clause-turns : goal.returns-clause-turns
-returns-clause-turns c b o = record { at = upto-end (omega arith) (c.loop-l.invariant.2 b o) }
+returns-clause-turns c b o = record { at = upto_end (omega arith) (c.loop-l.invariant.2 b o) }

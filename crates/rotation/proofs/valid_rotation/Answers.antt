@@ -1,5 +1,5 @@
 use Rattle.std.proofs.Common.{◌≡◌, ◌<◌, length, rules, arith}
-use Rattle.rotation.proofs.Pass.{low-cards, low_zeros, high-cards, high-zeros, passed}
+use Rattle.rotation.proofs.Pass.{low_cards, low_zeros, high_cards, high_zeros, passed}
 use Rattle.rotation.proofs.valid_rotation.Goals as goal
 use Rattle.rotation.proofs.valid_rotation.Goals.{then-i-n, else-i-n}
 
@@ -15,14 +15,14 @@ loop-i-preserved c =
       | then-i-n w ↦
           record {
             in_range = omega arith;
-            cards = rw (w.m-is, w.with_replica-m.ensures) (low-cards n seats size l.m l.is_blank l.i below v.cards v.zeros w.if-i-n.true);
+            cards = rw (w.m-is, w.with_replica-m.ensures) (low_cards n seats size l.m l.is_blank l.i below v.cards v.zeros w.if-i-n.true);
             zeros = rw w.is_blank-is (low_zeros n seats size l.m l.is_blank l.i below v.cards v.zeros w.if-i-n.true);
           }
       | else-i-n w ↦
           record {
             in_range = omega arith;
-            cards = rw w.m-is (high-cards n seats size l.m l.is_blank l.i below v.cards v.zeros w.if-i-n.false);
-            zeros = rw w.is_blank-is (high-zeros n seats size l.m l.is_blank l.i below v.cards v.zeros w.if-i-n.false);
+            cards = rw w.m-is (high_cards n seats size l.m l.is_blank l.i below v.cards v.zeros w.if-i-n.false);
+            zeros = rw w.is_blank-is (high_zeros n seats size l.m l.is_blank l.i below v.cards v.zeros w.if-i-n.false);
           }
     ]
 

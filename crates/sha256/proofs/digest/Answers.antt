@@ -1,19 +1,19 @@
 -- `sha256::digest` meets its contract. The whole blocks of the message, then one padded block after the other. Assumes nothing.
 use Rattle.std.proofs.Common.{arith, rules}
-use Rattle.sha256.proofs.Padding.{length-padded}
-use Rattle.sha256.proofs.Hash.{digest-whole, digest-step, digest-end}
+use Rattle.sha256.proofs.Padding.{length_padded}
+use Rattle.sha256.proofs.Hash.{digest_whole, digest_step, digest_end}
 use Rattle.sha256.proofs.digest.Goals as goal
 
 pub loop-i-init : goal.loop-i-init
-loop-i-init c = (omega arith, digest-whole c.args.s.now _ _ c.initial.ensures c.hash-h.ensures)
+loop-i-init c = (omega arith, digest_whole c.args.s.now _ _ c.initial.ensures c.hash-h.ensures)
 
 pub padded_block-b-requires : goal.padded_block-b-requires
-padded_block-b-requires c = omega (arith, length-padded c.args.s.now)
+padded_block-b-requires c = omega (arith, length_padded c.args.s.now)
 
 pub loop-i-preserved : goal.loop-i-preserved
 loop-i-preserved c =
-    (search rules, digest-step _ _ _ _ c.loop-i.i (search rules) (search rules) c.padded_block-b.ensures c.hash-h-in-loop-i.ensures)
+    (search rules, digest_step _ _ _ _ c.loop-i.i (search rules) (search rules) c.padded_block-b.ensures c.hash-h-in-loop-i.ensures)
 
 pub returns : goal.returns
 returns c =
-    digest-end _ _ _ c.loop-i.i c.blocks-total.result (search rules) (omega arith) (omega arith) (search rules) c.bytes_of.ensures
+    digest_end _ _ _ c.loop-i.i c.blocks-total.result (search rules) (omega arith) (omega arith) (search rules) c.bytes_of.ensures

@@ -1,6 +1,6 @@
 -- `slots::highest` meets its contract. By the slot read, the highest if it is filled.
 use Rattle.std.proofs.Common.{◌+◌, refl, ◌∙◌, arith}
-use Rattle.slots.proofs.Search.{highest-here, highest-below, highest-none, read_found, read_none}
+use Rattle.slots.proofs.Search.{highest_here, highest_below, highest_none, read_found, read_none}
 use Rattle.slots.proofs.highest.Goals as goal
 
 pub loop-round-init : goal.loop-round-init
@@ -8,7 +8,7 @@ loop-round-init c = record { read = omega arith; none_above = refl }
 
 pub returns-then-is_filled : goal.returns-then-is_filled
 returns-then-is_filled c =
-    let found = highest-here _ _ c.loop-round-test.true c.if-is_filled.ensures ∙ c.loop-round.invariant.none_above in
+    let found = highest_here _ _ c.loop-round-test.true c.if-is_filled.ensures ∙ c.loop-round.invariant.none_above in
     (found, read_found _ _ _ (c.loop-round.slots_read + 1) c.loop-round-test.true (omega arith) found)
 
 pub loop-round-preserved : goal.loop-round-preserved
@@ -16,10 +16,10 @@ loop-round-preserved c =
     record {
       read = omega arith;
       none_above =
-          highest-below _ _ c.loop-round-test.true c.if-is_filled.ensures ∙ c.loop-round.invariant.none_above;
+          highest_below _ _ c.loop-round-test.true c.if-is_filled.ensures ∙ c.loop-round.invariant.none_above;
     }
 
 pub returns : goal.returns
 returns c =
-    let none = highest-none _ _ c.loop-round-test.false ∙ c.loop-round.invariant.none_above in
+    let none = highest_none _ _ c.loop-round-test.false ∙ c.loop-round.invariant.none_above in
     (none, read_none _ _ _ _ c.loop-round-test.false c.loop-round.invariant.read none)

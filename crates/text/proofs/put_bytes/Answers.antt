@@ -2,20 +2,20 @@
 use Rattle.std.proofs.Common.{◌≡◌, min, length, sym, ap, ◌∙◌, add-one, arith, rules}
 use Rattle.std.proofs.Math.Seq.{paste-suc}
 use Rattle.text.specs.Row.{written}
-use Rattle.text.proofs.Lines.{put-fits, put-not}
+use Rattle.text.proofs.Lines.{put_fits, put_not}
 use Rattle.text.proofs.put_bytes.Goals as goal
 
 pub returns-then-line-at-clause-result_after : goal.returns-then-line-at-clause-result_after
 returns-then-line-at-clause-result_after c =
     let a = c.args in
     let e : min a.at (length a.line.now) ≡ length a.line.now = omega arith in
-    ap (written a.line.now) (sym e) ∙ put-not a.line.now a.s.now a.at (omega arith)
+    ap (written a.line.now) (sym e) ∙ put_not a.line.now a.s.now a.at (omega arith)
 
 pub returns-then-line-at-2-clause-result_after : goal.returns-then-line-at-2-clause-result_after
 returns-then-line-at-2-clause-result_after c =
     let a = c.args in
     let e : min a.at (length a.line.now) ≡ a.at = omega arith in
-    ap (written a.line.now) (sym e) ∙ put-not a.line.now a.s.now a.at (omega arith)
+    ap (written a.line.now) (sym e) ∙ put_not a.line.now a.s.now a.at (omega arith)
 
 pub loop-i-preserved : goal.loop-i-preserved
 loop-i-preserved c =
@@ -29,4 +29,4 @@ pub returns-clause-result_after : goal.returns-clause-result_after
 returns-clause-result_after c =
     let a = c.args in
     let e : c.loop-i.i ≡ length a.s.now = omega arith in
-    rw (c.loop-i.invariant.2, e) (put-fits a.line.now a.s.now a.at (omega arith))
+    rw (c.loop-i.invariant.2, e) (put_fits a.line.now a.s.now a.at (omega arith))

@@ -2,7 +2,7 @@
 use Rattle.std.proofs.Common.{ap, ap₂, ◌∙◌, [], ◌∷◌, take, arith}
 use Rattle.std.proofs.Math.Nat.{sub-zero}
 use Rattle.text.specs.Row.{written, put, put_number}
-use Rattle.text.proofs.Decimal.{decimal-same}
+use Rattle.text.proofs.Decimal.{decimal_same}
 use Rattle.text.proofs.put_number.Goals as goal
 
 pub returns : goal.returns
@@ -12,4 +12,4 @@ returns c =
     c.put_bytes.ensures.result_after
     ∙ ap₂ put
     (c.put_bytes-e.ensures.result_after ∙ ap (λ j. put (written a.line.now a.at) (take j (32 ∷ []))) (sub-zero c.least-g.result ∙ c.least-g.ensures))
-    (c.as_bytes-digits.ensures.value ∙ c.format.ensures.text ∙ decimal-same a.n (omega arith))
+    (c.as_bytes-digits.ensures.value ∙ c.format.ensures.text ∙ decimal_same a.n (omega arith))
