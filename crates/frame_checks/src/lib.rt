@@ -19,7 +19,7 @@ fn has_check(x: &[u8], d: [u8; 32]) -> bool
 
 // The check of x is right.
 #[tactic(auto, unfolding(apollo::specs::Frame::checked))]
-fn checked(x: &[u8]) -> bool
+pub fn checked(x: &[u8]) -> bool
     ensures { result ≡ Frame.checked sha256 x.now }
 {
     has_check(x, sha256::digest(slices::part(x, 0, CHECK)))

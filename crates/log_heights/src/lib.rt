@@ -55,8 +55,8 @@ fn is_tall(x: &[u8], h: u32) -> bool
 // Slot x is copied after the first k frames of out if its height is above h; how many frames out has then.
 fn fetch_slot(x: &[u8], h: u32, out: &mut [u8], k: u32) -> u32
     requires { (length x.now ≡ frame_size) × (k < 4294967295) × (frame_size * (k + 1) ≤ length out.old) }
-    ensures value { (result ≡ cond (is_tall x.now h) (k + 1) k) × (result ≤ k + 1) }
-    ensures out_after { out.new
+    ensures count { (result ≡ cond (is_tall x.now h) (k + 1) k) × (result ≤ k + 1) }
+    ensures frames { out.new
         ≡ cond (is_tall x.now h) (Log.store out.old (k + 1) x.now) out.old }
 {
     if !is_tall(x, h) {
@@ -87,8 +87,8 @@ fn last_low(log: &[u8], h: u32, last_round: u32) -> u32
 // bytes, and not by `slots::slot`, so that the compiler knows how long the copy is.
 pub fn fetch_frames(log: &[u8], h: u32, last_round: u32, out: &mut [u8]) -> usize
     requires { frame_size * last_round ≤ length log.now }
-    ensures value { result ≡ min (length (above h (Log.chain log.now last_round))) (length out.old / frame_size) }
-    ensures out_after { out.new ≡ flatten (take result (above h (Log.chain log.now last_round))) ++ drop (frame_size * result) out.old }
+    ensures count { result ≡ min (length (above h (Log.chain log.now last_round))) (length out.old / frame_size) }
+    ensures frames { out.new ≡ flatten (take result (above h (Log.chain log.now last_round))) ++ drop (frame_size * result) out.old }
 {
     let room = out.len() / FRAME;
     let mut k = 0;

@@ -27,8 +27,8 @@ fn least(a: usize, b: usize) -> usize
 
 // Puts s into line at a place, if it fits, and answers the place after it, never one past the end.
 fn put_bytes(line: &mut [u8], at: usize, s: &[u8]) -> usize
-    ensures result_after { written line.new result ≡ put (written line.old at) s.now }
-    ensures upper_bound { result ≤ length line.new }
+    ensures written { written line.new result ≡ put (written line.old at) s.now }
+    ensures within { result ≤ length line.new }
 {
     if line.len() < at {
         return line.len();
@@ -59,8 +59,8 @@ fn put_number(line: &mut [u8], at: usize, i: usize, n: u64) -> usize
 // Puts the numbers in decimal, a space between any two, and then s. Answers the place after them. A piece that does not
 // fit is left out.
 pub fn put_row(line: &mut [u8], at: usize, ns: &[u64], s: &[u8]) -> usize
-    ensures result_after { written line.new result ≡ put_row (written line.old at) ns.now s.now }
-    ensures upper_bound { result ≤ length line.new }
+    ensures written { written line.new result ≡ put_row (written line.old at) ns.now s.now }
+    ensures within { result ≤ length line.new }
 {
     let mut e = at;
     let mut i = 0;

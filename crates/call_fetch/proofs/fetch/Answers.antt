@@ -16,11 +16,11 @@ returns-then-out-lt-OUT c =
 pub returns-then-count-eq0 : goal.returns-then-count-eq0
 returns-then-count-eq0 c =
     fetch_absent _ _ _ _ _ (replica_test _ _ c.valid_record.ensures c.valid_log.ensures) c.if-not-valid_record-valid_log.false
-    c.if-out-lt-OUT.false c.fetch_frames-count.result _ c.fetch_frames-count.ensures.value c.fetch_frames-count.ensures.out_after _
+    c.if-out-lt-OUT.false c.fetch_frames-count.result _ c.fetch_frames-count.ensures.count c.fetch_frames-count.ensures.frames _
     c.no_frames-then-count-eq0.ensures c.if-count-eq0.true
 
 pub returns : goal.returns
 returns c =
     fetch_copied _ _ _ _ _ (replica_test _ _ c.valid_record.ensures c.valid_log.ensures) c.if-not-valid_record-valid_log.false
-    c.if-out-lt-OUT.false c.fetch_frames-count.result _ c.fetch_frames-count.ensures.value c.fetch_frames-count.ensures.out_after
+    c.if-out-lt-OUT.false c.fetch_frames-count.result _ c.fetch_frames-count.ensures.count c.fetch_frames-count.ensures.frames
     c.if-count-eq0.false

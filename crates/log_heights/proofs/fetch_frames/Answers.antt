@@ -12,7 +12,7 @@ pub returns-then-room-k : goal.returns-then-room-k
 returns-then-room-k c =
     let e =
     copied_full _ _ _ _ _ _ c.loop-r.invariant.copied c.args.last_round (omega arith) c.if-room-k.true in
-    record { value = e.0; out_after = e.1 }
+    record { count = e.0; frames = e.1 }
 
 pub loop-r-preserved : goal.loop-r-preserved
 loop-r-preserved c =
@@ -21,5 +21,5 @@ loop-r-preserved c =
       not_more = omega arith;
       copied =
           copied_more _ _ _ c.loop-r.r _ _ c.loop-r.invariant.copied _ _ (omega arith) (omega arith)
-          c.fetch_slot-k.ensures.value.0 c.fetch_slot-k.ensures.out_after;
+          c.fetch_slot-k.ensures.count.0 c.fetch_slot-k.ensures.frames;
     }

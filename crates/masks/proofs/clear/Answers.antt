@@ -1,3 +1,4 @@
+-- `masks::clear` meets its contract. By the end of what the loop cleared.
 use Rattle.std.proofs.Common.{◌∙◌, arith}
 use Rattle.slices.proofs.Copies.{clear_end}
 use Rattle.masks.proofs.clear.Goals as goal

@@ -1,3 +1,4 @@
+-- `rotation::padded` meets its contract. By one seat more, and the end.
 use Rattle.std.proofs.Common.{refl, arith}
 use Rattle.apollo.specs.Bytes.{zeros}
 use Rattle.rotation.proofs.Fill.{fill_one, fill_end}

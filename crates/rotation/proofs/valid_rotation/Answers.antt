@@ -1,3 +1,4 @@
+-- `rotation::valid_rotation` meets its contract. By one seat more, low or high, and the end.
 use Rattle.std.proofs.Common.{◌≡◌, ◌<◌, length, rules, arith}
 use Rattle.rotation.proofs.Pass.{low_cards, low_zeros, high_cards, high_zeros, passed}
 use Rattle.rotation.proofs.valid_rotation.Goals as goal

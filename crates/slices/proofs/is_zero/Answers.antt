@@ -1,3 +1,4 @@
+-- `slices::is_zero` meets its contract. By one byte more, and the end.
 use Rattle.std.proofs.Common.{◌∙◌, sym, arith}
 use Rattle.slices.proofs.Same.{zero_next, zero_end}
 use Rattle.slices.proofs.is_zero.Goals as goal

@@ -1,3 +1,4 @@
+-- `slices::same_bytes` meets its contract. By one byte more, and the end; slices of two lengths differ.
 use Rattle.std.proofs.Common.{◌∙◌, sym, arith}
 use Rattle.slices.proofs.Same.{same_next, same_end, same_length}
 use Rattle.slices.proofs.same_bytes.Goals as goal

@@ -5,14 +5,14 @@ use Rattle.text.specs.Row.{written}
 use Rattle.text.proofs.Lines.{put_fits, put_not}
 use Rattle.text.proofs.put_bytes.Goals as goal
 
-pub returns-then-line-at-clause-result_after : goal.returns-then-line-at-clause-result_after
-returns-then-line-at-clause-result_after c =
+pub returns-then-line-at-clause-written : goal.returns-then-line-at-clause-written
+returns-then-line-at-clause-written c =
     let a = c.args in
     let e : min a.at (length a.line.now) ≡ length a.line.now = omega arith in
     ap (written a.line.now) (sym e) ∙ put_not a.line.now a.s.now a.at (omega arith)
 
-pub returns-then-line-at-2-clause-result_after : goal.returns-then-line-at-2-clause-result_after
-returns-then-line-at-2-clause-result_after c =
+pub returns-then-line-at-2-clause-written : goal.returns-then-line-at-2-clause-written
+returns-then-line-at-2-clause-written c =
     let a = c.args in
     let e : min a.at (length a.line.now) ≡ a.at = omega arith in
     ap (written a.line.now) (sym e) ∙ put_not a.line.now a.s.now a.at (omega arith)
@@ -25,8 +25,8 @@ loop-i-preserved c =
       rw (c.loop-i.invariant.2, add-one) (paste-suc a.line.now a.at a.s.now c.loop-i.i 0 (omega arith) (omega arith)),
     )
 
-pub returns-clause-result_after : goal.returns-clause-result_after
-returns-clause-result_after c =
+pub returns-clause-written : goal.returns-clause-written
+returns-clause-written c =
     let a = c.args in
     let e : c.loop-i.i ≡ length a.s.now = omega arith in
     rw (c.loop-i.invariant.2, e) (put_fits a.line.now a.s.now a.at (omega arith))

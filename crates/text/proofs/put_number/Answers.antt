@@ -9,7 +9,7 @@ pub returns : goal.returns
 unfolding put_number
 returns c =
     let a = c.args in
-    c.put_bytes.ensures.result_after
+    c.put_bytes.ensures.written
     ∙ ap₂ put
-    (c.put_bytes-e.ensures.result_after ∙ ap (λ j. put (written a.line.now a.at) (take j (32 ∷ []))) (sub-zero c.least-g.result ∙ c.least-g.ensures))
+    (c.put_bytes-e.ensures.written ∙ ap (λ j. put (written a.line.now a.at) (take j (32 ∷ []))) (sub-zero c.least-g.result ∙ c.least-g.ensures))
     (c.as_bytes-digits.ensures.value ∙ c.format.ensures.text ∙ decimal_same a.n (omega arith))

@@ -15,10 +15,10 @@ loop-i-preserved c =
           ∙ ap (λ w. put_from w (l.i + 1) (drop (l.i + 1) ns)) (sym c.put_number-e.ensures),
     )
 
-pub returns-clause-result_after : goal.returns-clause-result_after
+pub returns-clause-written : goal.returns-clause-written
 unfolding put_row
-returns-clause-result_after c =
+returns-clause-written c =
     let l = c.loop-i in
     let ns = c.args.ns.now in
-    c.put_bytes.ensures.result_after
+    c.put_bytes.ensures.written
     ∙ ap (λ w. put w c.args.s.now) (sym (l.invariant.2 ∙ from_end (written l.line l.e) l.i ns (omega arith)))
