@@ -17,14 +17,6 @@ fn has_check(x: &[u8], d: [u8; 32]) -> bool
     slices::same_bytes(slices::part(x, CHECK, 32), &d)
 }
 
-// The check of x is right.
-#[tactic(auto, unfolding(apollo::specs::Frame::checked))]
-pub fn checked(x: &[u8]) -> bool
-    ensures { result ≡ Frame.checked sha256 x.now }
-{
-    has_check(x, sha256::digest(slices::part(x, 0, CHECK)))
-}
-
 // Frame i is there, and its check is right.
 fn checked_at(frames: &[u8], i: usize) -> bool
     requires { frame_size * i ≤ length frames.now }
@@ -35,7 +27,7 @@ fn checked_at(frames: &[u8], i: usize) -> bool
         return false;
     }
     let e = a + FRAME;
-    checked(&frames[a..e])
+    frame_forms::checked(&frames[a..e])
 }
 
 // Whether the checks of four frames are right.

@@ -1,4 +1,4 @@
-// One frame judged in place: its form, a block's or a blame's, and 7 and 8 by its check and this. Every function takes slices of any length.
+// One frame judged in place: its check, its form, a block's or a blame's, and 7 and 8 by these. Every function takes slices of any length.
 #![tactic(auto)]
 
 ghost use Rattle.std.specs.Prelude.{◌≡◌};
@@ -25,6 +25,15 @@ fn within(lo: u32, n: u32, hi: u32) -> bool
         return false;
     }
     n <= hi
+}
+
+// The check of x is right.
+#[tactic(auto, unfolding(apollo::specs::Frame::checked))]
+pub fn checked(x: &[u8]) -> bool
+    ensures { result ≡ Frame.checked sha256 x.now }
+{
+    let d = sha256::digest(slices::part(x, 0, CHECK));
+    slices::same_bytes(slices::part(x, CHECK, 32), &d)
 }
 
 // x has the form of a block.
@@ -84,7 +93,7 @@ fn has_form(form: Form, s: Setup, x: &[u8]) -> bool
 
 // 7 and 8 of a frame that is to have that form, 0 if it is refused by neither. `checked`: its check is right.
 #[tactic(auto, unfolding(apollo::specs::Judging::fault))]
-pub fn fault(form: Form, s: Setup, x: &[u8], checked: bool) -> u8
+pub fn fault_known(form: Form, s: Setup, x: &[u8], checked: bool) -> u8
     requires { checked ≡ Frame.checked sha256 x.now }
     ensures { result ≡ fault sha256 (form_of form s) x.now }
 {
@@ -95,4 +104,11 @@ pub fn fault(form: Form, s: Setup, x: &[u8], checked: bool) -> u8
         return apollo::refusal::BAD_FORM;
     }
     0
+}
+
+// The same of a frame whose check is not known.
+pub fn fault(form: Form, s: Setup, x: &[u8]) -> u8
+    ensures { result ≡ fault sha256 (form_of form s) x.now }
+{
+    fault_known(form, s, x, checked(x))
 }

@@ -37,7 +37,7 @@ pub fn judge_each(form: Form, s: Setup, frames: &[u8]) -> Verdict
         known = frame_checks::renew(known, frames, i);
         let a = FRAME * i;
         let e = a + FRAME;
-        let number = frame_forms::fault(form, s, &frames[a..e], known[i % 4]);
+        let number = frame_forms::fault_known(form, s, &frames[a..e], known[i % 4]);
         if number != 0 {
             return Verdict {
                 number,
@@ -69,7 +69,7 @@ fn judge_next(s: Setup, p: &[u8], x: &[u8], checked: bool) -> u8
     requires { checked ≡ Frame.checked sha256 x.now }
     ensures { result ≡ judged_next sha256 s (some p.now) x.now }
 {
-    let fault = frame_forms::fault(Form::Block, s, x, checked);
+    let fault = frame_forms::fault_known(Form::Block, s, x, checked);
     if fault != 0 {
         return fault;
     }
@@ -87,7 +87,7 @@ fn judge_first(s: Setup, start: Start, x: &[u8], checked: bool) -> u8
     ensures { result ≡ judged_next sha256 s (start_of start) x.now }
 {
     match start {
-        Start::AnyParent => frame_forms::fault(Form::Block, s, x, checked),
+        Start::AnyParent => frame_forms::fault_known(Form::Block, s, x, checked),
         Start::Genesis => {
             let genesis = [0u8; FRAME];
             judge_next(s, &genesis, x, checked)
