@@ -225,7 +225,7 @@ module _ (log : List ℕ) (n : ℕ) (holds : Holds log n) (most : n ≤ 6) where
               tip_height = omega arith;
               committed_most = omega arith;
               committed_height_most = omega arith;
-              committed_height_lem = omega arith;
+              height_of_committed = omega arith;
               marks = omega arith;
               waits = led;
             });

@@ -161,7 +161,7 @@ module _ (f timeout : ℕ) (log masks entry out : List ℕ) (o : Openable 0 f ti
         tip_height = omega arith;
         committed_most = omega arith;
         committed_height_most = omega arith;
-        committed_height_lem = omega arith;
+        height_of_committed = omega arith;
         marks = pow_pos (2 * f + 1);
         waits = refl;
       })

@@ -105,7 +105,7 @@ lower {s} c out' room n l =
             tip_height = f.tip_height;
             committed_most = f.committed_most;
             committed_height_most = f.committed_height_most;
-            committed_height_lem = f.committed_height_lem;
+            height_of_committed = f.height_of_committed;
             marks = f.marks;
             waits = f.waits;
           });

@@ -45,7 +45,7 @@ pub record Valid (r : Replica) (log : List ℕ) : Type 0 where
   pub tip_height : r.tip_height.0 ≤ r.tip_round.0
   pub committed_most : r.committed_round.0 ≤ r.tip_round.0
   pub committed_height_most : r.committed_height.0 ≤ r.tip_height.0
-  pub committed_height_lem : r.committed_height.0 ≤ r.committed_round.0
+  pub height_of_committed : r.committed_height.0 ≤ r.committed_round.0
   pub marks : r.equivocators < 2 ^ replicas (setup_of r)
   pub waits : leads r ≡ false
 
@@ -154,7 +154,7 @@ valid r log e =
       tip_height = leb-true r.tip_height.0 r.tip_round.0 g.1;
       committed_most = leb-true r.committed_round.0 r.tip_round.0 d.1;
       committed_height_most = leb-true r.committed_height.0 r.tip_height.0 c.1;
-      committed_height_lem = leb-true r.committed_height.0 r.committed_round.0 b.1;
+      height_of_committed = leb-true r.committed_height.0 r.committed_round.0 b.1;
       marks = ltb-true r.equivocators (2 ^ replicas (setup_of r)) p.marks;
       waits = p.waits;
     }
@@ -174,7 +174,7 @@ rounds_of r log s =
     (le-leb r.tip_height.0 r.tip_round.0 s.tip_height))
     (le-leb r.committed_round.0 r.tip_round.0 s.committed_most))
     (le-leb r.committed_height.0 r.tip_height.0 s.committed_height_most))
-    (le-leb r.committed_height.0 r.committed_round.0 s.committed_height_lem)
+    (le-leb r.committed_height.0 r.committed_round.0 s.height_of_committed)
 
 pub valid_of : (r : Replica) (log : List ℕ) → Valid r log → valid_replica r log ≡ true
 unfolding valid_replica valid_record valid_setup

@@ -4,6 +4,7 @@
 
 ghost use Rattle.std.specs.Prelude.{◌≡◌, ◌-◌};
 
+pub mod claims;
 pub mod refusal;
 pub mod size;
 

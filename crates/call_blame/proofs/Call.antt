@@ -39,7 +39,7 @@ module _ (most : ℕ) (r : Replica) (log masks entry out x : List ℕ) (v : Verd
     pub set_asks : Ready r log entry out × (r.round.0 ≤ r.last_round.0)
     set_asks =
         let p = set_is_passed.0 in
-        (passed_ready r log entry out p r.timer.0 out (omega (arith, p.out_least_lem)), p.round_last)
+        (passed_ready r log entry out p r.timer.0 out (omega (arith, p.out_room)), p.round_last)
 
     pub set_taken : (masks' f : List ℕ) (q : ℕ) (o : Outcome) → masks' ≡ add_blames masks (frames_of x) → f ≡ first_frame x → q ≡ round f
         → o ≡ taken (settle sha256 entry (state r log masks') q) out → o ≡ handing sha256 most (state r log masks) x entry out

@@ -60,8 +60,8 @@ module _ (r : Replica) (log masks entry out : List ℕ) where
               round_most = omega (arith, w.2.round_high);
               tip_below = omega arith;
               tip_height = w.2.height_high;
-              out_least_lem = omega (arith, w.0.out_least_lem);
-              entry_most_lem = w.0.entry_most_lem;
+              out_room = omega (arith, w.0.out_room);
+              entry_room = w.0.entry_room;
             })
 
         pub branch_taken : (o : Outcome) → o ≡ taken (enter_round sha256 entry (state q log' masks)) out

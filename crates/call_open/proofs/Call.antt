@@ -58,8 +58,8 @@ module _ (id f timeout last : ℕ) (rotation log masks entry out : List ℕ) (r 
           round_most = omega arith;
           tip_below = omega arith;
           tip_height = omega arith;
-          out_least_lem = omega arith;
-          entry_most_lem = g.entry_most_lem;
+          out_room = omega arith;
+          entry_room = g.entry_room;
         }
 
     pub open_taken : (masks' : List ℕ) (o : Outcome) → masks' ≡ zeros (length masks)

@@ -104,7 +104,7 @@ module _ (r : Replica) (log masks entry out : List ℕ) where
         tick_asks q eq =
             let p = tick_passed in
             rw (after_blame, eq)
-            (passed_ready r log entry out p 0 (drop frame_size out) (rw length-drop (omega (arith, p.out_least_lem))), p.round_last, omega (arith, p.valid.setup.id_below, p.valid.setup.f_most))
+            (passed_ready r log entry out p 0 (drop frame_size out) (rw length-drop (omega (arith, p.out_room))), p.round_last, omega (arith, p.valid.setup.id_below, p.valid.setup.f_most))
 
         pub tick_out : (y log' masks' : List ℕ) (q : Replica) (a : Answer) → r.timer.0 ≡ 1 → q ≡ with_timer r 0
             → outcome a log' masks' y

@@ -36,6 +36,6 @@ module _ (r : Replica) (log entry out : List ℕ) where
         round_most = v.round_most;
         tip_below = v.tip_below;
         tip_height = v.tip_height;
-        out_least_lem = h;
-        entry_most_lem = p.entry_most_lem;
+        out_room = h;
+        entry_room = p.entry_room;
       }

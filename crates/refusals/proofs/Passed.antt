@@ -59,15 +59,15 @@ room entry out e =
 pub record Opened (r : Replica) (log masks : List ℕ) (entry out : ℕ) : Type 0 where
   pub valid : ValidOpening r log
   pub masks_size : length masks ≡ r.last_round.0
-  pub out_least_lem : 1024 ≤ out
-  pub entry_most_lem : entry ≤ 400
+  pub out_room : 1024 ≤ out
+  pub entry_room : entry ≤ 400
 
 -- another call
 pub record Passed (r : Replica) (log : List ℕ) (entry out : ℕ) : Type 0 where
   pub valid : Valid r log
   pub round_last : r.round.0 ≤ r.last_round.0
-  pub out_least_lem : 1024 ≤ out
-  pub entry_most_lem : entry ≤ 400
+  pub out_room : 1024 ≤ out
+  pub entry_room : entry ≤ 400
 
 module _ (r : Replica) (log masks : List ℕ) (entry out : ℕ) where
   pub opened : (size : ℕ) → open_number r size log masks entry out ≡ 0 → Opened r log masks entry out
@@ -83,8 +83,8 @@ module _ (r : Replica) (log masks : List ℕ) (entry out : ℕ) where
       record {
         valid = valid_opening r log (lent_limits (setup_of r) size t.0) w.0 w.1;
         masks_size = eqb-true (length masks) r.last_round.0 v.1;
-        out_least_lem = q.0;
-        entry_most_lem = q.1;
+        out_room = q.0;
+        entry_room = q.1;
       }
 
   pub passed : guard_of r log masks entry out ≡ 0 → Passed r log entry out
@@ -98,7 +98,7 @@ module _ (r : Replica) (log masks : List ℕ) (entry out : ℕ) where
       in
       let h : r.round.0 ≡ r.last_round.0 + 1 → ⊥ = eqb-false r.round.0 (r.last_round.0 + 1) k.0 in
       let q = room entry out k.1 in
-      record { valid = v; round_last = omega arith; out_least_lem = q.0; entry_most_lem = q.1 }
+      record { valid = v; round_last = omega arith; out_room = q.0; entry_room = q.1 }
 
   -- the signers of a set have bits in a mask of 16
   pub set_passed : (most : ℕ) (x : List ℕ) → (guarded_set most r log masks x entry out).number ≡ 0 → Passed r log entry out × HaveBits (frames_of x)

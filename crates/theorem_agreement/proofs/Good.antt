@@ -32,7 +32,7 @@ Blamed past k q = (x : List ℕ) × Seen x past × (kind x ≡ 2) × (signer x �
 -- committed is what the log and R make it
 pub record Renewed (r : Replica) (log : List ℕ) : Type 0 where
   pub committed_is : r.committed_round.0 ≡ highest log (commit_limit r)
-  pub committed_height_lem : r.committed_height.0 ≡ height (slot log r.committed_round.0)
+  pub height_of_committed : r.committed_height.0 ≡ height (slot log r.committed_round.0)
 
 -- round q is not certified, by the state's own set-up
 abbrev pub Open : State → ℕ → Type 0
@@ -90,7 +90,7 @@ unfolding waiting leads commit_limit
 rest_rested c timer r =
     record {
       idle = r.idle;
-      renewed = record { committed_is = r.renewed.committed_is; committed_height_lem = r.renewed.committed_height_lem };
+      renewed = record { committed_is = r.renewed.committed_is; height_of_committed = r.renewed.height_of_committed };
       ahead = r.ahead;
     }
 
@@ -102,7 +102,7 @@ wait_ahead c R timer h = h
 -- a replica that does not lead the R that it enters
 pub enter_rested : (c : State) → leads c.replica ≡ false → Ahead c → Rested (entered c)
 unfolding entered commit leads commit_limit
-enter_rested c e a = record { idle = e; renewed = record { committed_is = refl; committed_height_lem = refl }; ahead = a }
+enter_rested c e a = record { idle = e; renewed = record { committed_is = refl; height_of_committed = refl }; ahead = a }
 
 pub committed_low : {r : Replica} {log : List ℕ} → Renewed r log → r.committed_round.0 ≤ commit_limit r
 committed_low {r} {log} h = omega (arith, h.committed_is, highest_le log (commit_limit r))
@@ -181,7 +181,7 @@ unfolding leads commit_limit
 mark_rested c k r =
     record {
       idle = r.idle;
-      renewed = record { committed_is = r.renewed.committed_is; committed_height_lem = r.renewed.committed_height_lem };
+      renewed = record { committed_is = r.renewed.committed_is; height_of_committed = r.renewed.height_of_committed };
       ahead = r.ahead;
     }
 

@@ -103,7 +103,7 @@ module _ (s : Setup) (past : List Event) (i : ℕ) where
 
     first_renewed : Renewed first.replica log
     unfolding fresh commit_limit
-    first_renewed = record { committed_is = omega (arith, highest_le log (0 - f)); committed_height_lem = sym height_zero }
+    first_renewed = record { committed_is = omega (arith, highest_le log (0 - f)); height_of_committed = sym height_zero }
 
     first_ahead : Ahead first
     unfolding fresh certified

@@ -30,14 +30,14 @@ module _ (s : Setup) (past : List Event) (i : ℕ) (c : State) (g : Good s past 
       omega (
         arith,
         g.stored.level_is,
-        r.committed_height_lem,
+        r.height_of_committed,
         rises s.last_round.0 _ _ (slot c.log) _ g.stored.chain _ _ (committed_tip s past i c g r) (committed_held r)
             g.stored.chain.top,
       )
 
   height_round : c.replica.committed_height.0 ≤ c.replica.committed_round.0
   height_round =
-      omega (arith, r.committed_height_lem, held_level s.last_round.0 _ _ (slot c.log) _ g.stored.chain _ (committed_held r))
+      omega (arith, r.height_of_committed, held_level s.last_round.0 _ _ (slot c.log) _ g.stored.chain _ (committed_held r))
 
   valid_opening : ValidOpening c.replica c.log
   valid_opening =
@@ -64,7 +64,7 @@ module _ (s : Setup) (past : List Event) (i : ℕ) (c : State) (g : Good s past 
         tip_height = tip_height;
         committed_most = committed_tip s past i c g r;
         committed_height_most = height_tip;
-        committed_height_lem = height_round;
+        height_of_committed = height_round;
         marks = subst (λ k. c.replica.equivocators < 2 ^ (2 * k + 1)) (sym g.fixed.f_is) g.marks_low;
         waits = rests.idle;
       }

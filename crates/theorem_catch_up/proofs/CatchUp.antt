@@ -294,7 +294,7 @@ module _ (s : Setup) (correct : ℕ → Bool) (calls : List (ℕ × Call)) (p : 
     pub from₀ : fetchable d.replica d.log (height (slot c.log k₀)) ≡ x ∷ (ys ++ zs)
     from₀ =
         subst (λ u. fetchable d.replica d.log u ≡ x ∷ (ys ++ zs))
-        ((had_rested s calls p.lawful i c₀ hc).renewed.committed_height_lem ∙ ap height (sym kept₀)) m
+        ((had_rested s calls p.lawful i c₀ hc).renewed.height_of_committed ∙ ap height (sym kept₀)) m
 
     -- where d's frames reach c's R, d's R was not the lower, and both hold the same up to c's committed round
     pub same₀ : c.replica.round.0 ≤ round (last_of x ys) → slot c.log k₀ ≡ slot d.log k₀

@@ -45,7 +45,7 @@ proposal r log entry out g out' x log' q eo ex el eq masks =
     let p : List ℕ = digest (slot log r.tip_round.0) in
     let B : List ℕ = make_block sha256 r.id r.round.0 (r.tip_height.0 + 1) p entry in
     let n : length B ≡ frame_size =
-    length_block r.id r.round.0 (r.tip_height.0 + 1) p entry (digest_size log r.tip_round.0 (omega arith)) g.entry_most_lem in
+    length_block r.id r.round.0 (r.tip_height.0 + 1) p entry (digest_size log r.tip_round.0 (omega arith)) g.entry_room in
     let b : x ≡ B = ex ∙ ap (take frame_size) eo ∙ take_at B (drop frame_size out) frame_size n in
     (eo, rw (eq, el, b))
 

@@ -11,5 +11,5 @@ pub record Ready (r : Replica) (log entry out : List ℕ) : Type 0 where
   pub round_most : r.round.0 ≤ r.last_round.0 + 1
   pub tip_below : r.tip_round.0 < r.round.0
   pub tip_height : r.tip_height.0 ≤ r.tip_round.0
-  pub out_least_lem : frame_size ≤ length out
-  pub entry_most_lem : length entry ≤ entry_most
+  pub out_room : frame_size ≤ length out
+  pub entry_room : length entry ≤ entry_most

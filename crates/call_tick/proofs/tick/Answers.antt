@@ -23,7 +23,7 @@ put_blame-requires c =
     let p =
     tick_passed a.replica a.log.now a.masks.now a.entry.now a.out.now _
     (guard_of_lem _ _ _ _ _ c.valid_record-is_valid.ensures c.guard-number.ensures) c.if-number-ne0.false in
-    omega (arith, p.out_least_lem)
+    omega (arith, p.out_room)
 
 pub slice_bounds-hear-count : goal.slice_bounds-hear-count
 slice_bounds-hear-count c =
@@ -31,7 +31,7 @@ slice_bounds-hear-count c =
     let p =
     tick_passed a.replica a.log.now a.masks.now a.entry.now a.out.now _
     (guard_of_lem _ _ _ _ _ c.valid_record-is_valid.ensures c.guard-number.ensures) c.if-number-ne0.false in
-    omega (arith, p.out_least_lem, c.put_blame.auto.out)
+    omega (arith, p.out_room, c.put_blame.auto.out)
 
 pub slice_bounds-hear-start : goal.slice_bounds-hear-start
 slice_bounds-hear-start c =
@@ -39,7 +39,7 @@ slice_bounds-hear-start c =
     let p =
     tick_passed a.replica a.log.now a.masks.now a.entry.now a.out.now _
     (guard_of_lem _ _ _ _ _ c.valid_record-is_valid.ensures c.guard-number.ensures) c.if-number-ne0.false in
-    omega (arith, p.out_least_lem, c.put_blame.auto.out)
+    omega (arith, p.out_room, c.put_blame.auto.out)
 
 pub hear-a-requires : goal.hear-a-requires
 hear-a-requires c =
