@@ -4,18 +4,10 @@
 ghost use Rattle.std.specs.Prelude.{◌≡◌, [], ◌∷◌, ◌+◌, ◌-◌, ◌*◌, ◌%◌, ◌≤◌, length};
 ghost use Rattle.sha256.specs.Fips.{sha256};
 ghost use Rattle.apollo.specs.Size.{frame_size};
-ghost use Rattle.apollo.specs.Bytes.{same};
 ghost use Rattle.apollo.specs.Frame as Frame;
 ghost use Rattle.frame_checks.specs.Ahead.{checked_at, checks_from, Held};
 
-use apollo::size::{CHECK, FRAME};
-
-// The check of x is d.
-fn has_check(x: &[u8], d: [u8; 32]) -> bool
-    ensures { result ≡ same (Frame.digest x.now) d }
-{
-    slices::same_bytes(slices::part(x, CHECK, 32), &d)
-}
+use apollo::size::FRAME;
 
 // Frame i is there, and its check is right.
 fn checked_at(frames: &[u8], i: usize) -> bool
@@ -43,10 +35,10 @@ fn check_four(x0: &[u8], x1: &[u8], x2: &[u8], x3: &[u8]) -> [bool; 4]
     let d2 = d.d2;
     let d3 = d.d3;
     [
-        has_check(x0, d0),
-        has_check(x1, d1),
-        has_check(x2, d2),
-        has_check(x3, d3),
+        frame_forms::has_check(x0, d0),
+        frame_forms::has_check(x1, d1),
+        frame_forms::has_check(x2, d2),
+        frame_forms::has_check(x3, d3),
     ]
 }
 

@@ -27,13 +27,19 @@ fn within(lo: u32, n: u32, hi: u32) -> bool
     n <= hi
 }
 
+// The check of x is d.
+pub fn has_check(x: &[u8], d: [u8; 32]) -> bool
+    ensures { result ≡ Bytes.same (Frame.digest x.now) d }
+{
+    slices::same_bytes(slices::part(x, CHECK, 32), &d)
+}
+
 // The check of x is right.
 #[tactic(auto, unfolding(apollo::specs::Frame::checked))]
 pub fn checked(x: &[u8]) -> bool
     ensures { result ≡ Frame.checked sha256 x.now }
 {
-    let d = sha256::digest(slices::part(x, 0, CHECK));
-    slices::same_bytes(slices::part(x, CHECK, 32), &d)
+    has_check(x, sha256::digest(slices::part(x, 0, CHECK)))
 }
 
 // x has the form of a block.

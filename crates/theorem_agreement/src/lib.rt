@@ -19,7 +19,7 @@ pub fn all_correct_holds()
     ensures { AllCorrect }
 {}
 
-// So it holds after each call.
+// A beginning of a list that meets the premises meets them, so demand 3 holds after each call.
 #[tactic(auto, using(crate::proofs::Agreement::beginnings))]
 pub fn beginnings_holds()
     ensures { Beginnings }

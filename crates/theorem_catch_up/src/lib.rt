@@ -1,5 +1,5 @@
-// What a replica that comes back fetches is a branch that it takes (document 02, F-5). No code: each theorem is what a function promises
-// that does nothing, so the check asks for its proof.
+// What a replica c that comes back fetches from another one, d, is a branch that it takes (document 02, F-5). No code: each theorem is what
+// a function promises that does nothing, so the check asks for its proof.
 
 #![tactic(auto)]
 
@@ -12,25 +12,25 @@ pub fn goes_on_holds()
     ensures { GoesOn }
 {}
 
-// And so where the log has grown in between.
+// And where the chain of d has grown in between, the second has what the first had, and more.
 #[tactic(auto, using(crate::proofs::Fetches::grows_on))]
 pub fn grows_on_holds()
     ensures { GrowsOn }
 {}
 
-// What d has above a block that both hold is answered by these verdicts alone.
+// What d has above a block that both hold is a branch that c answers with 3, 10, 13 or 0.
 #[tactic(auto, using(crate::proofs::CatchUp::continues))]
 pub fn continues_holds()
     ensures { Continues }
 {}
 
-// So what d has above the committed height of c is.
+// So what d has above the height that c has committed is answered so.
 #[tactic(auto, using(crate::proofs::CatchUp::catch_up))]
 pub fn catch_up_holds()
     ensures { CatchUp }
 {}
 
-// And what was fetched earlier.
+// And what c fetched earlier, from an earlier state of d, whatever came since.
 pub fn catch_up_later_holds()
     ensures { CatchUpLater }
 {}
@@ -41,28 +41,28 @@ pub fn one_fetch_holds()
     ensures { OneFetch }
 {}
 
-// As soon as what d has reaches c's R, c's committed block is one that both hold.
+// Where what d has reaches the R of c, the block that c has committed is one that both hold.
 pub fn common_holds()
     ensures { Common }
 {}
 
-// A 13 is no dead end.
+// A 13 is no dead end: its round is at most R, or the frames below that round are taken, and then it is.
 pub fn split_holds()
     ensures { Split }
 {}
 
-// And of what was fetched earlier.
+// And none of what was fetched earlier.
 pub fn split_later_holds()
     ensures { SplitLater }
 {}
 
-// Each verdict comes, with the premises met.
+// Each of these answers comes, with the premises met.
 #[tactic(auto, using(crate::proofs::Reached::verdicts_come))]
 pub fn verdicts_come_holds()
     ensures { VerdictsCome }
 {}
 
-// Frames that were answered 13 are taken later.
+// And frames that were answered 13, and are taken later.
 #[tactic(auto, using(crate::proofs::Reached::taken_later))]
 pub fn taken_later_holds()
     ensures { TakenLater }

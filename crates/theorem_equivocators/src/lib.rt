@@ -11,7 +11,7 @@ pub fn high_bits_holds()
     ensures { HighBits }
 {}
 
-// A mark stands for two blocks of one round.
+// A mark stands for two good blocks of one round.
 #[tactic(auto, using(crate::proofs::Marks::shown))]
 pub fn shown_holds()
     ensures { Shown }
