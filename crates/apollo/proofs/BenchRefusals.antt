@@ -14,8 +14,7 @@ use Rattle.apollo.specs.Setup.{setup_of}
 use Rattle.apollo.specs.Frame.{round, frames, frames_of, whole_frames, blame_form}
 use Rattle.apollo.specs.Log.{attach}
 use Rattle.apollo.specs.Enter.{State}
-use Rattle.apollo.specs.declared.Verdict.{Verdict}
-use Rattle.apollo.specs.Judging.{judged_each}
+use Rattle.apollo.specs.Judging.{Verdict, judged_each}
 use Rattle.apollo.specs.Outcome.{refused, taken}
 use Rattle.apollo.specs.BlockRun.{last_of, blocks, judged_run}
 use Rattle.apollo.specs.Branch.{first_uncertified, grown, placed, branched, branch_with}

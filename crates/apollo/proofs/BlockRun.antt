@@ -12,9 +12,8 @@ use borrow.Author.Tests.{ltb-true, eqb-true, eqb-false, eq-eqb}
 use Rattle.sha256.specs.Fips.{sha256}
 use Rattle.apollo.specs.Size.{frame_size}
 use Rattle.apollo.specs.declared.Setup.{Setup}
-use Rattle.apollo.specs.declared.Verdict.{Verdict}
 use Rattle.apollo.specs.Frame.{round, frames, block_form, linked, checked}
-use Rattle.apollo.specs.Judging.{no_refusal, fault}
+use Rattle.apollo.specs.Judging.{Verdict, no_refusal, fault}
 use Rattle.apollo.specs.BlockRun.{child_of, follows, block, blocks, faulty, judged_next, judged_run}
 use Rattle.apollo.proofs.Tests.{and-true, both, by_cond, cond_false}
 use Rattle.apollo.proofs.Frames.{Whole}

@@ -7,12 +7,11 @@ use mathlib.Core.Bool.{true, false, not}
 use lib.Dec.{eqb}
 use borrow.Author.Tests.{eqb-true, eqb-false, eq-eqb, ne_eqb, not-true, not-false}
 use Rattle.apollo.specs.declared.Replica.{Replica}
-use Rattle.apollo.specs.declared.Verdict.{Verdict}
 use Rattle.apollo.specs.declared.Marked.{Marked}
 use Rattle.apollo.specs.Setup.{setup_of, leader}
 use Rattle.apollo.specs.Frame.{round, block_form, first_frame}
 use Rattle.apollo.specs.Replica.{with_mark, valid_record}
-use Rattle.apollo.specs.Judging.{judged_each}
+use Rattle.apollo.specs.Judging.{Verdict, judged_each}
 use Rattle.apollo.specs.Equivocation.{marked, is_pair, second, conflicting, accusing, equivocation_with}
 use Rattle.apollo.proofs.Tests.{by_cond}
 

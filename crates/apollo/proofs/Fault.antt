@@ -6,9 +6,8 @@ use mathlib.Core.Bool.{Bool, true, not}
 use native.Mathlib.Omega.{arith}
 use lib.Dec.{eqb}
 use borrow.Author.Tests.{not-false}
-use Rattle.apollo.specs.declared.Verdict.{Verdict}
 use Rattle.apollo.specs.Frame.{checked}
-use Rattle.apollo.specs.Judging.{fault, judged_each}
+use Rattle.apollo.specs.Judging.{Verdict, fault, judged_each}
 use Rattle.apollo.proofs.Tests.{by_cond}
 
 module _ (hash : List ℕ → List ℕ) (form : List ℕ → Bool) (x : List ℕ) where

@@ -16,7 +16,7 @@ use Rattle.apollo.specs.Frame.{round, frames, linked}
 use Rattle.apollo.specs.Log.{slot, filled, attach}
 use Rattle.apollo.specs.Replica.{valid_replica, valid_masks}
 use Rattle.apollo.specs.Enter.{State}
-use Rattle.apollo.specs.declared.Verdict.{Verdict}
+use Rattle.apollo.specs.Judging.{Verdict}
 use Rattle.apollo.specs.Outcome.{Outcome, refused, guarded}
 use Rattle.apollo.specs.BlockRun.{last_of, blocks, judged_run}
 use Rattle.apollo.specs.Branch.{placed, branched, branch_with}

@@ -1,3 +1,5 @@
+pub mod Numbers
+pub mod Found
 pub mod Masks
 pub mod Tests
 pub mod Rotation

@@ -9,12 +9,11 @@ use lib.Dec.{eqb}
 use borrow.Author.Tests.{eqb-true, eqb-false, eq-eqb}
 use Rattle.sha256.specs.Fips.{sha256}
 use Rattle.apollo.specs.Size.{frame_size}
-use Rattle.apollo.specs.declared.Verdict.{Verdict}
 use Rattle.apollo.specs.Setup.{setup_of}
 use Rattle.apollo.specs.Frame.{signer, round, frames_of, whole_frames, blame_form, checked}
 use Rattle.apollo.specs.Masks.{bit, mask}
 use Rattle.apollo.specs.Enter.{State, hearing}
-use Rattle.apollo.specs.Judging.{verdict, no_refusal, fault, judged_each}
+use Rattle.apollo.specs.Judging.{Verdict, verdict, no_refusal, fault, judged_each}
 use Rattle.apollo.specs.Outcome.{Outcome, refused, guarded}
 use Rattle.apollo.specs.Blame.{one_set, any_fresh, add_blames, hearing_all, heard, handing}
 use Rattle.apollo.specs.Calls.{blame_call, blames_call}

@@ -1,11 +1,10 @@
 -- Document 01, "Hand in a blame", and document 02, F-1, a set of blames. A blame is a set of one (`Single`).
 use Rattle.std.specs.Prelude.{ℕ, List, [], ◌∷◌, Bool, true, false, ◌&&◌, ◌||◌, not, cond, eqb, ltb}
-use Rattle.apollo.specs.declared.Verdict.{Verdict}
 use Rattle.apollo.specs.Setup.{setup_of}
 use Rattle.apollo.specs.Frame.{signer, round, frames_of, whole_frames, blame_form}
 use Rattle.apollo.specs.Masks.{bit, set_bit, mask, add_blame}
 use Rattle.apollo.specs.Enter.{State, settle}
-use Rattle.apollo.specs.Judging.{judged_each}
+use Rattle.apollo.specs.Judging.{Verdict, judged_each}
 use Rattle.apollo.specs.Outcome.{Outcome, refused, taken, guarded}
 use Rattle.apollo.specs.Refusal.{bad_length, stale, early, not_a_set}
 

@@ -4,9 +4,8 @@ use Rattle.std.proofs.Math.Option.{Option, none, some}
 use Rattle.sha256.specs.Fips.{sha256}
 use Rattle.apollo.specs.Size.{frame_size}
 use Rattle.apollo.specs.declared.Setup.{Setup}
-use Rattle.apollo.specs.declared.Verdict.{Verdict}
 use Rattle.apollo.specs.Frame.{round, block_form, linked, checked}
-use Rattle.apollo.specs.Judging.{verdict, no_refusal, fault}
+use Rattle.apollo.specs.Judging.{Verdict, verdict, no_refusal, fault}
 use Rattle.apollo.specs.Refusal.{not_child}
 
 -- the last of x and the frames after it

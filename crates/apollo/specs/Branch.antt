@@ -4,7 +4,7 @@ use Rattle.std.proofs.Math.Option.{Option, none, some}
 use Rattle.apollo.specs.Size.{frame_size}
 use Rattle.apollo.specs.Bytes.{same}
 use Rattle.apollo.specs.declared.Setup.{Setup}
-use Rattle.apollo.specs.declared.Verdict.{Verdict}
+use Rattle.apollo.specs.Judging.{Verdict}
 use Rattle.apollo.specs.Setup.{setup_of}
 use Rattle.apollo.specs.Frame.{round, height, frames_of, whole_frames}
 use Rattle.apollo.specs.Log.{store, clear_above, attach}

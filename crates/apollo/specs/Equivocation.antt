@@ -2,13 +2,12 @@
 use Rattle.std.specs.Prelude.{ℕ, List, [], ◌∷◌, Bool, ◌&&◌, not, cond, length, eqb}
 use Rattle.apollo.specs.Size.{frame_size, pair_size}
 use Rattle.apollo.specs.declared.Replica.{Replica}
-use Rattle.apollo.specs.declared.Verdict.{Verdict}
 use Rattle.apollo.specs.declared.Marked.{Marked}
 use Rattle.apollo.specs.Bytes.{part, same}
 use Rattle.apollo.specs.Setup.{setup_of, leader}
 use Rattle.apollo.specs.Frame.{round, digest, first_frame, block_form}
 use Rattle.apollo.specs.Replica.{with_mark, valid_record}
-use Rattle.apollo.specs.Judging.{judged_each}
+use Rattle.apollo.specs.Judging.{Verdict, judged_each}
 use Rattle.apollo.specs.Refusal.{bad_replica, bad_length, not_equivocation}
 
 -- the answer from its parts

@@ -1,10 +1,13 @@
 -- Document 01, "Refusals by number": frames judged each by itself, 7 and 8, lowest first.
 use Rattle.std.specs.Prelude.{ℕ, ◌+◌, List, [], ◌∷◌, Bool, not, cond, eqb}
-use Rattle.apollo.specs.declared.Verdict.{Verdict}
 use Rattle.apollo.specs.Frame.{checked}
 use Rattle.apollo.specs.Refusal.{bad_digest, bad_form}
 
 -- a refusal's number and its place, and that there is none
+pub record Verdict : Type 0 where
+  pub number : ℕ
+  pub place : ℕ
+
 abbrev pub verdict : (number place : ℕ) → Verdict
 verdict number place = record { number = number; place = place }
 

@@ -10,6 +10,8 @@ pub mod Replica
 pub mod Enter
 pub mod Committed
 pub mod Judging
+pub mod Refused
+pub mod Found
 pub mod BlockRun
 pub mod Outcome
 pub mod Open

@@ -8,29 +8,28 @@ pub mod claims;
 pub mod refusal;
 pub mod size;
 
+pub use refusal::{Refusal, Refused};
+
 // A round, 1 to T; the genesis has round 0.
 #[repr(C)]
-#[derive(Clone, Copy)]
+#[derive(Clone, Copy, Default)]
 pub struct Round(pub u32);
 
 // The round before r, 0 for the genesis.
 pub fn previous(r: u32) -> u32
     ensures { result ≡ r - 1 }
 {
-    if r == 0 {
-        return 0;
-    }
-    r - 1
+    r.saturating_sub(1)
 }
 
 // A height in the chain; the genesis has height 0.
 #[repr(C)]
-#[derive(Clone, Copy)]
+#[derive(Clone, Copy, Default)]
 pub struct Height(pub u32);
 
 // A number of ticks.
 #[repr(C)]
-#[derive(Clone, Copy)]
+#[derive(Clone, Copy, Default)]
 pub struct Ticks(pub u32);
 
 // What all replicas share (part of the set-up).
@@ -41,16 +40,9 @@ pub struct Setup {
     pub rotation: [u8; 15], // seating
 }
 
-// What refuses frames that are handed in, and its place; 0 and 0 if nothing does.
-#[derive(Clone, Copy)]
-pub struct Verdict {
-    pub number: u8,
-    pub place: u32,
-}
-
 // What a replica keeps between calls (record), beside the log (book) and the blame masks.
 #[repr(C)]
-#[derive(Clone, Copy)]
+#[derive(Clone, Copy, Default)]
 pub struct Replica {
     pub id: u8, // own number
     pub f: u8,

@@ -1,36 +1,51 @@
 // The refusals by number, with document 01's trade words; document 02 has none. The definitions and the header have the same names.
-pub const BAD_SETUP: u8 = 1; // set-up
+ghost use Rattle.std.specs.Prelude.{◌≡◌};
+ghost use Rattle.apollo.specs.Refused.{number, whole};
 
-pub const BAD_REPLICA: u8 = 2; // record
+// What refuses a call.
+#[derive(Clone, Copy, Debug, PartialEq, Eq)]
+pub enum Refusal {
+    BadSetup = 1, // set-up
+    BadReplica = 2, // record
+    RoundsOver = 3, // term over
+    OutTooShort = 4, // short tray
+    EntryTooLong = 5, // long entry
+    BadLength = 6, // cut
+    BadDigest = 7, // check
+    BadForm = 8, // form
+    NotChild = 9, // parted
+    Stale = 10, // stale
+    Unattached = 11, // loose
+    RevertsCommitted = 12, // undone
+    NotCertified = 13, // unshown
+    Early = 14, // early
+    Absent = 15, // absent
+    NotASet = 16, // blames of two rounds, or of one signer twice
+    BadRotation = 17, // open: not n seats, a card lacking, or a card twice
+    NotEquivocation = 18, // two blocks with equal digests, or of two rounds
+}
 
-pub const ROUNDS_OVER: u8 = 3; // term over
+// Its number.
+impl From<Refusal> for u8 {
+    ghost from_gives = { λ e n. n ≡ number e };
 
-pub const OUT_TOO_SHORT: u8 = 4; // short tray
+    fn from(e: Refusal) -> u8 {
+        e as u8
+    }
+}
 
-pub const ENTRY_TOO_LONG: u8 = 5; // long entry
+// A refusal with its place: the index of the frame that it is for, or a round.
+#[derive(Clone, Copy, Debug, PartialEq, Eq)]
+pub struct Refused {
+    pub refusal: Refusal,
+    pub place: u32,
+}
 
-pub const BAD_LENGTH: u8 = 6; // cut
+// One that has no place has place 0.
+impl From<Refusal> for Refused {
+    ghost from_gives = { λ e r. r ≡ whole e };
 
-pub const BAD_DIGEST: u8 = 7; // check
-
-pub const BAD_FORM: u8 = 8; // form
-
-pub const NOT_CHILD: u8 = 9; // parted
-
-pub const STALE: u8 = 10; // stale
-
-pub const UNATTACHED: u8 = 11; // loose
-
-pub const REVERTS_COMMITTED: u8 = 12; // undone
-
-pub const NOT_CERTIFIED: u8 = 13; // unshown
-
-pub const EARLY: u8 = 14; // early
-
-pub const ABSENT: u8 = 15; // absent
-
-pub const NOT_A_SET: u8 = 16; // blames of two rounds, or of one signer twice
-
-pub const BAD_ROTATION: u8 = 17; // open: not n seats, a card lacking, or a card twice
-
-pub const NOT_EQUIVOCATION: u8 = 18; // two blocks with equal digests, or of two rounds
+    fn from(refusal: Refusal) -> Refused {
+        Refused { refusal, place: 0 }
+    }
+}

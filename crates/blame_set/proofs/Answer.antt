@@ -9,10 +9,9 @@ use native.Mathlib.Omega.{arith}
 use Rattle.sha256.specs.Fips.{sha256}
 use Rattle.apollo.specs.Size.{frame_size}
 use Rattle.apollo.specs.declared.Replica.{Replica}
-use Rattle.apollo.specs.declared.Verdict.{Verdict}
 use Rattle.apollo.specs.Setup.{setup_of}
 use Rattle.apollo.specs.Frame.{round, frames, frames_of, whole_frames, blame_form}
-use Rattle.apollo.specs.Judging.{verdict, no_refusal, judged_each}
+use Rattle.apollo.specs.Judging.{Verdict, verdict, no_refusal, judged_each}
 use Rattle.apollo.specs.Blame.{one_set, any_fresh, hearing_all, heard}
 use Rattle.apollo.specs.Enter.{State, settle}
 use Rattle.apollo.specs.Outcome.{Outcome, refused, taken}

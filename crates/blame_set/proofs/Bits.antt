@@ -10,10 +10,9 @@ use borrow.Author.Tests.{eqb-true, eqb-false}
 use Rattle.sha256.specs.Fips.{sha256}
 use Rattle.apollo.specs.Size.{frame_size}
 use Rattle.apollo.specs.declared.Setup.{Setup}
-use Rattle.apollo.specs.declared.Verdict.{Verdict}
 use Rattle.apollo.specs.Bytes.{part}
 use Rattle.apollo.specs.Frame.{signer, blame_form}
-use Rattle.apollo.specs.Judging.{verdict, fault, judged_each}
+use Rattle.apollo.specs.Judging.{Verdict, verdict, fault, judged_each}
 use Rattle.frame.proofs.Frames.{rest, rest_next, frame_part}
 use Rattle.frame_forms.proofs.Facts.{BlameFields, blame_fields}
 use Rattle.apollo.proofs.Fault.{fault_none}

@@ -7,10 +7,9 @@ use borrow.Author.Tests.{eq-eqb, ne_eqb, lt-ltb, le-ltb}
 use Rattle.sha256.specs.Fips.{sha256}
 use Rattle.apollo.specs.declared.Replica.{Replica}
 use Rattle.apollo.specs.declared.Setup.{Setup}
-use Rattle.apollo.specs.declared.Verdict.{Verdict}
 use Rattle.apollo.specs.Setup.{setup_of}
 use Rattle.apollo.specs.Frame.{round, frames_of, first_frame, whole_frames, blame_form}
-use Rattle.apollo.specs.Judging.{verdict, no_refusal, judged_each}
+use Rattle.apollo.specs.Judging.{Verdict, verdict, no_refusal, judged_each}
 use Rattle.apollo.specs.Blame.{one_set, any_fresh}
 use Rattle.blame_set.specs.Set.{judged_together, judged_frames, judged_set}
 

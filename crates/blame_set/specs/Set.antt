@@ -2,10 +2,9 @@
 use Rattle.std.specs.Prelude.{ℕ, ◌<◌, List, [], ◌∷◌, cond, eqb, ltb}
 use Rattle.sha256.specs.Fips.{sha256}
 use Rattle.apollo.specs.declared.Replica.{Replica}
-use Rattle.apollo.specs.declared.Verdict.{Verdict}
 use Rattle.apollo.specs.Setup.{setup_of}
 use Rattle.apollo.specs.Frame.{signer, round, frames_of, first_frame, whole_frames, blame_form}
-use Rattle.apollo.specs.Judging.{verdict, no_refusal, judged_each}
+use Rattle.apollo.specs.Judging.{Verdict, verdict, no_refusal, judged_each}
 use Rattle.apollo.specs.Blame.{one_set, any_fresh, hearing_all}
 use Rattle.apollo.specs.Enter.{State, settle}
 use Rattle.apollo.specs.Outcome as Outcome

@@ -15,7 +15,7 @@ use Rattle.apollo.specs.declared.Setup.{Setup}
 use Rattle.apollo.specs.Setup.{setup_of}
 use Rattle.apollo.specs.Frame.{round, frames, frames_of, first_frame, last_frame, whole_frames}
 use Rattle.apollo.specs.Log.{attach}
-use Rattle.apollo.specs.declared.Verdict.{Verdict}
+use Rattle.apollo.specs.Judging.{Verdict}
 use Rattle.apollo.specs.BlockRun.{last_of, block, blocks, judged_run}
 use Rattle.frame_forms.proofs.Facts.{BlockFields, block_fields}
 use Rattle.apollo.proofs.BlockRun.{block_parts, blocks_parts, blocks_judged}

@@ -8,7 +8,7 @@ use Rattle.apollo.specs.Frame.{round, height, frames_of, first_frame, last_frame
 use Rattle.apollo.specs.Log.{attach}
 use Rattle.apollo.specs.Enter.{State, Effect, holding, enter_round}
 use Rattle.apollo.specs.Outcome as Outcome
-use Rattle.apollo.specs.declared.Verdict.{Verdict}
+use Rattle.apollo.specs.Judging.{Verdict}
 use Rattle.apollo.specs.BlockRun.{judged_run}
 use Rattle.apollo.specs.Branch.{first_uncertified, grown}
 use Rattle.apollo.specs.Refusal.{bad_length, stale, unattached, reverts_committed, not_certified}

@@ -8,7 +8,7 @@ use borrow.Author.Tests.{eq-eqb, ne_eqb}
 use Rattle.sha256.specs.Fips.{sha256}
 use Rattle.apollo.specs.declared.Replica.{Replica}
 use Rattle.apollo.specs.declared.Answer.{Answer}
-use Rattle.apollo.specs.declared.Verdict.{Verdict}
+use Rattle.apollo.specs.Judging.{Verdict}
 use Rattle.apollo.specs.Frame.{round, frames_of, first_frame}
 use Rattle.apollo.specs.Enter.{settle, state}
 use Rattle.apollo.specs.Outcome.{Outcome, refused, taken, outcome}

@@ -12,12 +12,11 @@ use Rattle.sha256.specs.Fips.{sha256}
 use Rattle.apollo.specs.declared.Replica.{Replica}
 use Rattle.apollo.specs.declared.Setup.{Setup}
 use Rattle.apollo.specs.declared.Marked.{Marked}
-use Rattle.apollo.specs.declared.Verdict.{Verdict}
 use Rattle.apollo.specs.Bytes.{same}
 use Rattle.apollo.specs.Setup.{setup_of, leader}
 use Rattle.apollo.specs.Frame.{round, digest, frames_of, block_form, first_frame}
 use Rattle.apollo.specs.Replica.{with_mark, valid_record}
-use Rattle.apollo.specs.Judging.{verdict, no_refusal, judged_each}
+use Rattle.apollo.specs.Judging.{Verdict, verdict, no_refusal, judged_each}
 use Rattle.apollo.specs.Equivocation.{marked, second, conflicting}
 use Rattle.apollo.specs.Calls.{equivocation_call}
 use Rattle.apollo.proofs.Tests.{cond_true, cond_false}

@@ -73,12 +73,10 @@ own b i = at (i % 4) (i - i % 4) (omega arith) (omega arith)
     at (suc (suc (suc zero))) g h e = rw e
     at (suc (suc (suc (suc m)))) g h e = absurd (omega arith)
 
--- the flag that the code takes for frame i is its check's
-pub turn : (b : List ℕ) (i : ℕ) (known : List Bool) → frame_size * i + frame_size ≤ length b → known ≡ checks_from b (i - i % 4)
-    → get_or known (i % 4) false ≡ checked sha256 (take (frame_size * i + frame_size - frame_size * i) (drop (frame_size * i) b))
-turn b i known h e =
-    let z : frame_size * i + frame_size - frame_size * i ≡ frame_size = omega arith in
-    ap (λ (k : List Bool). get_or k (i % 4) false) e ∙ own b i ∙ there b i h ∙ rw z
+-- the flag that the code takes for frame i, x, is its check's
+pub turn : (b : List ℕ) (i : ℕ) (known : List Bool) (x : List ℕ) → frame_size * i + frame_size ≤ length b → x ≡ part b (frame_size * i) frame_size
+    → known ≡ checks_from b (i - i % 4) → get_or known (i % 4) false ≡ checked sha256 x
+turn b i known x h p e = ap (λ (k : List Bool). get_or k (i % 4) false) e ∙ own b i ∙ there b i h ∙ ap (checked sha256) (sym p)
 
 -- before the first frame's turn, and behind frame i's
 pub held_start : (b : List ℕ) (known : List Bool) → Held b 0 known

@@ -5,11 +5,12 @@ ghost use Rattle.std.specs.Prelude.{◌≡◌};
 ghost use Rattle.apollo.specs.Bytes as Bytes;
 ghost use Rattle.apollo.specs.Frame as Frame;
 ghost use Rattle.apollo.specs.Judging.{fault};
+ghost use Rattle.apollo.specs.Refused.{refusal_of};
 ghost use Rattle.sha256.specs.Fips.{sha256};
 ghost use Rattle.frame_forms.specs.Forms.{form_of};
 
-use apollo::Setup;
 use apollo::size::{CHECK, ENTRY};
+use apollo::{Refusal, Setup};
 
 // The form that a frame is to have.
 #[derive(Clone, Copy)]
@@ -21,10 +22,7 @@ pub enum Form {
 fn within(lo: u32, n: u32, hi: u32) -> bool
     ensures { result ≡ Bytes.within lo n hi }
 {
-    if n < lo {
-        return false;
-    }
-    n <= hi
+    (lo..=hi).contains(&n)
 }
 
 // The check of x is d.
@@ -97,24 +95,24 @@ fn has_form(form: Form, s: Setup, x: &[u8]) -> bool
     }
 }
 
-// 7 and 8 of a frame that is to have that form, 0 if it is refused by neither. `checked`: its check is right.
+// 7 and 8 of a frame that is to have that form. `checked`: its check is right.
 #[tactic(auto, unfolding(apollo::specs::Judging::fault))]
-pub fn fault_known(form: Form, s: Setup, x: &[u8], checked: bool) -> u8
+pub fn fault_known(form: Form, s: Setup, x: &[u8], checked: bool) -> Result<(), Refusal>
     requires { checked ≡ Frame.checked sha256 x.now }
-    ensures { result ≡ fault sha256 (form_of form s) x.now }
+    ensures { refusal_of result ≡ fault sha256 (form_of form s) x.now }
 {
     if !checked {
-        return apollo::refusal::BAD_DIGEST;
+        return Err(Refusal::BadDigest);
     }
     if !has_form(form, s, x) {
-        return apollo::refusal::BAD_FORM;
+        return Err(Refusal::BadForm);
     }
-    0
+    Ok(())
 }
 
 // The same of a frame whose check is not known.
-pub fn fault(form: Form, s: Setup, x: &[u8]) -> u8
-    ensures { result ≡ fault sha256 (form_of form s) x.now }
+pub fn fault(form: Form, s: Setup, x: &[u8]) -> Result<(), Refusal>
+    ensures { refusal_of result ≡ fault sha256 (form_of form s) x.now }
 {
     fault_known(form, s, x, checked(x))
 }

@@ -1,32 +1,32 @@
--- Frames judged each by itself, along the bytes. Assumes nothing.
-use mathlib.Core.Path.{◌≡◌, sym, ◌∙◌}
+-- Frames judged each by itself, one after the other. Assumes nothing.
+use mathlib.Core.Path.{◌≡◌}
 use mathlib.Core.Bool.{Bool}
-use mathlib.Core.List.{List}
-use Prim.Native.Nat.{ℕ, ◌+◌, ◌-◌, ◌*◌, ◌≤◌, ◌<◌}
-use lib.ListN.{take, drop}
+use mathlib.Core.List.{List, ◌++◌}
+use Prim.Native.Nat.{ℕ, ◌+◌, ◌<◌}
+use lib.ListN.{length}
 use borrow.Author.Tests.{eq-eqb, ne_eqb}
+use Rattle.std.specs.Prelude.{Result, Ok, Err}
 use Rattle.sha256.specs.Fips.{sha256}
 use Rattle.apollo.specs.Size.{frame_size}
-use Rattle.apollo.specs.declared.Verdict.{Verdict}
-use Rattle.apollo.specs.Bytes.{part}
-use Rattle.apollo.specs.Judging.{verdict, no_refusal, fault, judged_each}
-use Rattle.frame.proofs.Frames.{rest, rest_next, rest_end, frame_part}
+use Rattle.apollo.specs.Frame.{frames_of}
+use Rattle.apollo.specs.Judging.{Verdict, verdict, no_refusal, fault, judged_each}
+use Rattle.apollo.specs.declared.refusal.Refusal.{Refusal}
+use Rattle.apollo.specs.Refused.{number, refusal_of}
+use Rattle.apollo.proofs.Numbers.{refused_number, refused_some, taken_none}
+use Rattle.frame.proofs.Walk.{frames_more, frames_done}
 
--- frame i of the n frames of b, as the code lends it
-module _ (b : List ℕ) (n i : ℕ) (form : List ℕ → Bool) (goal : Verdict) (e : judged_each sha256 form i (rest b n i) ≡ goal) where
-  module _ (h : i < n) (k : ℕ) (d : k ≡ fault sha256 form (take (frame_size * i + frame_size - frame_size * i) (drop (frame_size * i) b))) where
-    number_is : k ≡ fault sha256 form (part b (frame_size * i) frame_size)
-    number_is = rw (frame_part b (frame_size * i)) at d
-
-    pub each_stop : (k ≡ 0 → ⊥) → verdict k i ≡ goal
+-- frame i and those behind it, s, are to be judged: the frame x, whose result is r, and then t
+module _ (form : List ℕ → Bool) (s : List ℕ) (i : ℕ) (goal : Verdict) (e : judged_each sha256 form i (frames_of s) ≡ goal) where
+  module _ (x t : List ℕ) (p : s ≡ x ++ t) (h : length x ≡ frame_size) {T : Type 0} (r : Result T Refusal) (d : refusal_of r ≡ fault sha256 form x) where
+    pub each_stop : (f : Refusal) → r ≡ Err f → verdict (number f) i ≡ goal
     unfolding judged_each
-    each_stop z =
-        rw number_is (rw (rest_next b n i h, ne_eqb (fault sha256 form (part b (frame_size * i) frame_size)) 0 (λ w. z (number_is ∙ w))) at e)
+    each_stop f q =
+        rw (refused_number r _ d f q) (rw (frames_more s x t p h, ne_eqb (fault sha256 form x) 0 (refused_some r _ d f q)) at e)
 
-    pub each_more : k ≡ 0 → judged_each sha256 form (i + 1) (rest b n (i + 1)) ≡ goal
+    pub each_more : (u : T) → r ≡ Ok u → judged_each sha256 form (i + 1) (frames_of t) ≡ goal
     unfolding judged_each
-    each_more z = rw (rest_next b n i h, eq-eqb (fault sha256 form (part b (frame_size * i) frame_size)) 0 (sym number_is ∙ z)) at e
+    each_more u q = rw (frames_more s x t p h, eq-eqb (fault sha256 form x) 0 (taken_none r _ d u q)) at e
 
-  pub each_end : n ≤ i → no_refusal ≡ goal
+  pub each_end : length s < frame_size → no_refusal ≡ goal
   unfolding judged_each
-  each_end h = rw (rest_end b n i h) at e
+  each_end h = rw (frames_done s h) at e

@@ -10,8 +10,7 @@ use Rattle.apollo.specs.Size.{frame_size}
 use Rattle.apollo.specs.declared.Replica.{Replica}
 use Rattle.apollo.specs.Setup.{setup_of, setup_number}
 use Rattle.apollo.specs.Bytes.{zeros}
-use Rattle.apollo.specs.declared.Verdict.{Verdict}
-use Rattle.apollo.specs.Judging.{verdict}
+use Rattle.apollo.specs.Judging.{Verdict, verdict}
 use Rattle.apollo.specs.Replica.{fresh, zero_replica, valid_own, valid_log, valid_replica, valid_masks}
 use Rattle.setup_ranges.specs.Number.{lent_number}
 use Rattle.setup_ranges.proofs.Number.{lent_is}

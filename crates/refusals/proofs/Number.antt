@@ -6,8 +6,7 @@ use Prim.Native.Nat.{ℕ, ◌+◌, ◌≤◌, ◌<◌}
 use borrow.Author.Tests.{eq-eqb, ne_eqb, lt-ltb, le-ltb}
 use Rattle.apollo.specs.declared.Replica.{Replica}
 use Rattle.apollo.specs.declared.Setup.{Setup}
-use Rattle.apollo.specs.declared.Verdict.{Verdict}
-use Rattle.apollo.specs.Judging.{verdict}
+use Rattle.apollo.specs.Judging.{Verdict, verdict}
 use Rattle.apollo.specs.Setup.{setup_of}
 use Rattle.apollo.specs.Replica.{valid_record, valid_own, valid_log, valid_masks}
 use Rattle.setup_ranges.specs.Number.{lent_number}

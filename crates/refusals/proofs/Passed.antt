@@ -8,9 +8,8 @@ use lib.Dec.{eqb, ltb}
 use lib.ListN.{length}
 use borrow.Author.Tests.{ltb-false, eqb-true, eqb-false, not-false}
 use Rattle.apollo.specs.declared.Replica.{Replica}
-use Rattle.apollo.specs.declared.Verdict.{Verdict}
 use Rattle.apollo.specs.Frame.{frames_of}
-use Rattle.apollo.specs.Judging.{verdict}
+use Rattle.apollo.specs.Judging.{Verdict, verdict}
 use Rattle.apollo.specs.Setup.{setup_of}
 use Rattle.apollo.specs.Replica.{valid_own, valid_log, valid_replica, valid_masks}
 use Rattle.apollo.proofs.Validity.{ValidOpening, Valid}

@@ -1,8 +1,7 @@
 -- Blames judged with the record and the room: refusals 2 to 8, 16, 14 and 10, each with its place.
 use Rattle.std.specs.Prelude.{List, cond, ℕ, eqb}
 use Rattle.apollo.specs.declared.Replica.{Replica}
-use Rattle.apollo.specs.declared.Verdict.{Verdict}
-use Rattle.apollo.specs.Judging.{verdict}
+use Rattle.apollo.specs.Judging.{Verdict, verdict}
 use Rattle.blame_set.specs.Set.{judged_set}
 use Rattle.refusals.specs.Number.{guard_of}
 

@@ -8,9 +8,8 @@ use mathlib.Core.Bool.{Bool, false}
 use lib.Dec.{eqb}
 use borrow.Author.Tests.{eqb-true, eqb-false}
 use Rattle.sha256.specs.Fips.{sha256}
-use Rattle.apollo.specs.declared.Verdict.{Verdict}
 use Rattle.apollo.specs.declared.Setup.{Setup}
-use Rattle.apollo.specs.Judging.{fault, judged_each}
+use Rattle.apollo.specs.Judging.{Verdict, fault, judged_each}
 use Rattle.apollo.specs.BlockRun.{judged_run}
 use Rattle.apollo.proofs.Fault.{Passes, fault_none, each_number}
 use Rattle.apollo.proofs.BlockRun.{run_number}

@@ -5,9 +5,8 @@ use mathlib.Core.Logic.{inr, ◌≢◌}
 use mathlib.Core.Option.{some}
 use native.Mathlib.Omega.{arith}
 use mathlib.Core.List.{List, [], ◌∷◌, ◌++◌, flatten}
-use Rattle.apollo.specs.declared.Verdict.{Verdict}
 use Rattle.apollo.specs.Enter.{State}
-use Rattle.apollo.specs.Judging.{verdict}
+use Rattle.apollo.specs.Judging.{Verdict, verdict}
 use Rattle.apollo.specs.Fetch.{above}
 use Rattle.apollo.specs.Log.{chain}
 use Rattle.apollo.specs.Outcome.{refused}

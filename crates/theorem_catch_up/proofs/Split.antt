@@ -11,13 +11,12 @@ use lib.Dec.{eqb, leb, ltb}
 use borrow.Author.Tests.{eqb-true, eqb-false, leb-true, leb-false, ltb-true, ltb-false}
 use Rattle.sha256.specs.Fips.{sha256}
 use Rattle.apollo.specs.declared.Setup.{Setup}
-use Rattle.apollo.specs.declared.Verdict.{Verdict}
 use Rattle.apollo.specs.Frame.{round, height}
 use Rattle.apollo.specs.Log.{slot}
 use Rattle.apollo.specs.Masks.{certified, gap}
 use Rattle.apollo.specs.Replica.{leads}
 use Rattle.apollo.specs.Enter.{State, Effect, commit, tipped, holding, entered, proposing, enter_round}
-use Rattle.apollo.specs.Judging.{verdict}
+use Rattle.apollo.specs.Judging.{Verdict, verdict}
 use Rattle.apollo.specs.Outcome.{taken}
 use Rattle.apollo.specs.BlockRun.{last_of, blocks}
 use Rattle.apollo.specs.Branch.{first_uncertified, adopting}

@@ -4,13 +4,12 @@ use Rattle.std.specs.Prelude.{ℕ, ◌+◌, ◌*◌, ◌≤◌, ◌<◌, ◌≡�
 use Rattle.std.proofs.Math.Option.{some}
 use mathlib.Core.List.{List, [], ◌∷◌, ◌++◌, flatten}
 use Rattle.apollo.specs.Size.{entry_most, frame_size, out_least, pair_size}
-use Rattle.apollo.specs.declared.Verdict.{Verdict}
 use Rattle.apollo.specs.Setup.{setup_of}
 use Rattle.apollo.specs.Frame.{round, height, frames}
 use Rattle.apollo.specs.Log.{slot, filled, chain}
 use Rattle.apollo.specs.Committed.{Begins}
 use Rattle.apollo.specs.Enter.{State}
-use Rattle.apollo.specs.Judging.{verdict, no_refusal}
+use Rattle.apollo.specs.Judging.{Verdict, verdict, no_refusal}
 use Rattle.apollo.specs.Outcome.{Outcome}
 use Rattle.apollo.specs.BlockRun.{last_of}
 use Rattle.apollo.specs.Branch.{first_uncertified}
