@@ -4,7 +4,9 @@ use Prim.Native.Nat.{ℕ}
 use Rattle.std.specs.Prelude.{Result, Ok, Err}
 use Rattle.apollo.specs.declared.refusal.Refusal.{Refusal}
 use Rattle.apollo.specs.declared.refusal.Refusal.TheVariants.{BadSetup, BadReplica, RoundsOver, OutTooShort, EntryTooLong, BadLength, BadDigest, BadForm, NotChild, Stale, Unattached, RevertsCommitted, NotCertified, Early, Absent, NotASet, BadRotation, NotEquivocation}
-use Rattle.apollo.specs.Refused.{number, refusal_of}
+use Rattle.apollo.specs.declared.refusal.Refused.{Refused}
+use Rattle.apollo.specs.Judging.{Verdict, verdict, no_refusal}
+use Rattle.apollo.specs.Refused.{number, refusal_of, verdict_of}
 
 pub number_some : (e : Refusal) → number e ≡ 0 → ⊥
 number_some BadSetup h = cc
@@ -36,3 +38,11 @@ module _ {T : Type 0} (r : Result T Refusal) (k : ℕ) (d : refusal_of r ≡ k) 
 
   pub taken_none : (x : T) → r ≡ Ok x → k ≡ 0
   taken_none x h = sym d ∙ ap refusal_of h
+
+-- a refused result has its refusal's number and place, the verdict v, and a result that is not refused has none
+module _ {T : Type 0} (r : Result T Refused) (v : Verdict) (d : verdict_of r ≡ v) where
+  pub refused_verdict : (e : Refused) → r ≡ Err e → verdict (number e.refusal) e.place ≡ v
+  refused_verdict e h = sym (ap verdict_of h) ∙ d
+
+  pub taken_verdict : (x : T) → r ≡ Ok x → no_refusal ≡ v
+  taken_verdict x h = sym (ap verdict_of h) ∙ d

@@ -5,15 +5,11 @@ use mathlib.Core.List.{List, [], ◌∷◌}
 use Prim.Native.Nat.{ℕ, ◌+◌, ◌-◌, ◌*◌, ◌≤◌, ◌<◌}
 use native.Mathlib.Omega.{arith}
 use lib.Dec.{eqb}
-use lib.ListN.{take, drop}
 use borrow.Author.Tests.{eqb-true, eqb-false}
 use Rattle.sha256.specs.Fips.{sha256}
-use Rattle.apollo.specs.Size.{frame_size}
 use Rattle.apollo.specs.declared.Setup.{Setup}
-use Rattle.apollo.specs.Bytes.{part}
 use Rattle.apollo.specs.Frame.{signer, blame_form}
 use Rattle.apollo.specs.Judging.{Verdict, verdict, fault, judged_each}
-use Rattle.frame.proofs.Frames.{rest, rest_next, frame_part}
 use Rattle.frame_forms.proofs.Facts.{BlameFields, blame_fields}
 use Rattle.apollo.proofs.Fault.{fault_none}
 use Rattle.blame_set.specs.Set.{HaveBits}
@@ -36,12 +32,3 @@ each_has_bit s l i (x ∷ xs) e =
     let p = none_first (eqb k 0) k i (judged_each sha256 (blame_form s) (i + 1) xs) refl e in
     let f : BlameFields s x = blame_fields s x (fault_none sha256 (blame_form s) x p.0).1 in
     (omega (arith, f.by_replica), each_has_bit s l (i + 1) xs p.1)
-
--- frame i, and those after it
-pub bits_rest : (b : List ℕ) (n i : ℕ) → i < n → HaveBits (rest b n i)
-    → (signer (part b (frame_size * i) frame_size) < 16) × HaveBits (rest b n (i + 1))
-bits_rest b n i h m = rw (rest_next b n i h) at m
-
-pub bits_lent : (b : List ℕ) (n i : ℕ) → i < n → HaveBits (rest b n i)
-    → signer (take (frame_size * i + frame_size - frame_size * i) (drop (frame_size * i) b)) < 16
-bits_lent b n i h m = rw (frame_part b (frame_size * i)) (bits_rest b n i h m).0

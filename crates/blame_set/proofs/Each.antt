@@ -1,71 +1,62 @@
 -- The frames of a set one by one: joined to the set, looked for in the masks, and added. Assumes nothing.
 use mathlib.Core.Path.{◌≡◌}
 use mathlib.Core.Bool.{Bool, true, false, ◌&&◌, not}
-use mathlib.Core.List.{List}
-use Prim.Native.Nat.{ℕ, ◌+◌, ◌-◌, ◌*◌, ◌≤◌, ◌<◌}
+use mathlib.Core.List.{List, ◌++◌}
+use Prim.Native.Nat.{ℕ, ◌<◌}
 use lib.Dec.{eqb}
-use lib.ListN.{take, drop}
+use lib.ListN.{length}
 use Rattle.apollo.specs.Size.{frame_size}
-use Rattle.apollo.specs.Bytes.{part}
-use Rattle.apollo.specs.Frame.{signer, round}
+use Rattle.apollo.specs.Frame.{signer, round, frames_of}
 use Rattle.apollo.specs.Masks.{bit, set_bit, mask, add_blame}
 use Rattle.apollo.specs.Blame.{one_set, any_fresh, add_blames}
-use Rattle.frame.proofs.Frames.{rest, rest_next, rest_end, frame_part}
+use Rattle.frame.proofs.Walk.{frames_more, frames_done}
+use Rattle.blame_set.specs.Set.{HaveBits}
 
--- frame i of the n frames of b, as the code lends it
-module _ (b : List ℕ) (n i : ℕ) where
-  abbrev lent : List ℕ
-  lent = take (frame_size * i + frame_size - frame_size * i) (drop (frame_size * i) b)
-
-  abbrev x : List ℕ
-  x = part b (frame_size * i) frame_size
-
-  lent_is : lent ≡ x
-  lent_is = frame_part b (frame_size * i)
+-- of the frames left, s, the frame x comes, and then t
+module _ (s : List ℕ) where
+  module _ (x t : List ℕ) (p : s ≡ x ++ t) (h : length x ≡ frame_size) where
+    pub bits_next : HaveBits (frames_of s) → (signer x < 16) × HaveBits (frames_of t)
+    bits_next m = rw (frames_more s x t p h) at m
 
   -- 16
-  module _ (r before : ℕ) (goal : Bool) (e : one_set r before (rest b n i) ≡ goal) where
-    module _ (h : i < n) (c : Bool) (d : c ≡ (eqb (round lent) r && not (bit (signer lent) before))) where
-      joins_is : c ≡ (eqb (round x) r && not (bit (signer x) before))
-      joins_is = rw lent_is at d
-
+  module _ (r before : ℕ) (goal : Bool) (e : one_set r before (frames_of s) ≡ goal) where
+    module _ (x t : List ℕ) (p : s ≡ x ++ t) (h : length x ≡ frame_size) (c : Bool)
+        (d : c ≡ (eqb (round x) r && not (bit (signer x) before))) where
       pub set_stop : c ≡ false → false ≡ goal
       unfolding one_set
-      set_stop z = rw (rest_next b n i h, ← joins_is, z) at e
+      set_stop z = rw (frames_more s x t p h, ← d, z) at e
 
-      pub set_more : (m : ℕ) → c ≡ true → m ≡ set_bit (signer lent) before → one_set r m (rest b n (i + 1)) ≡ goal
+      pub set_more : (m : ℕ) → c ≡ true → m ≡ set_bit (signer x) before → one_set r m (frames_of t) ≡ goal
       unfolding one_set
-      set_more m z f = rw (f, lent_is) (rw (rest_next b n i h, ← joins_is, z) at e)
+      set_more m z f = rw f (rw (frames_more s x t p h, ← d, z) at e)
 
-    pub set_end : n ≤ i → true ≡ goal
+    pub set_end : length s < frame_size → true ≡ goal
     unfolding one_set
-    set_end h = rw (rest_end b n i h) at e
+    set_end h = rw (frames_done s h) at e
 
   module _ (masks : List ℕ) where
     -- 10
-    module _ (goal : Bool) (e : any_fresh masks (rest b n i) ≡ goal) where
-      module _ (h : i < n) (c : Bool) (d : c ≡ bit (signer lent) (mask masks (round lent))) where
-        bit_is : c ≡ bit (signer x) (mask masks (round x))
-        bit_is = rw lent_is at d
-
+    module _ (goal : Bool) (e : any_fresh masks (frames_of s) ≡ goal) where
+      module _ (x t : List ℕ) (p : s ≡ x ++ t) (h : length x ≡ frame_size) (c : Bool) (d : c ≡ bit (signer x) (mask masks (round x))) where
         pub fresh_found : c ≡ false → true ≡ goal
         unfolding any_fresh
-        fresh_found z = rw (rest_next b n i h, ← bit_is, z) at e
+        fresh_found z = rw (frames_more s x t p h, ← d, z) at e
 
-        pub fresh_more : c ≡ true → any_fresh masks (rest b n (i + 1)) ≡ goal
+        pub fresh_more : c ≡ true → any_fresh masks (frames_of t) ≡ goal
         unfolding any_fresh
-        fresh_more z = rw (rest_next b n i h, ← bit_is, z) at e
+        fresh_more z = rw (frames_more s x t p h, ← d, z) at e
 
-      pub fresh_end : n ≤ i → false ≡ goal
+      pub fresh_end : length s < frame_size → false ≡ goal
       unfolding any_fresh
-      fresh_end h = rw (rest_end b n i h) at e
+      fresh_end h = rw (frames_done s h) at e
 
     -- the bits
-    module _ (goal : List ℕ) (e : add_blames masks (rest b n i) ≡ goal) where
-      pub added_more : (y : List ℕ) → i < n → y ≡ add_blame masks (round lent) (signer lent) → add_blames y (rest b n (i + 1)) ≡ goal
+    module _ (goal : List ℕ) (e : add_blames masks (frames_of s) ≡ goal) where
+      pub added_more : (x t : List ℕ) → s ≡ x ++ t → length x ≡ frame_size → (y : List ℕ) → y ≡ add_blame masks (round x) (signer x)
+          → add_blames y (frames_of t) ≡ goal
       unfolding add_blames
-      added_more y h d = rw (d, lent_is) (rw (rest_next b n i h) at e)
+      added_more x t p h y d = rw d (rw (frames_more s x t p h) at e)
 
-      pub added_end : n ≤ i → masks ≡ goal
+      pub added_end : length s < frame_size → masks ≡ goal
       unfolding add_blames
-      added_end h = rw (rest_end b n i h) at e
+      added_end h = rw (frames_done s h) at e

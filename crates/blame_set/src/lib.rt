@@ -7,20 +7,15 @@ ghost use Rattle.apollo.specs.Size.{frame_size};
 ghost use Rattle.apollo.specs.Frame as Frame;
 ghost use Rattle.apollo.specs.Frame.{frames_of};
 ghost use Rattle.apollo.specs.Masks as Masks;
-ghost use Rattle.apollo.specs.Judging as Judging;
+ghost use Rattle.apollo.specs.Judging.{verdict};
+ghost use Rattle.apollo.specs.Refused.{refusal_of, verdict_of};
 ghost use Rattle.apollo.specs.Blame as Blame;
 ghost use Rattle.blame_set.specs.Set as Set;
 ghost use Rattle.blame_set.specs.Set.{HaveBits};
 
 use apollo::size::FRAME;
-use apollo::{Replica, Verdict};
+use apollo::{Refusal, Refused, Replica};
 use frame_forms::Form;
-
-fn refusal(number: u8) -> Verdict
-    ensures { result ≡ Judging.verdict number 0 }
-{
-    Verdict { number, place: 0 }
-}
 
 // Frame x is of round r, and its signer is not in the mask.
 fn joins(x: &[u8], r: u32, before: u16) -> bool
@@ -45,17 +40,12 @@ fn is_one_set(frames: &[u8], r: u32) -> bool
     requires { HaveBits (frames_of frames.now) }
     ensures { result ≡ Blame.one_set r 0 (frames_of frames.now) }
 {
-    let n = frames.len() / FRAME;
-    let mut before = 0u16;
-    let mut i = 0;
-    while i < n {
-        let a = FRAME * i;
-        let e = a + FRAME;
-        if !joins(&frames[a..e], r, before) {
+    let mut before = 0;
+    for x in frames.chunks_exact(FRAME) {
+        if !joins(x, r, before) {
             return false;
         }
-        before = joined(&frames[a..e], before);
-        i += 1;
+        before = joined(x, before);
     }
     true
 }
@@ -72,56 +62,48 @@ fn is_heard(masks: &[u16], x: &[u8]) -> bool
 fn is_any_fresh(masks: &[u16], frames: &[u8]) -> bool
     ensures { result ≡ Blame.any_fresh masks.now (frames_of frames.now) }
 {
-    let n = frames.len() / FRAME;
-    let mut i = 0;
-    while i < n {
-        let a = FRAME * i;
-        let e = a + FRAME;
-        if !is_heard(masks, &frames[a..e]) {
+    for x in frames.chunks_exact(FRAME) {
+        if !is_heard(masks, x) {
             return true;
         }
-        i += 1;
     }
     false
 }
 
 // 16, 14 and 10 of frames that passed 7 and 8.
-fn judge_together(r: Replica, masks: &[u16], frames: &[u8]) -> Verdict
+fn judge_together(r: Replica, masks: &[u16], frames: &[u8]) -> Result<(), Refusal>
     requires { HaveBits (frames_of frames.now) }
-    ensures { result ≡ Set.judged_together r masks.now frames.now }
+    ensures { verdict (refusal_of result) 0 ≡ Set.judged_together r masks.now frames.now }
 {
     let round = frame::round(slices::part(frames, 0, FRAME));
     if !is_one_set(frames, round) {
-        return refusal(apollo::refusal::NOT_A_SET);
+        return Err(Refusal::NotASet);
     }
     if r.round.0 < round {
-        return refusal(apollo::refusal::EARLY);
+        return Err(Refusal::Early);
     }
     if !is_any_fresh(masks, frames) {
-        return refusal(apollo::refusal::STALE);
+        return Err(Refusal::Stale);
     }
-    refusal(0)
+    Ok(())
 }
 
 // 7 and 8 frame by frame, and what follows them.
-fn judge_frames(r: Replica, masks: &[u16], frames: &[u8]) -> Verdict
+fn judge_frames(r: Replica, masks: &[u16], frames: &[u8]) -> Result<(), Refused>
     requires { (r.f ≤ 7) × (length frames.now ≤ frame_size * 15) }
-    ensures { result ≡ Set.judged_frames r masks.now frames.now }
+    ensures { verdict_of result ≡ Set.judged_frames r masks.now frames.now }
 {
-    let each = judging::judge_each(Form::Blame, record::setup(r), frames);
-    if each.number != 0 {
-        return each;
-    }
-    judge_together(r, masks, frames)
+    judging::judge_each(Form::Blame, record::setup(r), frames)?;
+    Ok(judge_together(r, masks, frames)?)
 }
 
 // A set of 1 to `most` blames judged in place.
-pub fn judge_set(most: u32, r: Replica, masks: &[u16], frames: &[u8]) -> Verdict
+pub fn judge_set(most: u32, r: Replica, masks: &[u16], frames: &[u8]) -> Result<(), Refused>
     requires { (r.f ≤ 7) × (most ≤ 15) }
-    ensures { result ≡ Set.judged_set most r masks.now frames.now }
+    ensures { verdict_of result ≡ Set.judged_set most r masks.now frames.now }
 {
     if !frame::is_whole(most, frames) {
-        return refusal(apollo::refusal::BAD_LENGTH);
+        return Err(Refusal::BadLength.into());
     }
     judge_frames(r, masks, frames)
 }
@@ -141,12 +123,7 @@ pub fn add_blames(masks: &mut [u16], frames: &[u8])
     requires { HaveBits (frames_of frames.now) }
     ensures { masks.new ≡ Blame.add_blames masks.old (frames_of frames.now) }
 {
-    let n = frames.len() / FRAME;
-    let mut i = 0;
-    while i < n {
-        let a = FRAME * i;
-        let e = a + FRAME;
-        add_frame(masks, &frames[a..e]);
-        i += 1;
+    for x in frames.chunks_exact(FRAME) {
+        add_frame(masks, x);
     }
 }

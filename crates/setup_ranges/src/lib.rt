@@ -3,9 +3,10 @@
 
 ghost use Rattle.std.specs.Prelude.{◌≡◌, ◌&&◌};
 ghost use Rattle.apollo.specs.Bytes.{within};
+ghost use Rattle.apollo.specs.Refused.{refusal_of};
 ghost use Rattle.setup_ranges.specs.Number.{lent_number};
 
-use apollo::Setup;
+use apollo::{Refusal, Setup};
 
 // f and T are in range.
 pub fn valid_limits(f: u8, last_round: u32) -> bool
@@ -14,17 +15,17 @@ pub fn valid_limits(f: u8, last_round: u32) -> bool
     ((1 <= f) & (f <= 7)) & ((1 <= last_round) & (last_round <= 4096))
 }
 
-// 1 and 17 of a set-up that has the rotation padded, 0 if there is none; `length` is how long that was.
-pub fn refusal(s: Setup, length: usize) -> u8
-    ensures { result ≡ lent_number s length }
+// 1 and 17 of a set-up that has the rotation padded; `length` is how long that was.
+pub fn refusal(s: Setup, length: usize) -> Result<(), Refusal>
+    ensures { refusal_of result ≡ lent_number s length }
 {
     if !valid_limits(s.f, s.last_round.0) {
-        return apollo::refusal::BAD_SETUP;
+        return Err(Refusal::BadSetup);
     }
     let seats = s.rotation;
     let n = 2 * (s.f as usize) + 1;
     if !((length == n) & rotation::valid_rotation(seats, n)) {
-        return apollo::refusal::BAD_ROTATION;
+        return Err(Refusal::BadRotation);
     }
-    0
+    Ok(())
 }

@@ -6,8 +6,7 @@ use Rattle.blame_set.proofs.judge_set.Goals as goal
 
 pub returns-then-not-is_whole : goal.returns-then-not-is_whole
 returns-then-not-is_whole c =
-    c.refusal.ensures
-    ∙ set_cut c.args.r c.args.masks.now c.args.frames.now c.args.most _ c.is_whole.ensures c.if-not-is_whole.true
+    rw c.into.ensures (set_cut c.args.r c.args.masks.now c.args.frames.now c.args.most _ c.is_whole.ensures c.if-not-is_whole.true)
 
 pub judge_frames-requires : goal.judge_frames-requires
 judge_frames-requires c =
