@@ -24,8 +24,7 @@ use Rattle.branch_links.proofs.Ordered.{ordered}
 use Rattle.branch_rounds.proofs.Grown.{keeps_grown}
 use Rattle.apollo.proofs.Validity.{Valid}
 use Rattle.apollo.proofs.Validity.{valid}
-use Rattle.branch.specs.declared.Judged.{Judged}
-use Rattle.branch.specs.Judge.{refusal, accepted, judged_on, judged_at, judged_whole, judged_branch, adopted, answered}
+use Rattle.branch.specs.Judge.{Judged, refusal, accepted, judged_on, judged_at, judged_whole, judged_branch, adopted, answered}
 use Rattle.apollo.proofs.Frames.{WholeFrames, whole_true, frames_split}
 use Rattle.branch.proofs.Frames.{last_is}
 

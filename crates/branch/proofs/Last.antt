@@ -20,8 +20,7 @@ use Rattle.apollo.specs.BlockRun.{last_of, block, blocks, judged_run}
 use Rattle.frame_forms.proofs.Facts.{BlockFields, block_fields}
 use Rattle.apollo.proofs.BlockRun.{block_parts, blocks_parts, blocks_judged}
 use Rattle.slots.specs.Slots.{Slotted}
-use Rattle.branch.specs.declared.Judged.{Judged}
-use Rattle.branch.specs.Judge.{refusal, judged_at, judged_whole, judged_branch}
+use Rattle.branch.specs.Judge.{Judged, refusal, judged_at, judged_whole, judged_branch}
 use Rattle.apollo.proofs.Frames.{WholeFrames, whole_true, frames_split, frames_whole}
 use Rattle.branch.proofs.Frames.{last_is}
 

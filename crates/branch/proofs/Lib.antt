@@ -1,4 +1,4 @@
-pub mod Frames
 pub mod Judge
+pub mod Frames
 pub mod Answer
 pub mod Last

@@ -1,5 +1,5 @@
 -- A branch judged: refusals 6 to 13 in their order, each with its place, and what taking it does.
-use Rattle.std.specs.Prelude.{ℕ, ◌-◌, List, cond, eqb, ltb}
+use Rattle.std.specs.Prelude.{ℕ, ◌-◌, List, cond, eqb, ltb, Result, Ok, Err}
 use Rattle.std.proofs.Math.Option.{Option, none, some}
 use Rattle.sha256.specs.Fips.{sha256}
 use Rattle.apollo.specs.declared.Replica.{Replica}
@@ -9,13 +9,18 @@ use Rattle.apollo.specs.Log.{attach}
 use Rattle.apollo.specs.Enter.{State, Effect, holding, enter_round}
 use Rattle.apollo.specs.Outcome as Outcome
 use Rattle.apollo.specs.Judging.{Verdict}
+use Rattle.apollo.specs.declared.refusal.Refused.{Refused}
+use Rattle.apollo.specs.Refused.{number}
 use Rattle.apollo.specs.BlockRun.{judged_run}
 use Rattle.apollo.specs.Branch.{first_uncertified, grown}
 use Rattle.apollo.specs.Refusal.{bad_length, stale, unattached, reverts_committed, not_certified}
-use Rattle.branch_rounds.specs.declared.Gap.{Gap}
-use Rattle.branch_rounds.specs.declared.Gap.TheVariants.{Uncertified, Closed}
 use Rattle.branch_rounds.specs.Keeps.{keeps_all}
-use Rattle.branch.specs.declared.Judged.{Judged}
+
+-- a refusal's number and its place, 0 and 0 if there is none, and then the round that the branch attaches to
+pub record Judged : Type 0 where
+  pub number : ℕ
+  pub place : ℕ
+  pub attach : ℕ
 
 -- refused with a number and a place; accepted on round a
 abbrev pub refusal : (number place : ℕ) → Judged
@@ -24,10 +29,10 @@ refusal number place = record { number = number; place = place; attach = 0 }
 abbrev pub accepted : (a : ℕ) → Judged
 accepted a = record { number = 0; place = 0; attach = a }
 
--- the place of 13: the skipped round that is not certified, 0 if there is none
-abbrev pub place_of : Gap → ℕ
-place_of (Uncertified r) = r
-place_of Closed = 0
+-- what the code's result means
+abbrev pub judged_of : Result ℕ Refused → Judged
+judged_of (Ok a) = accepted a
+judged_of (Err e) = refusal (number e.refusal) e.place
 
 -- 13 and 12 of a branch on round a
 unfoldable pub judged_on : Replica → (log masks bytes : List ℕ) (a : ℕ) → Judged

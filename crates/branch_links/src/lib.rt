@@ -8,13 +8,6 @@ ghost use Rattle.branch_links.specs.Answers.{attach_of};
 
 use apollo::size::FRAME;
 
-// Where a frame attaches: the round of a slot, 0 for the genesis.
-#[derive(Clone, Copy)]
-pub enum Attachment {
-    At(u32),
-    Nowhere,
-}
-
 // Frame x attaches to slot r.
 fn attaches(log: &[u8], x: &[u8], r: u32) -> bool
     requires { 0 < r }
@@ -37,19 +30,19 @@ fn attaches_genesis(x: &[u8]) -> bool
 }
 
 // The round that frame x attaches to: the highest such slot below its own, the genesis last.
-pub fn attach(log: &[u8], x: &[u8]) -> Attachment
+pub fn attach(log: &[u8], x: &[u8]) -> Option<u32>
     ensures { attach_of result ≡ Log.attach log.now x.now (Frame.round x.now - 1) }
 {
     let mut r = apollo::previous(frame::round(x));
     while 0 < r {
         if attaches(log, x, r) {
-            return Attachment::At(r);
+            return Some(r);
         }
         r -= 1;
     }
     if attaches_genesis(x) {
-        Attachment::At(0)
+        Some(0)
     } else {
-        Attachment::Nowhere
+        None
     }
 }

@@ -13,8 +13,8 @@ use Rattle.apollo.specs.Frame.{round}
 use Rattle.apollo.specs.Masks.{certified, gap}
 use Rattle.apollo.specs.Branch.{first_uncertified}
 use Rattle.frame.proofs.Frames.{rest, rest_next, rest_end, frame_part}
-use Rattle.branch_rounds.specs.declared.Gap.TheVariants.{Uncertified, Closed}
-use Rattle.branch_rounds.specs.Answers.{gap_at}
+use Rattle.std.specs.Prelude.{Some, None}
+use Rattle.apollo.specs.Found.{found}
 
 module _ (s : Setup) (masks : List ℕ) where
   -- what is left of the walk, with the rounds up to p passed on the way to a frame of round `to`, and frames xs after it
@@ -52,11 +52,11 @@ module _ (s : Setup) (masks : List ℕ) where
   end b lo n i h = rw (rest_end b n i h)
 
 -- what is told: no round, and a round
-pub told_none : (q : ℕ) → 0 ≡ q → Closed ≡ gap_at q
-unfolding gap_at
-told_none q e = ap gap_at e
+pub told_none : (q : ℕ) → 0 ≡ q → None ≡ found q
+unfolding found
+told_none q e = ap found e
 
-pub told_round : (p q : ℕ) → 0 < p → p ≡ q → Uncertified p ≡ gap_at q
-unfolding gap_at
+pub told_round : (p q : ℕ) → 0 < p → p ≡ q → Some p ≡ found q
+unfolding found
 told_round p zero h e = absurd (omega arith)
-told_round p (suc q) h e = ap Uncertified e
+told_round p (suc q) h e = ap Some e

@@ -5,29 +5,22 @@
 ghost use Rattle.std.specs.Prelude.{◌≡◌};
 ghost use Rattle.apollo.specs.Frame.{frames_of};
 ghost use Rattle.apollo.specs.Branch as Branch;
-ghost use Rattle.branch_rounds.specs.Answers.{gap_at};
+ghost use Rattle.apollo.specs.Found.{found};
 ghost use Rattle.branch_rounds.specs.Keeps.{keeps_frame, keeps_all};
 
 use apollo::Setup;
 use apollo::size::FRAME;
 
-// The first skipped round that is not certified.
-#[derive(Clone, Copy)]
-pub enum Gap {
-    Uncertified(u32),
-    Closed,
-}
-
 // The first round that the frames skip, the first of them on round a, and that is not certified.
-pub fn first_uncertified(s: Setup, masks: &[u16], a: u32, frames: &[u8]) -> Gap
-    ensures { result ≡ gap_at (Branch.first_uncertified s masks.now a (frames_of frames.now)) }
+pub fn first_uncertified(s: Setup, masks: &[u16], a: u32, frames: &[u8]) -> Option<u32>
+    ensures { result ≡ found (Branch.first_uncertified s masks.now a (frames_of frames.now)) }
 {
     let n = frames.len() / FRAME;
     let mut lo = a;
     let mut i = 0;
     let found = 'walk: loop {
         if n <= i {
-            break 'walk Gap::Closed;
+            break 'walk None;
         }
         let start = FRAME * i;
         let e = start + FRAME;
@@ -37,7 +30,7 @@ pub fn first_uncertified(s: Setup, masks: &[u16], a: u32, frames: &[u8]) -> Gap
         while p + 1 < end {
             let place = (p + 1) as u32;
             if !masks::certified(s, masks, place) {
-                break 'walk Gap::Uncertified(place);
+                break 'walk Some(place);
             }
             p += 1;
         }

@@ -25,9 +25,8 @@ fn hand_in(
         ≡ handing sha256 most (state replica log.old masks.old) frames.now entry.now
         out.old }
 {
-    let judged = refusals::of_blames(most, replica, log, masks, frames, entry.len(), out.len());
-    if judged.number != 0 {
-        return calls::refused(replica, judged.number, judged.place);
+    if let Err(e) = refusals::of_blames(most, replica, log, masks, frames, entry.len(), out.len()) {
+        return calls::refused(replica, e);
     }
     blame_set::add_blames(masks, frames);
     let round = frame::round(slices::part(frames, 0, FRAME));

@@ -16,8 +16,7 @@ use Rattle.apollo.specs.Outcome.{Outcome, refused, taken, outcome}
 use Rattle.apollo.specs.Branch.{grown, branch_with}
 use Rattle.frame_forms.proofs.Facts.{BlockFields}
 use Rattle.slots.specs.Slots.{Slotted}
-use Rattle.branch.specs.declared.Judged.{Judged}
-use Rattle.branch.specs.Judge.{adopted, answered}
+use Rattle.branch.specs.Judge.{Judged, adopted, answered}
 use Rattle.branch.proofs.Last.{branch_sound}
 use Rattle.refusals.specs.Branch.{guarded_branch}
 use Rattle.refusals.proofs.Passed.{Passed, branch_passed}

@@ -19,10 +19,11 @@ pub fn branch(
         ≡ branch_call (state replica log.old masks.now) frames.now entry.now
         out.old }
 {
-    let judged = refusals::of_branch(replica, log, masks, frames, entry.len(), out.len());
-    if judged.number != 0 {
-        return calls::refused(replica, judged.number, judged.place);
+    match refusals::of_branch(replica, log, masks, frames, entry.len(), out.len()) {
+        Ok(attach) => {
+            let q = tip::adopt(replica, log, attach, frames);
+            rounds::enter_round(q, log, entry, out)
+        }
+        Err(e) => calls::refused(replica, e),
     }
-    let q = tip::adopt(replica, log, judged.attach, frames);
-    rounds::enter_round(q, log, entry, out)
 }

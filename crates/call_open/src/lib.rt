@@ -23,11 +23,10 @@ pub fn open(
         entry.now out.old }
 {
     let r = record::fresh(id, f, timeout, last_round, rotation);
-    let number = refusals::of_open(r, rotation.len(), log, masks, entry.len(), out.len());
-    if number != 0 {
-        return calls::refused(record::zero_replica(), number, 0);
+    if let Err(e) = refusals::of_open(r, rotation.len(), log, masks, entry.len(), out.len()) {
+        return calls::refused(record::zero_replica(), e.into());
     }
-    slices::clear(log);
-    masks::clear(masks);
+    log.fill(0);
+    masks.fill(0);
     rounds::enter_round(r, log, entry, out)
 }

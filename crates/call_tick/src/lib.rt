@@ -19,9 +19,8 @@ pub fn tick(
         ≡ tick_call (state replica log.old masks.old) entry.now out.old }
 {
     let is_valid = record_ranges::valid_record(replica);
-    let number = refusals::guard(is_valid, replica, log, masks, entry.len(), out.len());
-    if number != 0 {
-        return calls::refused(replica, number, 0);
+    if let Err(e) = refusals::guard(is_valid, replica, log, masks, entry.len(), out.len()) {
+        return calls::refused(replica, e.into());
     }
     if replica.timer.0 != 1 {
         return rounds::count_down(replica);
@@ -30,6 +29,6 @@ pub fn tick(
     frame_writing::put_blame(out, replica.id, round);
     let q = record::with_timer(replica, 0);
     let mut a = rounds::hear(q, log, masks, round, replica.id, entry, &mut out[FRAME..]);
-    a.frames = a.frames + 1;
+    a.frames += 1;
     a
 }

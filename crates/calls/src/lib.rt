@@ -2,19 +2,20 @@
 #![tactic(auto)]
 
 ghost use Rattle.std.specs.Prelude.{◌≡◌};
+ghost use Rattle.apollo.specs.Refused.{number};
 ghost use Rattle.calls.specs.Refused.{refused_answer};
 
-use apollo::{Answer, Replica};
+use apollo::{Answer, Refused, Replica};
 
 // The answer of a refusal.
-pub fn refused(r: Replica, number: u8, place: u32) -> Answer
-    ensures { result ≡ refused_answer r number place }
+pub fn refused(r: Replica, e: Refused) -> Answer
+    ensures { result ≡ refused_answer r (number e.refusal) e.place }
 {
     Answer {
-        number,
+        number: e.refusal.into(),
         frames: 0,
         leader: 255,
-        place,
+        place: e.place,
         replica: r,
     }
 }

@@ -19,8 +19,7 @@ use Rattle.apollo.specs.Outcome.{Outcome, refused, taken, guarded}
 use Rattle.apollo.specs.Open.{open_with}
 use Rattle.apollo.specs.Branch.{branch_with}
 use Rattle.apollo.specs.Blame.{handing}
-use Rattle.branch.specs.declared.Judged.{Judged}
-use Rattle.branch.specs.Judge.{refusal, judged_branch, answered}
+use Rattle.branch.specs.Judge.{Judged, refusal, judged_branch, answered}
 use Rattle.branch.proofs.Answer.{branch_answer}
 use Rattle.blame_set.specs.Set as Set
 use Rattle.blame_set.specs.Set.{judged_set}

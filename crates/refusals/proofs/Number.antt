@@ -10,8 +10,7 @@ use Rattle.apollo.specs.Judging.{Verdict, verdict}
 use Rattle.apollo.specs.Setup.{setup_of}
 use Rattle.apollo.specs.Replica.{valid_record, valid_own, valid_log, valid_masks}
 use Rattle.setup_ranges.specs.Number.{lent_number}
-use Rattle.branch.specs.declared.Judged.{Judged}
-use Rattle.branch.specs.Judge.{refusal, judged_branch}
+use Rattle.branch.specs.Judge.{Judged, refusal, judged_branch}
 use Rattle.blame_set.specs.Set.{judged_set}
 use Rattle.refusals.specs.Number.{room_number, open_number, guard_number, guard_of}
 use Rattle.refusals.specs.Blames.{guarded_set}
@@ -33,16 +32,15 @@ module _ (entry out : ℕ) where
 
 module _ (r : Replica) (log masks : List ℕ) (entry out : ℕ) where
   -- 1 and 17, by the set-up's own number and the other tests of 1
-  module _ (size n : ℕ) (s : Setup) (es : s ≡ setup_of r) (en : n ≡ lent_number s size) (o l m : Bool) (eo : o ≡ valid_own r)
-      (el : l ≡ valid_log r log) (em : m ≡ valid_masks r masks) where
-    number_is : n ≡ lent_number (setup_of r) size
-    number_is = rw es at en
-
+  module _ (size : ℕ) (o l m : Bool) (eo : o ≡ valid_own r) (el : l ≡ valid_log r log) (em : m ≡ valid_masks r masks) where
     pub open_lent : (o && l && m) ≡ false → 1 ≡ open_number r size log masks entry out
     unfolding open_number
     open_lent t = rw (← eo, ← el, ← em, t)
 
-    module _ (t : (o && l && m) ≡ true) where
+    module _ (t : (o && l && m) ≡ true) (n : ℕ) (s : Setup) (es : s ≡ setup_of r) (en : n ≡ lent_number s size) where
+      number_is : n ≡ lent_number (setup_of r) size
+      number_is = rw es at en
+
       pub open_setup : (n ≡ 0 → ⊥) → n ≡ open_number r size log masks entry out
       unfolding open_number
       open_setup h = rw (← eo, ← el, ← em, ← number_is, t, ne_eqb n 0 h)

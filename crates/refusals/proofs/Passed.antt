@@ -17,8 +17,7 @@ use Rattle.apollo.proofs.Tests.{and_first, and-true}
 use Rattle.apollo.proofs.Validity.{valid_opening, valid}
 use Rattle.setup_ranges.specs.Number.{lent_number}
 use Rattle.setup_ranges.proofs.Number.{lent_limits}
-use Rattle.branch.specs.declared.Judged.{Judged}
-use Rattle.branch.specs.Judge.{refusal, judged_branch}
+use Rattle.branch.specs.Judge.{Judged, refusal, judged_branch}
 use Rattle.blame_set.specs.Set.{HaveBits, judged_set}
 use Rattle.blame_set.proofs.Answer.{set_bits}
 use Rattle.refusals.specs.Number.{room_number, open_number, guard_number, guard_of}

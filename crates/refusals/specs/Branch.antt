@@ -1,8 +1,7 @@
 -- A branch judged with the record and the room: refusals 2 to 13, each with its place.
 use Rattle.std.specs.Prelude.{List, cond, ℕ, eqb}
 use Rattle.apollo.specs.declared.Replica.{Replica}
-use Rattle.branch.specs.declared.Judged.{Judged}
-use Rattle.branch.specs.Judge.{refusal, judged_branch}
+use Rattle.branch.specs.Judge.{Judged, refusal, judged_branch}
 use Rattle.refusals.specs.Number.{guard_of}
 
 unfoldable pub guarded_branch : Replica → (log masks bytes : List ℕ) (entry out : ℕ) → Judged

@@ -1,58 +1,55 @@
-// What refuses a call: the number of the first refusal, 0 if there is none, and for a branch and for blames its place. Of the entry
-// and the out buffer the length is enough. Every public function takes any record, and slices of any length and content; `guard` is told
+// What refuses a call: the first refusal, and for a branch and for blames its place. Of the entry and the out buffer the length is enough. Every public function takes any record, and slices of any length and content; `guard` is told
 // whether the record, by itself, is valid.
 #![tactic(auto)]
 
 ghost use Rattle.std.specs.Prelude.{◌≡◌, ◌≤◌};
+ghost use Rattle.apollo.specs.Refused.{refusal_of, verdict_of};
+ghost use Rattle.branch.specs.Judge.{judged_of};
 ghost use Rattle.refusals.specs.Number.{room_number, open_number, guard_number};
 ghost use Rattle.refusals.specs.Blames.{guarded_set};
 ghost use Rattle.refusals.specs.Branch.{guarded_branch};
 
 use apollo::size::{ENTRY, OUT};
-use apollo::{Replica, Verdict};
-use branch::Judged;
+use apollo::{Refusal, Refused, Replica};
 
 // 4 and 5.
-fn judge_room(entry: usize, out: usize) -> u8
-    ensures { result ≡ room_number entry out }
+fn judge_room(entry: usize, out: usize) -> Result<(), Refusal>
+    ensures { refusal_of result ≡ room_number entry out }
 {
     if out < OUT {
-        return apollo::refusal::OUT_TOO_SHORT;
+        return Err(Refusal::OutTooShort);
     }
     if ENTRY < entry {
-        return apollo::refusal::ENTRY_TOO_LONG;
+        return Err(Refusal::EntryTooLong);
     }
-    0
+    Ok(())
 }
 
 // Open: 1, 17, 4 and 5. The record has the rotation, padded; `length` is how long that was.
-pub fn of_open(r: Replica, length: usize, log: &[u8], masks: &[u16], entry: usize, out: usize) -> u8
-    ensures { result ≡ open_number r length log.now masks.now entry out }
+pub fn of_open(r: Replica, length: usize, log: &[u8], masks: &[u16], entry: usize, out: usize) -> Result<(), Refusal>
+    ensures { refusal_of result ≡ open_number r length log.now masks.now entry out }
 {
-    let setup = setup_ranges::refusal(record::setup(r), length);
     if !(record_ranges::valid_own(r)
         & record_ranges::valid_log(r, log)
         & record_ranges::valid_masks(r, masks))
     {
-        return apollo::refusal::BAD_SETUP;
+        return Err(Refusal::BadSetup);
     }
-    if setup != 0 {
-        return setup;
-    }
+    setup_ranges::refusal(record::setup(r), length)?;
     judge_room(entry, out)
 }
 
 // Tick, branch, blame and blames: 2 to 5. The caller tests the record by itself, from its own copy: the compiler then makes no other.
-pub fn guard(is_valid: bool, r: Replica, log: &[u8], masks: &[u16], entry: usize, out: usize) -> u8
-    ensures { result ≡ guard_number is_valid r log.now masks.now entry out }
+pub fn guard(is_valid: bool, r: Replica, log: &[u8], masks: &[u16], entry: usize, out: usize) -> Result<(), Refusal>
+    ensures { refusal_of result ≡ guard_number is_valid r log.now masks.now entry out }
 {
     if !(is_valid & record_ranges::valid_log(r, log) & record_ranges::valid_masks(r, masks)) {
-        return apollo::refusal::BAD_REPLICA;
+        return Err(Refusal::BadReplica);
     }
     let round = r.round.0 as u64;
     let end = r.last_round.0 as u64 + 1;
     if round == end {
-        return apollo::refusal::ROUNDS_OVER;
+        return Err(Refusal::RoundsOver);
     }
     judge_room(entry, out)
 }
@@ -66,19 +63,16 @@ pub fn of_blames(
     frames: &[u8],
     entry: usize,
     out: usize,
-) -> Verdict
+) -> Result<(), Refused>
     requires { most ≤ 15 }
-    ensures { result ≡ guarded_set most r log.now masks.now frames.now entry out }
+    ensures { verdict_of result ≡ guarded_set most r log.now masks.now frames.now entry out }
 {
     let is_valid = record_ranges::valid_record(r);
-    let number = guard(is_valid, r, log, masks, entry, out);
-    if number != 0 {
-        return Verdict { number, place: 0 };
-    }
+    guard(is_valid, r, log, masks, entry, out)?;
     blame_set::judge_set(most, r, masks, frames)
 }
 
-// Branch: 2 to 5, then 6 to 13.
+// Branch: 2 to 5, then 6 to 13; else the round that it attaches to.
 pub fn of_branch(
     r: Replica,
     log: &[u8],
@@ -86,17 +80,9 @@ pub fn of_branch(
     frames: &[u8],
     entry: usize,
     out: usize,
-) -> Judged
-    ensures { result ≡ guarded_branch r log.now masks.now frames.now entry out }
+) -> Result<u32, Refused>
+    ensures { judged_of result ≡ guarded_branch r log.now masks.now frames.now entry out }
 {
-    let is_valid = record_ranges::valid_record(r);
-    let number = guard(is_valid, r, log, masks, entry, out);
-    if number != 0 {
-        return Judged {
-            number,
-            place: 0,
-            attach: 0,
-        };
-    }
+    guard(record_ranges::valid_record(r), r, log, masks, entry, out)?;
     branch::judge_branch(r, log, masks, frames)
 }

@@ -1,22 +1,30 @@
--- `refusals::of_blames` meets its contract. By the number of 2 to 5, and the set's verdict behind it.
-use Rattle.std.proofs.Common.{sym, ◌∙◌}
+-- `refusals::of_blames` meets its contract. By 2 to 5, and the set's verdict behind them.
+use Rattle.std.proofs.Common.{◌≡◌, ℕ, refl, sym, ◌∙◌}
+use Rattle.std.proofs.lemmas.Result.{err_from_is_err_and}
+use Rattle.apollo.proofs.Numbers.{number_some, refused_number, taken_none}
 use Rattle.refusals.proofs.Number.{guard_of_lem, set_guarded, set_judged}
 use Rattle.refusals.proofs.Passed.{passed}
 use Rattle.refusals.proofs.of_blames.Goals as goal
 
-pub returns-then-number-ne0 : goal.returns-then-number-ne0
-returns-then-number-ne0 c =
-    set_guarded c.args.r c.args.log.now c.args.masks.now c.args.entry c.args.out _
-    (guard_of_lem _ _ _ _ _ c.valid_record-is_valid.ensures c.guard-number.ensures) c.args.most c.args.frames.now c.if-number-ne0.true
+pub returns-in_err-guard : goal.returns-in_err-guard
+returns-in_err-guard c =
+    let a = c.args in
+    let p = err_from_is_err_and c.from_residual.result c.from_residual.ensures.1 in
+    rw (p.1, p.2)
+    (set_guarded a.r a.log.now a.masks.now a.entry a.out _
+    (guard_of_lem _ _ _ _ _ c.valid_record-is_valid.ensures (refused_number _ _ c.guard.ensures _ c.in_err-guard.was)) a.most a.frames.now
+    (number_some c.in_err-guard.field-0.0))
 
 pub judge_set-requires : goal.judge_set-requires
 judge_set-requires c =
-    let g = guard_of_lem _ _ _ _ _ c.valid_record-is_valid.ensures c.guard-number.ensures in
-    let p = passed c.args.r c.args.log.now c.args.masks.now c.args.entry c.args.out (sym g ∙ c.if-number-ne0.false) in
+    let a = c.args in
+    let g = guard_of_lem _ _ _ _ _ c.valid_record-is_valid.ensures c.guard.ensures in
+    let p = passed a.r a.log.now a.masks.now a.entry a.out (sym g ∙ taken_none _ _ refl _ c.in_ok-guard.was) in
     (p.valid.setup.f_most, c.requires)
 
 pub returns : goal.returns
 returns c =
-    set_judged c.args.r c.args.log.now c.args.masks.now c.args.entry c.args.out _
-    (guard_of_lem _ _ _ _ _ c.valid_record-is_valid.ensures c.guard-number.ensures) c.args.most c.args.frames.now _
-    c.if-number-ne0.false c.judge_set.ensures
+    let a = c.args in
+    set_judged a.r a.log.now a.masks.now a.entry a.out _
+    (guard_of_lem _ _ _ _ _ c.valid_record-is_valid.ensures c.guard.ensures) a.most a.frames.now _
+    (taken_none _ _ refl _ c.in_ok-guard.was) c.judge_set.ensures
