@@ -1,20 +1,22 @@
 -- `call_tick::tick` meets its contract. By what a tick answers behind its refusals.
-use Rattle.std.proofs.Common.{arith}
+use Rattle.std.proofs.Common.{refl, arith}
+use Rattle.apollo.proofs.Numbers.{number_some, refused_number, taken_none}
 use Rattle.refusals.proofs.Number.{guard_of_lem}
 use Rattle.call_tick.proofs.Call.{tick_refused, tick_down, tick_passed, tick_asks, tick_out, frames_few}
 use Rattle.call_tick.proofs.tick.Goals as goal
 
-pub returns-then-number-ne0 : goal.returns-then-number-ne0
-returns-then-number-ne0 c =
+pub returns-in-Err : goal.returns-in-Err
+returns-in-Err c =
     let a = c.args in
     tick_refused a.replica a.log.now a.masks.now a.entry.now a.out.now _
-    (guard_of_lem _ _ _ _ _ c.valid_record-is_valid.ensures c.guard-number.ensures) _ c.if-number-ne0.true c.refused.ensures
+    (guard_of_lem _ _ _ _ _ c.valid_record-is_valid.ensures (refused_number _ _ c.guard.ensures _ c.in-Err.is)) _ (number_some c.in-Err.e)
+    (rw c.into.ensures at c.refused.ensures)
 
 pub returns-then-replica-ne1 : goal.returns-then-replica-ne1
 returns-then-replica-ne1 c =
     let a = c.args in
     tick_down a.replica a.log.now a.masks.now a.entry.now a.out.now _
-    (guard_of_lem _ _ _ _ _ c.valid_record-is_valid.ensures c.guard-number.ensures) c.if-number-ne0.false _ c.if-replica-ne1.true
+    (guard_of_lem _ _ _ _ _ c.valid_record-is_valid.ensures c.guard.ensures) (taken_none _ _ refl _ c.in_default.is) _ c.if-replica-ne1.true
     c.count_down.ensures
 
 pub put_blame-requires : goal.put_blame-requires
@@ -22,7 +24,7 @@ put_blame-requires c =
     let a = c.args in
     let p =
     tick_passed a.replica a.log.now a.masks.now a.entry.now a.out.now _
-    (guard_of_lem _ _ _ _ _ c.valid_record-is_valid.ensures c.guard-number.ensures) c.if-number-ne0.false in
+    (guard_of_lem _ _ _ _ _ c.valid_record-is_valid.ensures c.guard.ensures) (taken_none _ _ refl _ c.in_default.is) in
     omega (arith, p.out_room)
 
 pub slice_bounds-hear-count : goal.slice_bounds-hear-count
@@ -30,7 +32,7 @@ slice_bounds-hear-count c =
     let a = c.args in
     let p =
     tick_passed a.replica a.log.now a.masks.now a.entry.now a.out.now _
-    (guard_of_lem _ _ _ _ _ c.valid_record-is_valid.ensures c.guard-number.ensures) c.if-number-ne0.false in
+    (guard_of_lem _ _ _ _ _ c.valid_record-is_valid.ensures c.guard.ensures) (taken_none _ _ refl _ c.in_default.is) in
     omega (arith, p.out_room, c.put_blame.auto.out)
 
 pub slice_bounds-hear-start : goal.slice_bounds-hear-start
@@ -38,14 +40,14 @@ slice_bounds-hear-start c =
     let a = c.args in
     let p =
     tick_passed a.replica a.log.now a.masks.now a.entry.now a.out.now _
-    (guard_of_lem _ _ _ _ _ c.valid_record-is_valid.ensures c.guard-number.ensures) c.if-number-ne0.false in
+    (guard_of_lem _ _ _ _ _ c.valid_record-is_valid.ensures c.guard.ensures) (taken_none _ _ refl _ c.in_default.is) in
     omega (arith, p.out_room, c.put_blame.auto.out)
 
 pub hear-a-requires : goal.hear-a-requires
 hear-a-requires c =
     let a = c.args in
     tick_asks a.replica a.log.now a.masks.now a.entry.now a.out.now _
-    (guard_of_lem _ _ _ _ _ c.valid_record-is_valid.ensures c.guard-number.ensures) c.if-number-ne0.false _ c.put_blame.ensures _
+    (guard_of_lem _ _ _ _ _ c.valid_record-is_valid.ensures c.guard.ensures) (taken_none _ _ refl _ c.in_default.is) _ c.put_blame.ensures _
     c.with_timer-q.ensures
 
 pub overflow_add-a : goal.overflow_add-a
@@ -55,5 +57,5 @@ pub returns : goal.returns
 returns c =
     let a = c.args in
     tick_out a.replica a.log.now a.masks.now a.entry.now a.out.now _
-    (guard_of_lem _ _ _ _ _ c.valid_record-is_valid.ensures c.guard-number.ensures) c.if-number-ne0.false _ c.put_blame.ensures _ _ _ _ _
+    (guard_of_lem _ _ _ _ _ c.valid_record-is_valid.ensures c.guard.ensures) (taken_none _ _ refl _ c.in_default.is) _ c.put_blame.ensures _ _ _ _ _
     c.if-replica-ne1.false c.with_timer-q.ensures c.hear-a.ensures
