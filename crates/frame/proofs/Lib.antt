@@ -1,2 +1,2 @@
-pub mod Fields
+pub mod Last
 pub mod Frames
