@@ -37,12 +37,11 @@ replica_back c m x = by_cond (λ k. bit c k ≡ true → (bit c m ≡ true) ⊎ 
 
 -- with the cards of some seats
 seen_kept : (c m : ℕ) (xs : List ℕ) → bit c m ≡ true → bit c (replicas_seen m xs) ≡ true
-unfolding replicas_seen
 seen_kept c m [] e = e
 seen_kept c m (x ∷ xs) e = seen_kept c (with_replica m x) xs (replica_kept c m x e)
 
 seen_set : (c m : ℕ) (xs : List ℕ) → c < 16 → 1 ≤ seats c xs → bit c (replicas_seen m xs) ≡ true
-unfolding replicas_seen seats
+unfolding seats
 seen_set c m [] l h = absurd (omega arith)
 seen_set c m (x ∷ xs) l h = go (seen_set c (with_replica m x) xs l) (eqb x c) refl h
   where
@@ -52,7 +51,7 @@ seen_set c m (x ∷ xs) l h = go (seen_set c (with_replica m x) xs l) (eqb x c) 
     go later false d h = later (omega arith)
 
 seen_back : (c m : ℕ) (xs : List ℕ) → bit c (replicas_seen m xs) ≡ true → (bit c m ≡ true) ⊎ (1 ≤ seats c xs)
-unfolding replicas_seen seats
+unfolding seats
 seen_back c m [] e = inl e
 seen_back c m (x ∷ xs) e = ⊎_elim (λ b. ⊎_elim inl here (replica_back c m x b)) (λ l. inr (omega arith)) (seen_back c (with_replica m x) xs e)
   where
