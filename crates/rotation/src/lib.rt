@@ -39,13 +39,12 @@ fn replicas_seen(seats: &[u8]) -> u16
 }
 
 // A mask has all of the n lowest bits.
-#[tactic(auto, unfolding(crate::specs::Seen::all_seen))]
+#[tactic(auto, using(crate::proofs::Seen::low_ones))]
 fn all_seen(m: u16, n: usize) -> bool
     requires { n ≤ 15 }
     ensures { result ≡ all_seen n m }
 {
-    let end = 1u32 << n;
-    u32::from(m) % end + 1 == end
+    n <= m.trailing_ones() as usize
 }
 
 // The first n of 15 seats are a rotation of n cards, and the others are zero: n seats that lack no card have none twice.
