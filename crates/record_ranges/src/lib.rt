@@ -22,8 +22,8 @@ pub fn valid_log(r: Replica, log: &[u8]) -> bool
     log.len() == FRAME * (r.last_round.0 as usize)
 }
 
-// The fields that a call changes are in range. In two steps, and the first's outcome in the second: the compiler joins the comparisons
-// of one step, or of a second one by itself, into vectors, whose loads wait for the caller's stores.
+// The fields that a call changes are in range. In two steps: the compiler joins the comparisons of one step into vectors, whose
+// loads wait for the caller's stores.
 #[tactic(auto, unfolding(apollo::specs::Replica::valid_rounds))]
 fn valid_rounds(r: Replica) -> bool
     ensures { result ≡ valid_rounds r }
