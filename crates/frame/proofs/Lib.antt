@@ -1,3 +1,3 @@
-pub mod Fields
+pub mod Last
 pub mod Frames
 pub mod Walk

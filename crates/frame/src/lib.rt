@@ -9,22 +9,17 @@ ghost use Rattle.apollo.specs.Frame as Frame;
 
 use apollo::size::{CHECK, FRAME};
 
-fn wide(b: u8) -> u32
-    ensures { (result ≡ b) × (result < 256) }
-{
-    b as u32
-}
-
 #[tactic(auto, unfolding(apollo::specs::Bytes::number4))]
 fn number4(x: &[u8], start: usize) -> u32
     requires { start ≤ frame_size }
     ensures { result ≡ Bytes.number4 x.now start }
 {
-    let a = wide(slices::byte(x, start));
-    let b = wide(slices::byte(x, start + 1));
-    let c = wide(slices::byte(x, start + 2));
-    let d = wide(slices::byte(x, start + 3));
-    a * 16777216 + b * 65536 + c * 256 + d
+    u32::from_be_bytes([
+        slices::byte(x, start),
+        slices::byte(x, start + 1),
+        slices::byte(x, start + 2),
+        slices::byte(x, start + 3),
+    ])
 }
 
 pub fn kind(x: &[u8]) -> u8
@@ -43,9 +38,7 @@ pub fn signer(x: &[u8]) -> u8
 pub fn entry_length(x: &[u8]) -> usize
     ensures { (result ≡ Frame.entry_length x.now) × (result < 65536) }
 {
-    let a = wide(slices::byte(x, 2));
-    let b = wide(slices::byte(x, 3));
-    (a * 256 + b) as usize
+    usize::from(u16::from_be_bytes([slices::byte(x, 2), slices::byte(x, 3)]))
 }
 
 pub fn round(x: &[u8]) -> u32
@@ -61,17 +54,12 @@ pub fn height(x: &[u8]) -> u32
 }
 
 // x names p as its parent, and its height is one more.
+#[tactic(auto, unfolding(apollo::specs::Frame::linked))]
 pub fn linked(p: &[u8], x: &[u8]) -> bool
     ensures { result ≡ Frame.linked p.now x.now }
 {
-    if !slices::same_bytes(slices::part(p, CHECK, 32), slices::part(x, 12, 32)) {
-        return false;
-    }
-    let h = height(x);
-    if h == 0 {
-        return false;
-    }
-    height(p) == h - 1
+    slices::same_bytes(slices::part(p, CHECK, 32), slices::part(x, 12, 32))
+        && u64::from(height(p)) + 1 == u64::from(height(x))
 }
 
 // 1 to `most` whole frames.
@@ -79,23 +67,14 @@ pub fn linked(p: &[u8], x: &[u8]) -> bool
 pub fn is_whole(most: u32, frames: &[u8]) -> bool
     ensures { result ≡ Frame.whole_frames most frames.now }
 {
-    let n = frames.len() / FRAME;
-    if frames.len() % FRAME != 0 {
-        return false;
-    }
-    if n < 1 {
-        return false;
-    }
-    n <= most as usize
+    let count = frames.len() / FRAME;
+    frames.len() % FRAME == 0 && (1..=most as usize).contains(&count)
 }
 
 // The last frame of a branch, fewer bytes where there is no whole one.
+#[tactic(auto, using(crate::proofs::Last::last_part))]
 pub fn last_frame<'a>(frames: &'a [u8]) -> &'a [u8]
     ensures { result.now ≡ Frame.last_frame frames.now }
 {
-    let n = frames.len();
-    if n < FRAME {
-        return slices::part(frames, 0, FRAME);
-    }
-    slices::part(frames, n - FRAME, FRAME)
+    &frames[frames.len().saturating_sub(FRAME)..]
 }

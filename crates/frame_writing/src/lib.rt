@@ -16,15 +16,16 @@ fn put(out: &mut [u8], start: usize, x: &[u8])
     ensures { Written out.old start x.now out.new }
 {
     let end = start + x.len();
-    slices::copy(&mut out[start..end], x);
+    out[start..end].copy_from_slice(x);
 }
 
 // Writes zeros from `start` up to, not including, `end`.
+#[tactic(auto, unfolding(apollo::specs::Bytes::zeros))]
 fn put_zeros(out: &mut [u8], start: usize, end: usize)
     requires { (start ≤ end) × (end ≤ length out.old) }
     ensures { Written out.old start (Bytes.zeros (end - start)) out.new }
 {
-    slices::clear(&mut out[start..end]);
+    out[start..end].fill(0);
 }
 
 // Writes the check behind the first 480 bytes.
@@ -32,44 +33,26 @@ fn seal(out: &mut [u8])
     requires { frame_size ≤ length out.old }
     ensures { Written out.old check_at (sha256 (take check_at out.old)) out.new }
 {
-    let d = sha256::digest(&out[..480]);
+    let d = sha256::digest(&out[..CHECK]);
     put(out, CHECK, &d);
 }
 
 // Bytes 0 to 11 of a block.
-fn block_start(id: u8, n: usize, round: u32, height: u32) -> [u8; 12]
+fn block_start(id: u8, n: u16, round: u32, height: u32) -> [u8; 12]
     ensures { result ≡ 1 ∷ id ∷ (Bytes.bytes2 n ++ (Bytes.bytes4 round ++ Bytes.bytes4 height)) }
 {
-    [
-        1,
-        id,
-        (n / 256 % 256) as u8,
-        (n % 256) as u8,
-        (round / 16777216 % 256) as u8,
-        (round / 65536 % 256) as u8,
-        (round / 256 % 256) as u8,
-        (round % 256) as u8,
-        (height / 16777216 % 256) as u8,
-        (height / 65536 % 256) as u8,
-        (height / 256 % 256) as u8,
-        (height % 256) as u8,
-    ]
+    let [n0, n1] = n.to_be_bytes();
+    let [r0, r1, r2, r3] = round.to_be_bytes();
+    let [h0, h1, h2, h3] = height.to_be_bytes();
+    [1, id, n0, n1, r0, r1, r2, r3, h0, h1, h2, h3]
 }
 
 // Bytes 0 to 7 of a blame.
 fn blame_start(id: u8, round: u32) -> [u8; 8]
     ensures { result ≡ 2 ∷ id ∷ 0 ∷ 0 ∷ Bytes.bytes4 round }
 {
-    [
-        2,
-        id,
-        0,
-        0,
-        (round / 16777216 % 256) as u8,
-        (round / 65536 % 256) as u8,
-        (round / 256 % 256) as u8,
-        (round % 256) as u8,
-    ]
+    let [r0, r1, r2, r3] = round.to_be_bytes();
+    [2, id, 0, 0, r0, r1, r2, r3]
 }
 
 // Writes the block that replica `id` makes to the front of out.
@@ -79,7 +62,7 @@ pub fn put_block(out: &mut [u8], id: u8, round: u32, height: u32, parent: &[u8],
         ≡ Frame.make_block sha256 id round height parent.now entry.now ++ drop frame_size out.old }
 {
     let n = entry.len();
-    let start = block_start(id, n, round, height);
+    let start = block_start(id, n as u16, round, height);
     put(out, 0, &start);
     put(out, 12, parent);
     put(out, 44, entry);

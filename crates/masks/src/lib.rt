@@ -12,26 +12,28 @@ use apollo::Setup;
 fn mask(masks: &[u16], r: u32) -> u16
     ensures { result ≡ Masks.mask masks.now r }
 {
-    let i = apollo::previous(r) as usize;
-    if i < masks.len() { masks[i] } else { 0 }
+    masks
+        .get(apollo::previous(r) as usize)
+        .copied()
+        .unwrap_or(0)
 }
 
 // A mask reduced to n bits.
-#[tactic(auto, using(crate::proofs::Masks::reduced_whole))]
+#[tactic(auto, using(crate::proofs::Masks::reduced_low, crate::proofs::Masks::reduced_whole))]
 fn reduced(m: u16, n: u32) -> u32
     ensures { result ≡ m % 2 ^ n }
 {
-    let w = m as u32;
-    if n < 16 { w % (1u32 << n) } else { w }
+    let m = u32::from(m);
+    1u32.checked_shl(n).map_or(m, |end| m % end)
 }
 
 // Round r is certified (shown).
+#[tactic(auto, using(crate::proofs::Masks::enough))]
 pub fn certified(s: Setup, masks: &[u16], r: u32) -> bool
     ensures { result ≡ Masks.certified s masks.now r }
 {
-    let g = s.f as u32;
-    let m = mask(masks, r);
-    g + 1 <= u32::count_ones(reduced(m, 2 * g + 1))
+    let f = u32::from(s.f);
+    f + 1 <= reduced(mask(masks, r), 2 * f + 1).count_ones()
 }
 
 // Bit i of a mask.
@@ -39,24 +41,24 @@ pub fn certified(s: Setup, masks: &[u16], r: u32) -> bool
 pub fn has_bit(m: u16, i: u8) -> bool
     ensures { result ≡ Masks.bit i m }
 {
-    if i < 16 { (m >> i) % 2 == 1 } else { false }
+    m.checked_shr(u32::from(i)).unwrap_or(0) % 2 == 1
 }
 
 // A mask with bit i set.
+#[tactic(auto, using(crate::proofs::Masks::bit_set))]
 pub fn with_bit(m: u16, i: u8) -> u16
     requires { i < 16 }
     ensures { result ≡ Masks.set_bit i m }
 {
-    m | (1u16 << i)
+    m | 1 << i
 }
 
 // A mask has no bit at n or above.
-#[tactic(auto, using(crate::proofs::Masks::fits_whole))]
+#[tactic(auto, using(crate::proofs::Masks::fits_low, crate::proofs::Masks::fits_whole))]
 pub fn fits(m: u16, n: u32) -> bool
     ensures { result ≡ ltb m (2 ^ n) }
 {
-    let w = m as u32;
-    if n < 16 { w < (1u32 << n) } else { true }
+    m.checked_shr(n).unwrap_or(0) == 0
 }
 
 // Replica i's blame for round r is there.
@@ -66,7 +68,7 @@ pub fn has_blame(masks: &[u16], r: u32, i: u8) -> bool
     has_bit(mask(masks, r), i)
 }
 
-// Replica i's blame for round r is added.
+// Replica i's blame for round r is added. By index: what the library says of a slice after its `get_mut` does not close the proof.
 pub fn add_blame(masks: &mut [u16], r: u32, i: u8)
     requires { i < 16 }
     ensures { masks.new ≡ Masks.add_blame masks.old r i }
@@ -78,12 +80,9 @@ pub fn add_blame(masks: &mut [u16], r: u32, i: u8)
 }
 
 // All masks are zeroed.
+#[tactic(auto, unfolding(apollo::specs::Bytes::zeros))]
 pub fn clear(masks: &mut [u16])
     ensures { masks.new ≡ zeros (length masks.old) }
 {
-    let mut i = 0;
-    while i < masks.len() {
-        masks[i] = 0;
-        i += 1;
-    }
+    masks.fill(0);
 }

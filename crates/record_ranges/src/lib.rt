@@ -8,30 +8,29 @@ use apollo::Replica;
 use apollo::size::FRAME;
 
 // Own number and timeout are in range.
+#[tactic(auto, unfolding(apollo::specs::Replica::valid_own))]
 pub fn valid_own(r: Replica) -> bool
     ensures { result ≡ valid_own r }
 {
-    let id = r.id as u32;
-    let f = r.f as u32;
-    (id < 2 * f + 1) & ((1 <= r.timeout.0) & (r.timeout.0 <= 60000))
+    (u32::from(r.id) < 2 * u32::from(r.f) + 1) & (1..=60000).contains(&r.timeout.0)
 }
 
 // There is one slot a round.
 pub fn valid_log(r: Replica, log: &[u8]) -> bool
     ensures { result ≡ valid_log r log.now }
 {
-    let size = FRAME * (r.last_round.0 as usize);
-    log.len() == size
+    log.len() == FRAME * (r.last_round.0 as usize)
 }
 
 // The fields that a call changes are in range. In two steps: the compiler joins the comparisons of one step into vectors, whose
 // loads wait for the caller's stores.
+#[tactic(auto, unfolding(apollo::specs::Replica::valid_rounds))]
 fn valid_rounds(r: Replica) -> bool
     ensures { result ≡ valid_rounds r }
 {
-    let last = r.last_round.0 as u64;
-    let round = r.round.0 as u64;
-    let running = ((1 <= round) & (round <= last + 1))
+    let last = u64::from(r.last_round.0);
+    let round = u64::from(r.round.0);
+    let running = (1..=last + 1).contains(&round)
         & (r.timer.0 <= r.timeout.0)
         & (r.tip_round.0 < r.round.0);
     if !running {
@@ -48,18 +47,15 @@ fn valid_rounds(r: Replica) -> bool
 fn valid_marks(r: Replica) -> bool
     ensures { result ≡ valid_marks r }
 {
-    let n = 2 * (r.f as u32) + 1;
-    masks::fits(r.equivocators, n)
+    masks::fits(r.equivocators, 2 * u32::from(r.f) + 1)
 }
 
 // The record by itself: all fields are in range, and R is not led by this replica.
 pub fn valid_record(r: Replica) -> bool
     ensures { result ≡ valid_record r }
 {
-    let seats = r.rotation;
-    let n = 2 * (r.f as usize) + 1;
     setup_ranges::valid_limits(r.f, r.last_round.0)
-        & rotation::valid_rotation(seats, n)
+        & rotation::valid_rotation(r.rotation, 2 * usize::from(r.f) + 1)
         & valid_own(r)
         & valid_rounds(r)
         & valid_marks(r)
@@ -70,6 +66,5 @@ pub fn valid_record(r: Replica) -> bool
 pub fn valid_masks(r: Replica, masks: &[u16]) -> bool
     ensures { result ≡ valid_masks r masks.now }
 {
-    let last = r.last_round.0 as usize;
-    masks.len() == last
+    masks.len() == r.last_round.0 as usize
 }

@@ -8,12 +8,15 @@ use native.Mathlib.Nat.{pow-suc}
 use native.Mathlib.Omega.{arith}
 use lib.Arith.{mod-mul}
 use lib.Pow.{pow_pos}
-use lib.Dec.{eqb, ltb}
+use lib.Count.{count_trailing_zeros}
+use lib.Dec.{eqb, leb, ltb}
 use lib.ListN.{length}
-use borrow.Author.Tests.{eqb-true, eqb-false, eq-eqb, lt-ltb}
+use borrow.Author.Tests.{eqb-true, eqb-false, eq-eqb, lt-ltb, ltb-true, ltb-false, le-leb, leb-true}
 use Rattle.apollo.specs.Masks.{bit, set_bit}
 use Rattle.apollo.specs.Rotation.{seats, is_rotation}
-use Rattle.apollo.proofs.Masks.{bit_zero, bit_set_same, bit_set_other, bit_kept}
+use Rattle.std.specs.Int.{bit_at, trailing_ones, w16}
+use Rattle.std.proofs.lemmas.Nat.Bits.{bit_at_ones, bit_at-trailing_ones}
+use Rattle.apollo.proofs.Masks.{bit_shift, bit_zero, bit_set_same, bit_set_other, bit_kept}
 use Rattle.apollo.proofs.Rotation.{none_lacks, lacks_none}
 use Rattle.apollo.proofs.Tests.{by_cond}
 use Rattle.rotation.specs.Seen.{with_replica, replicas_seen, all_seen}
@@ -37,12 +40,11 @@ replica_back c m x = by_cond (λ k. bit c k ≡ true → (bit c m ≡ true) ⊎ 
 
 -- with the cards of some seats
 seen_kept : (c m : ℕ) (xs : List ℕ) → bit c m ≡ true → bit c (replicas_seen m xs) ≡ true
-unfolding replicas_seen
 seen_kept c m [] e = e
 seen_kept c m (x ∷ xs) e = seen_kept c (with_replica m x) xs (replica_kept c m x e)
 
 seen_set : (c m : ℕ) (xs : List ℕ) → c < 16 → 1 ≤ seats c xs → bit c (replicas_seen m xs) ≡ true
-unfolding replicas_seen seats
+unfolding seats
 seen_set c m [] l h = absurd (omega arith)
 seen_set c m (x ∷ xs) l h = go (seen_set c (with_replica m x) xs l) (eqb x c) refl h
   where
@@ -52,7 +54,7 @@ seen_set c m (x ∷ xs) l h = go (seen_set c (with_replica m x) xs l) (eqb x c) 
     go later false d h = later (omega arith)
 
 seen_back : (c m : ℕ) (xs : List ℕ) → bit c (replicas_seen m xs) ≡ true → (bit c m ≡ true) ⊎ (1 ≤ seats c xs)
-unfolding replicas_seen seats
+unfolding seats
 seen_back c m [] e = inl e
 seen_back c m (x ∷ xs) e = ⊎_elim (λ b. ⊎_elim inl here (replica_back c m x b)) (λ l. inr (omega arith)) (seen_back c (with_replica m x) xs e)
   where
@@ -81,6 +83,31 @@ both_ways : (a b : Bool) → (a ≡ true → b ≡ true) → (b ≡ true → a �
 both_ways true b h k = sym (h refl)
 both_ways false true h k = k refl
 both_ways false false h k = refl
+
+-- all n bits are set where no lower one is missing
+none_lower : (n m t : ℕ) → bit_at m t ≡ 0 → ((c : ℕ) → c < n → bit c m ≡ true) → n ≤ t
+none_lower n m t z f = past (ltb t n) refl
+  where
+    past : (b : Bool) → ltb t n ≡ b → n ≤ t
+    past false e = ltb-false t n e
+    past true e = absurd (true≢false (sym (f t (ltb-true t n e)) ∙ bit_shift t m ∙ ap (λ k. eqb k 1) z))
+
+pub low_ones : (n m : ℕ) → m < 2 ^ 16 → n ≤ 16 → leb n (trailing_ones w16 m) ≡ all_seen n m
+unfolding all_seen count_trailing_zeros
+low_ones n m l h = by (eqb (m + 1) (2 ^ 16)) refl
+  where
+    by : (b : Bool) → eqb (m + 1) (2 ^ 16) ≡ b → leb n (trailing_ones w16 m) ≡ eqb (m % 2 ^ n + 1) (2 ^ n)
+    by true e =
+        let q : m ≡ 65535 = omega (arith, eqb-true (m + 1) (2 ^ 16) e) in
+        let t : trailing_ones w16 m ≡ 16 = ap (trailing_ones w16) q in
+        le-leb n (trailing_ones w16 m) (omega arith)
+        ∙ sym (eq-eqb _ _ (full_of n m (λ c b. bit_shift c m ∙ eq-eqb _ _ (ap (λ k. bit_at k c) q ∙ bit_at_ones 16 c (omega arith)))))
+    by false e =
+        let d : m + 1 ≡ 2 ^ 16 → ⊥ = eqb-false (m + 1) (2 ^ 16) e in
+        let k = bit_at-trailing_ones w16 m (omega arith) in
+        both_ways (leb n (trailing_ones w16 m)) (eqb (m % 2 ^ n + 1) (2 ^ n))
+        (λ a. eq-eqb _ _ (full_of n m (λ c b. bit_shift c m ∙ eq-eqb _ _ (k.2 c (omega (arith, leb-true n (trailing_ones w16 m) a))))))
+        (λ a. le-leb n (trailing_ones w16 m) (none_lower n m (trailing_ones w16 m) k.1 (full_at n m (eqb-true _ _ a))))
 
 -- n seats, no more than there are bits
 pub all_rotation : (n : ℕ) (xs : List ℕ) → length xs ≡ n → n ≤ 16 → all_seen n (replicas_seen 0 xs) ≡ is_rotation n xs

@@ -5,7 +5,7 @@ ghost use Rattle.std.specs.Prelude.{◌≡◌, ◌&&◌, ◌≤◌, take};
 ghost use Rattle.apollo.specs.Bytes.{blank};
 ghost use Rattle.apollo.specs.Rotation.{is_rotation, padded};
 ghost use Rattle.apollo.specs.Setup.{leader};
-ghost use Rattle.rotation.specs.Seen.{with_replica, all_seen};
+ghost use Rattle.rotation.specs.Seen.{with_replica, replicas_seen, all_seen};
 
 use apollo::Setup;
 
@@ -14,9 +14,9 @@ use apollo::Setup;
 pub fn leader(s: Setup, round: u32) -> u8
     ensures { result ≡ leader s round }
 {
-    let n = 2 * (s.f as u32) + 1;
+    let n = 2 * u32::from(s.f) + 1;
     let seat = (apollo::previous(round) % n) as usize;
-    if seat < 15 { s.rotation[seat] } else { 0 }
+    s.rotation.get(seat).copied().unwrap_or(0)
 }
 
 // A mask of cards with one more; a number that has no bit is passed over.
@@ -31,47 +31,40 @@ fn with_replica(m: u16, card: u8) -> u16
     }
 }
 
+// The mask of the cards in some seats.
+fn replicas_seen(seats: &[u8]) -> u16
+    ensures { result ≡ replicas_seen 0 seats.now }
+{
+    seats.iter().fold(0, |m, card| with_replica(m, *card))
+}
+
 // A mask has all of the n lowest bits.
-#[tactic(auto, unfolding(crate::specs::Seen::all_seen))]
+#[tactic(auto, using(crate::proofs::Seen::low_ones))]
 fn all_seen(m: u16, n: usize) -> bool
     requires { n ≤ 15 }
     ensures { result ≡ all_seen n m }
 {
-    let end = 1u32 << n;
-    (m as u32) % end + 1 == end
+    n <= m.trailing_ones() as usize
 }
 
-// The first n of 15 seats are a rotation of n cards, and the others are zero. One pass: n seats that lack no card have none twice.
-#[tactic(auto, using(crate::proofs::Pass::too_many))]
+// The first n of 15 seats are a rotation of n cards, and the others are zero: n seats that lack no card have none twice.
+#[tactic(auto, using(crate::proofs::Pass::too_many, crate::proofs::Pass::passed))]
 pub fn valid_rotation(seats: [u8; 15], n: usize) -> bool
     ensures { result ≡ is_rotation n (take n seats) && blank seats n 15 }
 {
     if 15 < n {
         return false;
     }
-    let mut m = 0;
-    let mut is_blank = true;
-    let mut i = 0;
-    while i < 15 {
-        if i < n {
-            m = with_replica(m, seats[i]);
-        } else {
-            is_blank = is_blank & (seats[i] == 0);
-        }
-        i += 1;
-    }
-    all_seen(m, n) & is_blank
+    all_seen(replicas_seen(&seats[..n]), n) & slices::is_zero(&seats[n..])
 }
 
 // A rotation as a record holds it: 15 seats, zero past its end; of a longer one, which 17 refuses, the first 15.
+#[tactic(auto, using(crate::proofs::Fill::filled))]
 pub fn padded(rotation: &[u8]) -> [u8; 15]
     ensures { result ≡ padded rotation.now }
 {
-    let mut seats = [0u8; 15];
-    let mut i = 0;
-    while i < 15 {
-        seats[i] = slices::byte(rotation, i);
-        i += 1;
-    }
+    let mut seats = [0; 15];
+    let n = rotation.len().min(15);
+    seats[..n].copy_from_slice(&rotation[..n]);
     seats
 }

@@ -1,10 +1,18 @@
 -- A part of a list that is there and zero, by where the list ends. Assumes nothing.
-use mathlib.Core.Path.{◌≡◌, sym}
-use mathlib.Core.Bool.{true, false}
+use mathlib.Core.Path.{◌≡◌, sym, ap, ◌∙◌}
+use mathlib.Core.Bool.{Bool, true, false}
+use mathlib.Core.Logic.{◌⊎◌}
 use mathlib.Core.List.{List}
 use Prim.Native.Nat.{ℕ, ◌-◌, ◌≤◌, ◌<◌}
 use native.Mathlib.Omega.{arith}
+use denote.Bor.{Bor}
+use lib.Dec.{leb}
 use lib.ListN.{length, take, drop, length-take, length-drop}
+use borrow.Author.Tests.{le-leb}
+use Rattle.std.specs.declared.option.Option.{Option}
+use Rattle.std.specs.declared.option.Option.TheVariants.{Some, None}
+use Rattle.std.specs.Option.{MatchOption}
+use Rattle.std.specs.Slice.{IsGetRangeResult}
 use Rattle.apollo.specs.Bytes.{same, zeros, blank}
 use Rattle.apollo.proofs.Slots.{length_zeros}
 use Rattle.slices.proofs.Same.{same_length}
@@ -16,8 +24,22 @@ module _ (log : List ℕ) (a e : ℕ) where
       let z : e - a ≡ 0 = omega arith in
       rw z
 
-  pub blank_past : a < e → length log < e → false ≡ blank log a e
+  pub blank_test : e ≤ a → leb e a ≡ blank log a e
+  blank_test h = le-leb e a h ∙ blank_none h
+
+  blank_past : a < e → length log < e → false ≡ blank log a e
   blank_past h g =
       let l : length (take (e - a) (drop a log)) < length (zeros (e - a)) =
       simp (length-take, length-drop, length_zeros) (omega arith) in
       sym (same_length (take (e - a) (drop a log)) (zeros (e - a)) (λ (p : length (take (e - a) (drop a log)) ≡ length (zeros (e - a))). omega arith))
+
+  -- as `get` gives it
+  pub blank_range : a < e → (part : Option (Bor (List ℕ))) (r : Bool) → IsGetRangeResult log a e part
+      → MatchOption part (r ≡ false) (λ (p : Bor (List ℕ)). r ≡ same p.now (zeros (length p.now))) → r ≡ blank log a e
+  blank_range h None r p z =
+      let past : (e < a) ⊎ (length log < e) = p.0 in
+      z ∙ blank_past h (omega arith)
+  blank_range h (Some s) r p z =
+      let now : s.now ≡ take (e - a) (drop a log) = p.0.2 in
+      let size : length s.now ≡ e - a = omega (arith, p.0.3) in
+      z ∙ ap (λ n. same s.now (zeros n)) size ∙ ap (λ (xs : List ℕ). same xs (zeros (e - a))) now

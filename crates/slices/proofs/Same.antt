@@ -1,18 +1,16 @@
--- Laws of `same`, for loops that gather in d the bits in which two lists differ. Assumes nothing.
-use mathlib.Core.Path.{◌≡◌, refl, sym, ap}
+-- Laws of `same`, by the or of the bits in which two lists differ, and of a list's elements. Assumes nothing.
+use mathlib.Core.Path.{◌≡◌, refl, sym, ap, ◌∙◌}
 use mathlib.Core.Bool.{Bool, true, false, ◌&&◌}
 use mathlib.Core.List.{List, [], ◌∷◌}
-use Prim.Native.Nat.{ℕ, suc, ◌+◌, ◌≤◌, ◌<◌}
-use native.Mathlib.Numerals.{add-one}
+use Prim.Native.Nat.{ℕ, suc}
 use native.Mathlib.Omega.{arith}
 use lib.Bits.{bit_or, bit_xor, and_le_l, and_le_r, or_add_and, xor_add_and, xor_self, xor_zero_r}
 use lib.Dec.{eqb}
-use lib.ListN.{length, get_or, drop, get_or-replicate, drop_of_length-le}
-use lib.Seq.{drop-cons}
+use lib.ListN.{length}
 use borrow.Author.Tests.{eq-eqb, ne_eqb, eqb-true, eqb-false}
+use Rattle.std.specs.List.{fold, zip}
 use Rattle.apollo.specs.Bytes.{same, zeros}
 use Rattle.apollo.proofs.Tests.{and_end, and_assoc}
-use Rattle.apollo.proofs.Slots.{length_zeros}
 
 -- no bit of d is set, and x and y differ in none
 join_differ : (d x y : ℕ) → eqb (bit_or d (bit_xor x y)) 0 ≡ eqb d 0 && eqb x y
@@ -30,20 +28,31 @@ join_differ d x y = by (eqb d 0) refl (eqb x y) refl
         let n : d ≡ 0 → ⊥ = eqb-false d 0 e in
         ne_eqb (bit_or d (bit_xor x y)) 0 (omega (arith, or_add_and d (bit_xor x y), and_le_r d (bit_xor x y)))
 
--- one element more of two lists of one length
-pub same_next : (a b : List ℕ) (i d : ℕ) → i < length a → length a ≡ length b
-    → eqb d 0 && same (drop i a) (drop i b)
-    ≡ eqb (bit_or d (bit_xor (get_or a i 0) (get_or b i 0))) 0 && same (drop (i + 1) a) (drop (i + 1) b)
+-- the bits in which two lists of one length differ
+differ_all : (d : ℕ) (a b : List ℕ) → length a ≡ length b
+    → eqb (fold (λ d (p : ℕ × ℕ). bit_or d (bit_xor p.0 p.1)) d (zip a b)) 0 ≡ eqb d 0 && same a b
 unfolding same
-same_next a b i d h l =
-    let g : i < length b = omega arith in
-    rw (add-one, drop-cons a i 0 h, drop-cons b i 0 g, join_differ d (get_or a i 0) (get_or b i 0))
-    (and_assoc (eqb d 0) (eqb (get_or a i 0) (get_or b i 0)) (same (drop (suc i) a) (drop (suc i) b)))
+differ_all d [] [] l = sym (and_end (eqb d 0))
+differ_all d [] (y ∷ b) l = absurd (omega arith)
+differ_all d (x ∷ a) [] l = absurd (omega arith)
+differ_all d (x ∷ a) (y ∷ b) l =
+    differ_all (bit_or d (bit_xor x y)) a b (omega arith) ∙ ap (λ t. t && same a b) (join_differ d x y)
+    ∙ sym (and_assoc (eqb d 0) (eqb x y) (same a b))
 
-pub same_end : (a b : List ℕ) (i d : ℕ) → length a ≤ i → length a ≡ length b
-    → eqb d 0 && same (drop i a) (drop i b) ≡ eqb d 0
-unfolding same
-same_end a b i d h l = rw (drop_of_length-le a h, drop_of_length-le b {i = i} (omega arith)) (and_end (eqb d 0))
+pub same_told : (a b : List ℕ) (r : ℕ) → length a ≡ length b → r ≡ fold (λ d (p : ℕ × ℕ). bit_or d (bit_xor p.0 p.1)) 0 (zip a b)
+    → eqb r 0 ≡ same a b
+same_told a b r l e = ap (λ k. eqb k 0) e ∙ differ_all 0 a b l
+
+-- the or of all elements
+or_all : (d : ℕ) (xs : List ℕ) → eqb (fold bit_or d xs) 0 ≡ eqb d 0 && same xs (zeros (length xs))
+unfolding same zeros
+or_all d [] = sym (and_end (eqb d 0))
+or_all d (x ∷ xs) =
+    or_all (bit_or d x) xs ∙ ap (λ t. t && same xs (zeros (length xs))) (ap (λ k. eqb (bit_or d k) 0) (sym (xor_zero_r x)) ∙ join_differ d x 0)
+    ∙ sym (and_assoc (eqb d 0) (eqb x 0) (same xs (zeros (length xs))))
+
+pub zero_told : (xs : List ℕ) (r : ℕ) → r ≡ fold bit_or 0 xs → eqb r 0 ≡ same xs (zeros (length xs))
+zero_told xs r e = ap (λ k. eqb k 0) e ∙ or_all 0 xs
 
 -- lists of different lengths
 pub same_length : (a b : List ℕ) → (length a ≡ length b → ⊥) → same a b ≡ false
@@ -57,19 +66,5 @@ same_length (x ∷ a) (y ∷ b) n = and_false (eqb x y) (same a b) (same_length 
     and_false true s e = e
     and_false false s e = refl
 
-get_or_zeros : (n i : ℕ) → i < n → get_or (zeros n) i 0 ≡ 0
-unfolding zeros
-get_or_zeros n i h = get_or-replicate n i 0 0 h
-
--- the same of a list and zeros
-pub zero_next : (x : List ℕ) (i d : ℕ) → i < length x
-    → eqb d 0 && same (drop i x) (drop i (zeros (length x)))
-    ≡ eqb (bit_or d (get_or x i 0)) 0 && same (drop (i + 1) x) (drop (i + 1) (zeros (length x)))
-zero_next x i d h =
-    let e : bit_xor (get_or x i 0) (get_or (zeros (length x)) i 0) ≡ get_or x i 0 =
-    rw (get_or_zeros (length x) i h) (xor_zero_r (get_or x i 0)) in
-    rw e at (same_next x (zeros (length x)) i d h (sym (length_zeros (length x))))
-
-pub zero_end : (x : List ℕ) (i d : ℕ) → length x ≤ i
-    → eqb d 0 && same (drop i x) (drop i (zeros (length x))) ≡ eqb d 0
-zero_end x i d h = same_end x (zeros (length x)) i d h (sym (length_zeros (length x)))
+pub other_length : (a b : List ℕ) → (length a ≡ length b → ⊥) → eqb (length a) (length b) ≡ same a b
+other_length a b n = ne_eqb (length a) (length b) n ∙ sym (same_length a b n)

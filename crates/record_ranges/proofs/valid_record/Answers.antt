@@ -4,5 +4,6 @@ use Rattle.record_ranges.proofs.valid_record.Goals as goal
 
 pub returns : goal.returns
 returns c =
-    record_test _ c.valid_limits.ensures c.valid_rotation.ensures c.valid_own.ensures c.valid_rounds.ensures
-    c.valid_marks.ensures c.leads.ensures
+    let seats = rw c.from.ensures at c.valid_rotation.ensures in
+    record_test c.args.r c.valid_limits.ensures seats c.valid_own.ensures c.valid_rounds.ensures c.valid_marks.ensures
+    c.leads.ensures
