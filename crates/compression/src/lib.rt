@@ -199,7 +199,7 @@ fn plus(s: State, v: State) -> State
     }
 }
 
-// A hash value, or the working variables, of each of L messages.
+// A hash value, or the working variables, of each of L messages. By rows: four digests take 7 % longer with an array of `State`.
 #[derive(Clone, Copy)]
 pub struct Lanes<const L: usize> {
     pub a: [u32; L],
@@ -306,7 +306,7 @@ fn extend_round<const L: usize>(
     round(s, K[16 * n + i], x)
 }
 
-// The sixteen rounds of lane l from 16 n on.
+// The sixteen rounds of lane l from 16 n on. A `for` is not unrolled, and four digests take three times as long.
 fn next_rounds<const L: usize>(s: State, w: &mut [[u32; L]; 16], n: usize, l: usize) -> State
     requires { (1 ≤ n) × (n < 4) × (l < L) }
     ensures turns { (h : State) (b : List ℕ) → Turned h (Fips.schedule b 64) (16 * n) s (words_at w.old l)
@@ -352,7 +352,7 @@ fn held_round<const L: usize>(s: State, w: &[[u32; L]; 16], t: usize, l: usize) 
     round(s, K[t], w[t][l])
 }
 
-// Rounds 0 to 15 of lane l.
+// Rounds 0 to 15 of lane l, written out like next_rounds.
 fn first_rounds<const L: usize>(s: State, w: &[[u32; L]; 16], l: usize) -> State
     requires { l < L }
     ensures { (b : List ℕ) → Window (Fips.schedule b 64) (words_at w.now l) 16
@@ -416,7 +416,7 @@ fn load_rows<const L: usize>(w: &mut [[u32; L]; 16], b: &[&[u8; 64]])
     }
 }
 
-// A block of each lane is compressed into its hash value.
+// A block of each lane is compressed into its hash value. An array of L references, in place of the slice, has no proof yet.
 pub fn compress<const L: usize>(h: &mut Lanes<L>, b: &[&[u8; 64]])
     requires { (length b.now ≡ L) × (L ≤ 1024) }
     ensures { Compressed (bytes_at b.now) h.old h.new }
