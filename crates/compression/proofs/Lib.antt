@@ -1,2 +1,4 @@
+mod ChMaj
 pub mod Schedule
+pub mod Rows
 pub mod Blocks

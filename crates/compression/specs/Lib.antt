@@ -1,2 +1,3 @@
 pub mod Fips
 pub mod Window
+pub mod Lanes

@@ -1,12 +1,15 @@
-// The hash value of SHA-256 over the blocks of a padded message. The definitions are in specs/Fips.antt.
+// The hash value of SHA-256 over the blocks of a padded message, of one message or of several side by side: each stands in a lane of its
+// own, and the same step is made in all lanes. The definitions of the standard are in specs/Fips.antt; specs/Lanes.antt says where a lane's
+// words stand.
 #![tactic(auto)]
 
-ghost use Rattle.std.specs.Prelude.{◌≡◌, ℕ, ◌+◌, ◌/◌, ◌%◌, ◌<◌, ◌≤◌, List, length, slice_index};
+ghost use Rattle.std.specs.Prelude.{◌≡◌, ℕ, ◌+◌, ◌*◌, ◌/◌, ◌%◌, ◌<◌, ◌≤◌, List, length, slice_index};
 ghost use Rattle.compression.specs.Fips as Fips;
 ghost use Rattle.compression.specs.Window.{Window, Turned};
+ghost use Rattle.compression.specs.Lanes.{words_at, state_at, bytes_at, Kept, Put, AllTurned, Loaded, Added, Compressed};
 
 // The constants of section 4.2.2.
-pub const K: [u32; 64] = [
+const K: [u32; 64] = [
     0x428a_2f98,
     0x7137_4491,
     0xb5c0_fbcf,
@@ -86,229 +89,363 @@ pub struct State {
     pub h: u32,
 }
 
+// In one operation fewer than the standard's form, as maj below.
+#[tactic(auto, using(crate::proofs::ChMaj::ch_short))]
 fn ch(x: u32, y: u32, z: u32) -> u32
     ensures { result ≡ Fips.ch x y z }
 {
-    (x & y) ^ (!x & z)
+    z ^ (x & (y ^ z))
 }
 
+// A round's `x ^ y` is the next one's `y ^ z`, so it is made once.
+#[tactic(auto, using(crate::proofs::ChMaj::maj_short))]
 fn maj(x: u32, y: u32, z: u32) -> u32
     ensures { result ≡ Fips.maj x y z }
 {
-    (x & y) ^ (x & z) ^ (y & z)
+    y ^ ((x ^ y) & (y ^ z))
 }
 
 fn big_sigma0(x: u32) -> u32
     ensures { result ≡ Fips.Σ0 x }
 {
-    (x >> 2 | x << 30) ^ (x >> 13 | x << 19) ^ (x >> 22 | x << 10)
+    x.rotate_right(2) ^ x.rotate_right(13) ^ x.rotate_right(22)
 }
 
 fn big_sigma1(x: u32) -> u32
     ensures { result ≡ Fips.Σ1 x }
 {
-    (x >> 6 | x << 26) ^ (x >> 11 | x << 21) ^ (x >> 25 | x << 7)
+    x.rotate_right(6) ^ x.rotate_right(11) ^ x.rotate_right(25)
 }
 
 fn small_sigma0(x: u32) -> u32
     ensures { result ≡ Fips.σ0 x }
 {
-    (x >> 7 | x << 25) ^ (x >> 18 | x << 14) ^ (x >> 3)
+    x.rotate_right(7) ^ x.rotate_right(18) ^ (x >> 3)
 }
 
 fn small_sigma1(x: u32) -> u32
     ensures { result ≡ Fips.σ1 x }
 {
-    (x >> 17 | x << 15) ^ (x >> 19 | x << 13) ^ (x >> 10)
-}
-
-fn add(x: u32, y: u32) -> u32
-    ensures { result ≡ Fips.add32 x y }
-{
-    std::num::wrapping_add_u32(x, y)
+    x.rotate_right(17) ^ x.rotate_right(19) ^ (x >> 10)
 }
 
 // The sum that makes a word of the schedule from the words 2, 7, 15 and 16 before it.
-pub fn extended(w14: u32, w9: u32, w1: u32, w0: u32) -> u32
+fn extended(w14: u32, w9: u32, w1: u32, w0: u32) -> u32
     ensures { result ≡ Fips.add32 (Fips.add32 (Fips.add32 (Fips.σ1 w14) w9) (Fips.σ0 w1)) w0 }
 {
-    add(add(add(small_sigma1(w14), w9), small_sigma0(w1)), w0)
+    small_sigma1(w14)
+        .wrapping_add(w9)
+        .wrapping_add(small_sigma0(w1))
+        .wrapping_add(w0)
 }
 
-fn wide(x: u8) -> u32
-    ensures { (result ≡ x) × (result < 256) }
-{
-    x as u32
-}
-
-pub fn word_at(b: &[u8], i: usize) -> u32
-    requires { i + 4 ≤ length b.now }
+// By `u32::from_be_bytes` the loop of load_rows would be unrolled, and four digests take 2 % longer.
+fn word_at(b: &[u8; 64], i: usize) -> u32
+    requires { i + 4 ≤ 64 }
     ensures { result ≡ Fips.word_at b.now i }
 {
-    wide(b[i]) * 16777216 + wide(b[i + 1]) * 65536 + wide(b[i + 2]) * 256 + wide(b[i + 3])
+    b[i] as u32 * 0x100_0000
+        + b[i + 1] as u32 * 0x1_0000
+        + b[i + 2] as u32 * 0x100
+        + b[i + 3] as u32
 }
 
+#[tactic(auto, unfolding(crate::specs::Fips::t1))]
 fn t1(s: State, k: u32, w: u32) -> u32
     ensures { result ≡ Fips.t1 s k w }
 {
-    add(add(add(add(s.h, big_sigma1(s.e)), ch(s.e, s.f, s.g)), k), w)
+    s.h.wrapping_add(big_sigma1(s.e))
+        .wrapping_add(ch(s.e, s.f, s.g))
+        .wrapping_add(k)
+        .wrapping_add(w)
 }
 
 fn t2(s: State) -> u32
     ensures { result ≡ Fips.t2 s }
 {
-    add(big_sigma0(s.a), maj(s.a, s.b, s.c))
+    big_sigma0(s.a).wrapping_add(maj(s.a, s.b, s.c))
 }
 
-pub fn round(s: State, k: u32, w: u32) -> State
+#[tactic(auto, unfolding(crate::specs::Fips::round))]
+fn round(s: State, k: u32, w: u32) -> State
     ensures { result ≡ Fips.round s k w }
 {
     let x = t1(s, k, w);
     State {
-        a: add(x, t2(s)),
+        a: x.wrapping_add(t2(s)),
         b: s.a,
         c: s.b,
         d: s.c,
-        e: add(s.d, x),
+        e: s.d.wrapping_add(x),
         f: s.e,
         g: s.f,
         h: s.g,
     }
 }
 
-pub fn plus(s: State, v: State) -> State
+#[tactic(auto, unfolding(crate::specs::Fips::plus))]
+fn plus(s: State, v: State) -> State
     ensures { result ≡ Fips.plus s v }
 {
     State {
-        a: add(s.a, v.a),
-        b: add(s.b, v.b),
-        c: add(s.c, v.c),
-        d: add(s.d, v.d),
-        e: add(s.e, v.e),
-        f: add(s.f, v.f),
-        g: add(s.g, v.g),
-        h: add(s.h, v.h),
+        a: s.a.wrapping_add(v.a),
+        b: s.b.wrapping_add(v.b),
+        c: s.c.wrapping_add(v.c),
+        d: s.d.wrapping_add(v.d),
+        e: s.e.wrapping_add(v.e),
+        f: s.f.wrapping_add(v.f),
+        g: s.g.wrapping_add(v.g),
+        h: s.h.wrapping_add(v.h),
     }
 }
 
-// Word t of the schedule, for t below 16: it is read from the block.
-fn load(w: &mut [u32; 16], b: &[u8], t: usize) -> u32
-    requires { (t < 16) × (length b.now ≡ 64) }
-    ensures { Window (Fips.schedule b.now 64) w.old t
-        → (result ≡ slice_index (Fips.schedule b.now 64) t)
-        × Window (Fips.schedule b.now 64) w.new (t + 1) }
-{
-    let x = word_at(b, 4 * t);
-    w[t] = x;
-    x
+// A hash value, or the working variables, of each of L messages. By rows: four digests take 7 % longer with an array of `State`.
+#[derive(Clone, Copy)]
+pub struct Lanes<const L: usize> {
+    pub a: [u32; L],
+    pub b: [u32; L],
+    pub c: [u32; L],
+    pub d: [u32; L],
+    pub e: [u32; L],
+    pub f: [u32; L],
+    pub g: [u32; L],
+    pub h: [u32; L],
 }
 
-// A word t of the schedule from 16 on, with i = t % 16: it takes the place of word t - 16.
-fn extend(w: &mut [u32; 16], i: usize) -> u32
-    requires { i < 16 }
-    ensures { (b : List ℕ) (t : ℕ) → 16 ≤ t → t < 64 → t % 16 ≡ i
-        → Window (Fips.schedule b 64) w.old t
-        → (result ≡ slice_index (Fips.schedule b 64) t) × Window (Fips.schedule b 64) w.new (t + 1) }
-{
-    let x = extended(w[(i + 14) % 16], w[(i + 9) % 16], w[(i + 1) % 16], w[i]);
-    w[i] = x;
-    x
-}
-
-// Round t, for t below 16.
-fn load_round(s: State, k: &[u32; 64], w: &mut [u32; 16], b: &[u8], t: usize) -> State
-    requires { (k.now ≡ Fips.K) × (t < 16) × (length b.now ≡ 64) }
-    ensures { (h : State) → Turned h (Fips.schedule b.now 64) t s w.old
-        → Turned h (Fips.schedule b.now 64) (t + 1) result w.new }
-{
-    let x = load(w, b, t);
-    round(s, k[t], x)
-}
-
-// Round t + i, for t from 16 on.
-fn extend_round(s: State, k: &[u32; 64], w: &mut [u32; 16], t: usize, i: usize) -> State
-    requires { (k.now ≡ Fips.K) × (16 ≤ t) × (t + 16 ≤ 64) × (t % 16 ≡ 0) × (i < 16) }
-    ensures { (h : State) (b : List ℕ) → Turned h (Fips.schedule b 64) (t + i) s w.old
-        → Turned h (Fips.schedule b 64) (t + (i + 1)) result w.new }
-{
-    let x = extend(w, i);
-    round(s, k[t + i], x)
-}
-
-// Rounds 0 to 15.
-fn first_rounds(s: State, k: &[u32; 64], w: &mut [u32; 16], b: &[u8]) -> State
-    requires { (k.now ≡ Fips.K) × (length w.old ≡ 16) × (length b.now ≡ 64) }
-    ensures { Turned s (Fips.schedule b.now 64) 16 result w.new }
-{
-    let mut v = load_round(s, k, w, b, 0);
-    v = load_round(v, k, w, b, 1);
-    v = load_round(v, k, w, b, 2);
-    v = load_round(v, k, w, b, 3);
-    v = load_round(v, k, w, b, 4);
-    v = load_round(v, k, w, b, 5);
-    v = load_round(v, k, w, b, 6);
-    v = load_round(v, k, w, b, 7);
-    v = load_round(v, k, w, b, 8);
-    v = load_round(v, k, w, b, 9);
-    v = load_round(v, k, w, b, 10);
-    v = load_round(v, k, w, b, 11);
-    v = load_round(v, k, w, b, 12);
-    v = load_round(v, k, w, b, 13);
-    v = load_round(v, k, w, b, 14);
-    load_round(v, k, w, b, 15)
-}
-
-// The sixteen rounds from t on.
-fn next_rounds(s: State, k: &[u32; 64], w: &mut [u32; 16], t: usize) -> State
-    requires { (k.now ≡ Fips.K) × (16 ≤ t) × (t + 16 ≤ 64) × (t % 16 ≡ 0) }
-    ensures { (h : State) (b : List ℕ) → Turned h (Fips.schedule b 64) t s w.old
-        → Turned h (Fips.schedule b 64) (t + 16) result w.new }
-{
-    let mut v = extend_round(s, k, w, t, 0);
-    v = extend_round(v, k, w, t, 1);
-    v = extend_round(v, k, w, t, 2);
-    v = extend_round(v, k, w, t, 3);
-    v = extend_round(v, k, w, t, 4);
-    v = extend_round(v, k, w, t, 5);
-    v = extend_round(v, k, w, t, 6);
-    v = extend_round(v, k, w, t, 7);
-    v = extend_round(v, k, w, t, 8);
-    v = extend_round(v, k, w, t, 9);
-    v = extend_round(v, k, w, t, 10);
-    v = extend_round(v, k, w, t, 11);
-    v = extend_round(v, k, w, t, 12);
-    v = extend_round(v, k, w, t, 13);
-    v = extend_round(v, k, w, t, 14);
-    extend_round(v, k, w, t, 15)
-}
-
-fn compress(k: &[u32; 64], s: State, b: &[u8]) -> State
-    requires { (k.now ≡ Fips.K) × (length b.now ≡ 64) }
-    ensures { result ≡ Fips.compress s b.now }
-{
-    let mut w = [0u32; 16];
-    let mut v = first_rounds(s, k, &mut w, b);
-    let mut t = 16;
-    while t < 64 {
-        v = next_rounds(v, k, &mut w, t);
-        t += 16;
+impl<const L: usize> Lanes<L> {
+    // Every lane begins with s.
+    pub fn new(s: State) -> Lanes<L>
+        ensures { (m : ℕ) → m < L → state_at result m ≡ s }
+    {
+        Lanes {
+            a: [s.a; L],
+            b: [s.b; L],
+            c: [s.c; L],
+            d: [s.d; L],
+            e: [s.e; L],
+            f: [s.f; L],
+            g: [s.g; L],
+            h: [s.h; L],
+        }
     }
-    plus(s, v)
+
+    // The words of lane l.
+    pub fn lane(&self, l: usize) -> State
+        requires { l < L }
+        ensures { result ≡ state_at self.now l }
+    {
+        State {
+            a: self.a[l],
+            b: self.b[l],
+            c: self.c[l],
+            d: self.d[l],
+            e: self.e[l],
+            f: self.f[l],
+            g: self.g[l],
+            h: self.h[l],
+        }
+    }
+
+    // The words of lane l are those of s.
+    fn put(&mut self, l: usize, s: State)
+        requires { l < L }
+        ensures { Put l s self.old self.new }
+    {
+        self.a[l] = s.a;
+        self.b[l] = s.b;
+        self.c[l] = s.c;
+        self.d[l] = s.d;
+        self.e[l] = s.e;
+        self.f[l] = s.f;
+        self.g[l] = s.g;
+        self.h[l] = s.h;
+    }
+}
+
+// Word l of a row is x.
+fn put_word<const L: usize>(row: &mut [u32; L], l: usize, x: u32)
+    requires { l < L }
+    ensures here { slice_index row.new l ≡ x }
+    ensures keeps { (m : ℕ) → (m ≡ l → ⊥) → slice_index row.new m ≡ slice_index row.old m }
+{
+    row[l] = x;
+}
+
+// A word t of the schedule of lane l from 16 on, with i = t % 16: it takes the place of word t - 16.
+fn extend<const L: usize>(w: &mut [[u32; L]; 16], i: usize, l: usize) -> u32
+    requires { (i < 16) × (l < L) }
+    ensures turns { (b : List ℕ) (t : ℕ) → 16 ≤ t → t < 64 → t % 16 ≡ i
+        → Window (Fips.schedule b 64) (words_at w.old l) t
+        → (result ≡ slice_index (Fips.schedule b 64) t) × Window (Fips.schedule b 64) (words_at w.new l) (t + 1) }
+    ensures keeps { Kept l w.old w.new }
+{
+    let x = extended(
+        w[(i + 14) % 16][l],
+        w[(i + 9) % 16][l],
+        w[(i + 1) % 16][l],
+        w[i][l],
+    );
+    put_word(&mut w[i], l, x);
+    x
+}
+
+// Round 16 n + i of lane l, for n from 1 on.
+fn extend_round<const L: usize>(
+    s: State,
+    w: &mut [[u32; L]; 16],
+    n: usize,
+    i: usize,
+    l: usize,
+) -> State
+    requires { (1 ≤ n) × (n < 4) × (i < 16) × (l < L) }
+    ensures turns { (h : State) (b : List ℕ) → Turned h (Fips.schedule b 64) (16 * n + i) s (words_at w.old l)
+        → Turned h (Fips.schedule b 64) (16 * n + (i + 1)) result (words_at w.new l) }
+    ensures keeps { Kept l w.old w.new }
+{
+    let x = extend(w, i, l);
+    round(s, K[16 * n + i], x)
+}
+
+// The sixteen rounds of lane l from 16 n on. A `for` is not unrolled, and four digests take three times as long.
+fn next_rounds<const L: usize>(s: State, w: &mut [[u32; L]; 16], n: usize, l: usize) -> State
+    requires { (1 ≤ n) × (n < 4) × (l < L) }
+    ensures turns { (h : State) (b : List ℕ) → Turned h (Fips.schedule b 64) (16 * n) s (words_at w.old l)
+        → Turned h (Fips.schedule b 64) (16 * n + 16) result (words_at w.new l) }
+    ensures keeps { Kept l w.old w.new }
+{
+    let mut v = extend_round(s, w, n, 0, l);
+    v = extend_round(v, w, n, 1, l);
+    v = extend_round(v, w, n, 2, l);
+    v = extend_round(v, w, n, 3, l);
+    v = extend_round(v, w, n, 4, l);
+    v = extend_round(v, w, n, 5, l);
+    v = extend_round(v, w, n, 6, l);
+    v = extend_round(v, w, n, 7, l);
+    v = extend_round(v, w, n, 8, l);
+    v = extend_round(v, w, n, 9, l);
+    v = extend_round(v, w, n, 10, l);
+    v = extend_round(v, w, n, 11, l);
+    v = extend_round(v, w, n, 12, l);
+    v = extend_round(v, w, n, 13, l);
+    v = extend_round(v, w, n, 14, l);
+    extend_round(v, w, n, 15, l)
+}
+
+// The sixteen rounds of every lane from 16 n on.
+fn next_lanes<const L: usize>(v: &mut Lanes<L>, w: &mut [[u32; L]; 16], n: usize)
+    requires { (1 ≤ n) × (n < 4) }
+    ensures { (h : ℕ → State) (b : ℕ → List ℕ) → AllTurned h b (16 * n) v.old w.old
+        → AllTurned h b (16 * n + 16) v.new w.new }
+{
+    for l in 0..L {
+        let next = next_rounds(v.lane(l), w, n, l);
+        v.put(l, next);
+    }
+}
+
+// Round t of lane l, for t below 16.
+fn held_round<const L: usize>(s: State, w: &[[u32; L]; 16], t: usize, l: usize) -> State
+    requires { (t < 16) × (l < L) }
+    ensures { (h : State) (b : List ℕ) → Window (Fips.schedule b 64) (words_at w.now l) 16
+        → s ≡ Fips.rounds h (Fips.schedule b 64) t → result ≡ Fips.rounds h (Fips.schedule b 64) (t + 1) }
+{
+    round(s, K[t], w[t][l])
+}
+
+// Rounds 0 to 15 of lane l, written out like next_rounds.
+fn first_rounds<const L: usize>(s: State, w: &[[u32; L]; 16], l: usize) -> State
+    requires { l < L }
+    ensures { (b : List ℕ) → Window (Fips.schedule b 64) (words_at w.now l) 16
+        → Turned s (Fips.schedule b 64) 16 result (words_at w.now l) }
+{
+    let mut v = held_round(s, w, 0, l);
+    v = held_round(v, w, 1, l);
+    v = held_round(v, w, 2, l);
+    v = held_round(v, w, 3, l);
+    v = held_round(v, w, 4, l);
+    v = held_round(v, w, 5, l);
+    v = held_round(v, w, 6, l);
+    v = held_round(v, w, 7, l);
+    v = held_round(v, w, 8, l);
+    v = held_round(v, w, 9, l);
+    v = held_round(v, w, 10, l);
+    v = held_round(v, w, 11, l);
+    v = held_round(v, w, 12, l);
+    v = held_round(v, w, 13, l);
+    v = held_round(v, w, 14, l);
+    held_round(v, w, 15, l)
+}
+
+// Rounds 0 to 15 of every lane.
+fn first_lanes<const L: usize>(v: &mut Lanes<L>, w: &[[u32; L]; 16])
+    ensures { (b : ℕ → List ℕ) → Loaded L b 16 w.now → AllTurned (state_at v.old) b 16 v.new w.now }
+{
+    for l in 0..L {
+        let first = first_rounds(v.lane(l), w, l);
+        v.put(l, first);
+    }
+}
+
+// The variables v are added to the hash values h, lane by lane.
+fn plus_lanes<const L: usize>(h: &mut Lanes<L>, v: &Lanes<L>)
+    ensures { Added v.now h.old h.new }
+{
+    for l in 0..L {
+        let sum = plus(h.lane(l), v.lane(l));
+        h.put(l, sum);
+    }
+}
+
+// Word t of each lane's block.
+fn load_row<const L: usize>(w: &mut [[u32; L]; 16], b: &[&[u8; 64]], t: usize)
+    requires { (length b.now ≡ L) × (t < 16) }
+    ensures { Loaded L (bytes_at b.now) t w.old → Loaded L (bytes_at b.now) (t + 1) w.new }
+{
+    for l in 0..L {
+        put_word(&mut w[t], l, word_at(b[l], 4 * t));
+    }
+}
+
+// The sixteen words of each lane's block, row by row.
+fn load_rows<const L: usize>(w: &mut [[u32; L]; 16], b: &[&[u8; 64]])
+    requires { length b.now ≡ L }
+    ensures { Loaded L (bytes_at b.now) 16 w.new }
+{
+    for t in 0..16 {
+        load_row(w, b, t);
+    }
+}
+
+// A block of each lane is compressed into its hash value. An array of L references, in place of the slice, has no proof yet.
+pub fn compress<const L: usize>(h: &mut Lanes<L>, b: &[&[u8; 64]])
+    requires { (length b.now ≡ L) × (L ≤ 1024) }
+    ensures { Compressed (bytes_at b.now) h.old h.new }
+{
+    let mut w = [[0u32; L]; 16];
+    load_rows(&mut w, b);
+    let mut v = *h;
+    first_lanes(&mut v, &w);
+    for n in 1..4 {
+        next_lanes(&mut v, &mut w, n);
+    }
+    plus_lanes(h, &v);
+}
+
+// Block i of p.
+pub fn block(p: &[u8], i: usize) -> &[u8; 64]
+    requires { 64 * i + 64 ≤ length p.now }
+    ensures { result.now ≡ Fips.block p.now i }
+{
+    &p[64 * i..].as_chunks::<64>().0[0]
 }
 
 // The hash value after the whole blocks of p, from the hash value h.
 pub fn hash(h: State, p: &[u8]) -> State
     ensures { result ≡ Fips.hash h p.now (length p.now / 64) }
 {
-    let k = K;
-    let n = p.len() / 64;
-    let mut v = h;
-    let mut i = 0;
-    while i < n {
-        let a = 64 * i;
-        let e = a + 64;
-        v = compress(&k, v, &p[a..e]);
-        i += 1;
+    let mut v = Lanes::<1>::new(h);
+    for i in 0..p.len() / 64 {
+        compress(&mut v, &[block(p, i)]);
     }
-    v
+    v.lane(0)
 }

@@ -40,13 +40,7 @@ fn show_letters(rt: &impl Print) {
 
 // Byte i of the pattern is 167 i + 13 modulo 256.
 fn pattern() -> [u8; 200] {
-    let mut p = [0u8; 200];
-    let mut i = 0;
-    while i < 200 {
-        p[i] = ((i * 167 + 13) % 256) as u8;
-        i += 1;
-    }
-    p
+    std::array::from_fn(|i| ((i * 167 + 13) % 256) as u8)
 }
 
 fn show_pattern(rt: &impl Print, s: &[u8]) {
@@ -55,35 +49,22 @@ fn show_pattern(rt: &impl Print, s: &[u8]) {
 
 // A line for each beginning of p, the empty one and p itself included.
 fn show_beginnings(rt: &impl Print, p: &[u8]) {
-    let mut n = 0;
-    while n <= p.len() {
-        show_pattern(rt, &p[0..n]);
-        n += 1;
+    for n in 0..=p.len() {
+        show_pattern(rt, &p[..n]);
     }
 }
 
 // Four frames; byte i of frame k is 167 i + 3 k + 13 modulo 256.
 fn frames() -> [u8; 2048] {
-    let mut b = [0u8; 2048];
-    let mut i = 0;
-    while i < 2048 {
-        b[i] = ((i % 512 * 167 + i / 512 * 3 + 13) % 256) as u8;
-        i += 1;
-    }
-    b
+    std::array::from_fn(|i| ((i % 512 * 167 + i / 512 * 3 + 13) % 256) as u8)
 }
 
 // A line for the first 480 bytes of each of four frames, by the four lanes.
 fn show_frames(rt: &impl Print, b: [u8; 2048]) {
-    let four = lanes::digest4(&b[..480], &b[512..992], &b[1024..1504], &b[1536..2016]);
-    let d0 = four.d0;
-    let d1 = four.d1;
-    let d2 = four.d2;
-    let d3 = four.d3;
-    show_digest(rt, d0, "frame-", 0);
-    show_digest(rt, d1, "frame-", 1);
-    show_digest(rt, d2, "frame-", 2);
-    show_digest(rt, d3, "frame-", 3);
+    let four = lanes::digest4([&b[..480], &b[512..992], &b[1024..1504], &b[1536..2016]]);
+    for (k, d) in four.0.iter().enumerate() {
+        show_digest(rt, *d, "frame-", k);
+    }
 }
 
 fn main(rt: HostRuntime) {

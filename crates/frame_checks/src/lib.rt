@@ -29,16 +29,12 @@ fn check_four(x0: &[u8], x1: &[u8], x2: &[u8], x3: &[u8]) -> [bool; 4]
     ensures { result ≡ Frame.checked sha256 x0.now ∷ Frame.checked sha256 x1.now
         ∷ Frame.checked sha256 x2.now ∷ Frame.checked sha256 x3.now ∷ [] }
 {
-    let d = lanes::digest4(&x0[..480], &x1[..480], &x2[..480], &x3[..480]);
-    let d0 = d.d0;
-    let d1 = d.d1;
-    let d2 = d.d2;
-    let d3 = d.d3;
+    let d = lanes::digest4([&x0[..480], &x1[..480], &x2[..480], &x3[..480]]).0;
     [
-        frame_forms::has_check(x0, d0),
-        frame_forms::has_check(x1, d1),
-        frame_forms::has_check(x2, d2),
-        frame_forms::has_check(x3, d3),
+        frame_forms::has_check(x0, d[0]),
+        frame_forms::has_check(x1, d[1]),
+        frame_forms::has_check(x2, d[2]),
+        frame_forms::has_check(x3, d[3]),
     ]
 }
 

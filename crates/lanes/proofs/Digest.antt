@@ -1,29 +1,17 @@
 -- Laws of the padded message of 480 bytes, and of the digests of the lanes. Assumes nothing.
-use mathlib.Core.Path.{◌≡◌, sym, ap, ap₂, ◌∙◌}
-use mathlib.Core.List.{List, [], ◌∷◌, ◌++◌}
-use Prim.Native.Nat.{ℕ, zero, suc, ◌+◌, ◌-◌, ◌*◌, ◌%◌, ◌^◌, ◌≤◌, ◌<◌}
+use Rattle.std.proofs.Common.{◌≡◌, ℕ, zero, suc, ◌+◌, ◌-◌, ◌*◌, ◌%◌, ◌^◌, ◌<◌, List, [], ◌∷◌, ◌++◌, length, get_or, map, take, drop, set, arith, ap, ap₂, ◌∙◌, sym, length-drop}
+use lib.ListN.{replicate}
+use lib.Seq.{take_all, take-append-add, drop-append-le}
 use native.Mathlib.Nat.{suc-add, zero-add}
-use native.Mathlib.Numerals.{add-one}
-use native.Mathlib.Omega.{arith}
-use lib.ListN.{length, get_or, take, drop, set, replicate, length-drop}
-use lib.Seq.{take_all, get_or-drop, take-append-add, drop-append-le, paste, paste-suc}
+use Rattle.std.specs.Borrow.{Bor}
+use Rattle.std.specs.List.{All}
 use Rattle.compression.specs.declared.State.{State}
+use Rattle.compression.specs.declared.Lanes.{Lanes}
+use Rattle.compression.specs.Lanes.{state_at, Compressed}
 use Rattle.compression.proofs.Blocks.{hash_more}
 use Rattle.sha256.specs.Fips.{zeros, bytes8, padded, block, H0, compress, hash, bytes_of, sha256}
 use Rattle.sha256.proofs.Padding.{block_front}
 use Rattle.sha256.proofs.Hash.{digest_end}
-use Rattle.lanes.specs.Lane.{state_at, pick, Each, Compressed}
-
--- the first t bytes of the last block are copied, and the others are zero
-abbrev pub Copied : List ℕ → ℕ → List ℕ
-Copied s t = paste (replicate 64 0) 0 (drop 448 s) t
-
-pub copy_step : (s b : List ℕ) (t : ℕ) → length s ≡ 480 → t < 32 → b ≡ Copied s t → set b t (get_or s (448 + t) 0) ≡ Copied s (t + 1)
-copy_step s b t l h e =
-    let z : 0 + t ≡ t = zero-add t in
-    let g : t < length (drop 448 s) = rw length-drop (omega arith) in
-    let p : set (Copied s t) (0 + t) (get_or (drop 448 s) t 0) ≡ Copied s (suc t) = paste-suc (replicate 64 0) 0 (drop 448 s) t 0 (omega arith) g in
-    ap (λ (c : List ℕ). set c t (get_or s (448 + t) 0)) e ∙ ap₂ (λ (j : ℕ) (x : ℕ). set (Copied s t) j x) (sym z) (sym (get_or-drop 448 s t 0)) ∙ p ∙ ap (λ (n : ℕ). Copied s n) (sym (add-one t))
 
 -- a store behind the seam
 set_behind : (xs ys : List ℕ) (i a : ℕ) → set (xs ++ ys) (length xs + i) a ≡ xs ++ set ys i a
@@ -34,45 +22,63 @@ set_behind (x ∷ xs) ys i a = rw suc-add (ap (λ (r : List ℕ). x ∷ r) (set_
 abbrev tail : ℕ → List ℕ
 tail n = 0x80 ∷ (replicate (zeros n) 0 ++ bytes8 (8 * n % 2 ^ 64))
 
--- the mark and the length are written
-pub last_end : (s b : List ℕ) (t : ℕ) → length s ≡ 480 → t ≤ 32 → 32 ≤ t → b ≡ Copied s t → set (set b 32 0x80) 62 15 ≡ block (padded s) 7
+-- the mark and the length are written behind the message's last 32 bytes
+pub last_end : (s xs : List ℕ) → length s ≡ 480 → xs ≡ take (length s - 448) (drop 448 s) → set (set (xs ++ replicate 32 0) 32 0x80) 62 15 ≡ block (padded s) 7
 unfolding padded
-last_end s b t l h g e =
-    let xs : List ℕ = drop 448 s in
-    let n : t ≡ 32 = omega arith in
-    let q : length xs ≡ 32 = length-drop 448 s ∙ rw l in
-    let c : b ≡ xs ++ replicate 32 0 = e ∙ rw n (rw (take_all 32 xs (omega arith))) in
+last_end s xs l e =
+    let n : length (drop 448 s) ≡ 32 = length-drop 448 s ∙ rw l in
+    let w : xs ≡ drop 448 s = e ∙ rw l (take_all 32 (drop 448 s) (omega arith)) in
+    let q : length xs ≡ 32 = rw w n in
     let at : (ys : List ℕ) (i a : ℕ) → set (xs ++ ys) (32 + i) a ≡ xs ++ set ys i a = λ ys i a. rw q at (set_behind xs ys i a) in
     let r : take 64 (xs ++ tail 480) ≡ xs ++ take 32 (tail 480) = rw q at (take-append-add xs (tail 480) 32) in
-    ap (λ (x : List ℕ). set (set x 32 0x80) 62 15) c ∙ ap (λ (x : List ℕ). set x 62 15) (at (replicate 32 0) 0 0x80) ∙ at (set (replicate 32 0) 0 0x80) 30 15
-    ∙ sym (ap (take 64) (drop-append-le 448 s (tail (length s)) (omega arith)) ∙ ap (λ (k : ℕ). take 64 (xs ++ tail k)) l ∙ r)
+    ap (λ (x : List ℕ). set x 62 15) (at (replicate 32 0) 0 0x80) ∙ at (set (replicate 32 0) 0 0x80) 30 15
+    ∙ sym (ap (take 64) (drop-append-le 448 s (tail (length s)) (omega arith)) ∙ ap₂ (λ (ys : List ℕ) (k : ℕ). take 64 (ys ++ tail k)) (sym w) l ∙ r)
 
--- what holds of each of four holds of that of lane m
-pub pick_each : (f : List ℕ → List ℕ) {a b c d a' b' c' d' : List ℕ} → a ≡ f a' → b ≡ f b' → c ≡ f c' → d ≡ f d' → (m : ℕ)
-    → pick a b c d m ≡ f (pick a' b' c' d' m)
-unfolding pick
-pick_each f p q r s zero = p
-pick_each f p q r s (suc zero) = q
-pick_each f p q r s (suc (suc zero)) = r
-pick_each f p q r s (suc (suc (suc m))) = s
+-- what holds of each of four
+each_of_four : (P : ℕ → Type 0) → P 0 → P 1 → P 2 → P 3 → (k : ℕ) → k < 4 → P k
+each_of_four P a b c d zero h = a
+each_of_four P a b c d (suc zero) h = b
+each_of_four P a b c d (suc (suc zero)) h = c
+each_of_four P a b c d (suc (suc (suc zero))) h = d
+each_of_four P a b c d (suc (suc (suc (suc k)))) h = absurd (omega arith)
+
+-- for callers: what holds of each of four messages
+pub all_of_four : (P : Bor (List ℕ) → Type 0) {a b c d : Bor (List ℕ)} → P a → P b → P c → P d → All P (a ∷ b ∷ c ∷ d ∷ [])
+all_of_four P {a} {b} {c} {d} p q r s k e h = each_of_four (λ j. P (get_or (a ∷ b ∷ c ∷ d ∷ []) j e)) p q r s k h
+
+-- message k of m, as the code reads it
+abbrev pub message : List (Bor (List ℕ)) → ℕ → List ℕ
+message m k = (get_or m k (record { ref_ptr = (0, 0); now = [] })).now
 
 -- the hash values of the lanes after i blocks of the padded messages
-pub record Hashed (p : ℕ → List ℕ) (i : ℕ) (h : List ℕ) : Type 0 where
-  pub at : (m : ℕ) → m < 4 → state_at h m ≡ hash H0 (padded (p m)) i
+pub record Hashed (m : List (Bor (List ℕ))) (i : ℕ) (h : Lanes 4) : Type 0 where
+  pub at : (k : ℕ) → k < 4 → state_at h k ≡ hash H0 (padded (message m k)) i
 
-pub hashed_start : (p : ℕ → List ℕ) (h : List ℕ) (s : State) → s ≡ H0 → Each s h → Hashed p 0 h
+pub hashed_start : (m : List (Bor (List ℕ))) (h : Lanes 4) (s : State) → s ≡ H0 → ((k : ℕ) → k < 4 → state_at h k ≡ s) → Hashed m 0 h
 unfolding hash
-hashed_start p h s i e = record { at = λ m q. e.at m q ∙ i }
+hashed_start m h s i e = record { at = λ k q. e k q ∙ i }
 
-pub hashed_step : {p b : ℕ → List ℕ} {h h' : List ℕ} (i : ℕ) → Hashed p i h → ((m : ℕ) → b m ≡ block (padded (p m)) i) → Compressed b h h'
-    → Hashed p (i + 1) h'
-hashed_step i o e c = record { at = λ m q. rw hash_more (c.at m q ∙ ap₂ compress (o.at m q) (e m)) }
+pub hashed_step : {m : List (Bor (List ℕ))} {f : ℕ → List ℕ} {h h' : Lanes 4} (i : ℕ) → Hashed m i h
+    → f 0 ≡ block (padded (message m 0)) i → f 1 ≡ block (padded (message m 1)) i → f 2 ≡ block (padded (message m 2)) i
+    → f 3 ≡ block (padded (message m 3)) i → Compressed f h h' → Hashed m (i + 1) h'
+hashed_step {m} {f} i o e0 e1 e2 e3 c =
+    let e : (k : ℕ) → k < 4 → f k ≡ block (padded (message m k)) i = each_of_four (λ k. f k ≡ block (padded (message m k)) i) e0 e1 e2 e3 in
+    record { at = λ k q. rw hash_more (c.at k q ∙ ap₂ compress (o.at k q) (e k q)) }
 
--- a block that lies whole in the message
-pub block_in : (s : List ℕ) (i : ℕ) → length s ≡ 480 → i < 7 → take (64 * i + 64 - 64 * i) (drop (64 * i) s) ≡ block (padded s) i
-block_in s i l h =
-    let n : 64 * i + 64 - 64 * i ≡ 64 = omega arith in
-    rw n (block_front s i (omega arith))
+-- a block that lies whole in a message of 480 bytes
+pub block_in : (s r : List ℕ) (i : ℕ) → length s ≡ 480 → i < 7 → r ≡ block s i → r ≡ block (padded s) i
+block_in s r i l h e = e ∙ block_front s i (omega arith)
 
 pub lane_digest : (s d : List ℕ) (h g : State) → length s ≡ 480 → g ≡ hash H0 (padded s) 8 → h ≡ g → d ≡ bytes_of h → d ≡ sha256 s
 lane_digest s d h g l e q r = digest_end s d h 8 8 (rw l) (omega arith) (omega arith) (q ∙ e) r
+
+-- the digests of four messages
+pub four_digests : (m : List (Bor (List ℕ))) (d0 d1 d2 d3 : List ℕ) → length m ≡ 4 → d0 ≡ sha256 (message m 0) → d1 ≡ sha256 (message m 1)
+    → d2 ≡ sha256 (message m 2) → d3 ≡ sha256 (message m 3)
+    → d0 ∷ d1 ∷ d2 ∷ d3 ∷ [] ≡ map (λ (x : Bor (List ℕ)). sha256 x.now) m
+four_digests (a ∷ b ∷ c ∷ d ∷ []) d0 d1 d2 d3 l p q r s = rw (p, q, r, s)
+four_digests [] d0 d1 d2 d3 l p q r s = absurd (omega arith)
+four_digests (a ∷ []) d0 d1 d2 d3 l p q r s = absurd (omega arith)
+four_digests (a ∷ b ∷ []) d0 d1 d2 d3 l p q r s = absurd (omega arith)
+four_digests (a ∷ b ∷ c ∷ []) d0 d1 d2 d3 l p q r s = absurd (omega arith)
+four_digests (a ∷ b ∷ c ∷ d ∷ e ∷ m) d0 d1 d2 d3 l p q r s = absurd (omega arith)

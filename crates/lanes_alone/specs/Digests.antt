@@ -1,12 +1,12 @@
 -- The digests of four frames.
-use Rattle.std.specs.Prelude.{List, cond, ℕ, eqb, length}
+use Rattle.std.specs.Prelude.{List, [], ◌∷◌, cond, ℕ, eqb, length}
 use Rattle.lanes.specs.declared.Four.{Four}
 use Rattle.sha256.specs.Fips.{sha256}
 use Rattle.apollo.specs.Size.{check_at}
 use Rattle.apollo.specs.Bytes.{part, zeros}
 
 abbrev pub four : (d0 d1 d2 d3 : List ℕ) → Four
-four d0 d1 d2 d3 = record { d0 = d0; d1 = d1; d2 = d2; d3 = d3 }
+four d0 d1 d2 d3 = record { 0 = d0 ∷ d1 ∷ d2 ∷ d3 ∷ [] }
 
 -- of each frame that of the bytes before its check; zeros where there are not four frames
 unfoldable pub digests : List ℕ → Four

@@ -12,17 +12,12 @@ pub extern "C" fn apollo_digest4(frames: &[u8]) -> Four
     ensures { result ≡ digests frames.now }
 {
     if frames.len() != 2048 {
-        return Four {
-            d0: [0; 32],
-            d1: [0; 32],
-            d2: [0; 32],
-            d3: [0; 32],
-        };
+        return Four([[0; 32]; 4]);
     }
-    lanes::digest4(
+    lanes::digest4([
         &frames[..480],
         &frames[512..992],
         &frames[1024..1504],
         &frames[1536..2016],
-    )
+    ])
 }

@@ -1,11 +1,16 @@
 -- Laws of the padded message. Assumes nothing.
-use mathlib.Core.Path.{◌≡◌, refl, sym, ◌∙◌}
-use mathlib.Core.List.{List, ◌++◌}
-use Prim.Native.Nat.{ℕ, zero, suc, ◌+◌, ◌-◌, ◌*◌, ◌/◌, ◌%◌, ◌^◌, ◌≤◌, ◌<◌}
+use mathlib.Core.Path.{◌≡◌, sym, ap, ap₂, ◌∙◌}
+use mathlib.Core.List.{List, [], ◌++◌}
+use Prim.Native.Nat.{ℕ, suc, ◌+◌, ◌-◌, ◌*◌, ◌/◌, ◌%◌, ◌^◌, ◌≤◌, ◌<◌}
 use native.Mathlib.Omega.{arith}
-use lib.ListN.{length, get_or, drop, replicate, length-append, length-drop, length-replicate, get_or-replicate, get_or-append, get_or-eq_default}
+use lib.ListN.{length, get_or, take, drop, replicate, length-append, length-drop, length-replicate, get_or-replicate, get_or-append, get_or-eq_default}
 use lib.Seq.{get_or-append-add, get_or-append_seam, take-append-le, drop-append-le}
-use Rattle.sha256.specs.Fips.{padded, zeros, bytes8, block}
+use Rattle.std.specs.Int.{w32, w64, to_be_bytes}
+use Rattle.std.specs.List.{flat_map}
+use Rattle.std.proofs.lemmas.List.{flat_map_more, take_more}
+use Rattle.std.proofs.lemmas.Slice.{take-put_mid}
+use borrow.Rule.Slice.PartMut.{put_mid}
+use Rattle.sha256.specs.Fips.{padded, zeros, bytes4, bytes8, block}
 
 -- the zero bytes are as few as bring the whole to 56 modulo 64
 pub zeros_fill : (l : ℕ) → (l + 1 + zeros l) % 64 ≡ 56
@@ -42,24 +47,24 @@ padded_zero m i h g =
     (get_or-append (replicate (zeros (length m)) 0) _ 0 q (rw length-replicate l)
     ∙ get_or-replicate (zeros (length m)) q 0 0 l))
 
--- byte j of a number in eight bytes
-byte8 : (n j : ℕ) → j < 8 → get_or (bytes8 n) j 0 ≡ n / 2 ^ (56 - 8 * j) % 256
-byte8 n zero h = omega arith
-byte8 n (suc zero) h = omega arith
-byte8 n (suc (suc zero)) h = omega arith
-byte8 n (suc (suc (suc zero))) h = omega arith
-byte8 n (suc (suc (suc (suc zero)))) h = refl
-byte8 n (suc (suc (suc (suc (suc zero))))) h = refl
-byte8 n (suc (suc (suc (suc (suc (suc zero)))))) h = refl
-byte8 n (suc (suc (suc (suc (suc (suc (suc zero))))))) h = omega arith
-byte8 n (suc (suc (suc (suc (suc (suc (suc (suc j)))))))) h = absurd (omega arith)
+-- a number in eight bytes, as the library writes it
+bytes8_be : (n : ℕ) → bytes8 n ≡ to_be_bytes w64 n
+bytes8_be n =
+    let e7 : n / 2 ^ 32 / 2 ^ 24 % 256 ≡ n / 2 ^ 56 % 256 = omega arith in
+    let e6 : n / 2 ^ 32 / 2 ^ 16 % 256 ≡ n / 2 ^ 48 % 256 = omega arith in
+    let e5 : n / 2 ^ 32 / 2 ^ 8 % 256 ≡ n / 2 ^ 40 % 256 = omega arith in
+    let e0 : n % 256 ≡ n / 1 % 256 = omega arith in
+    rw (e7, e6, e5, e0)
 
-pub padded_length : (m : List ℕ) (i j n : ℕ) → n ≡ 8 * length m % 2 ^ 64 → i ≡ length m + 1 + zeros (length m) + j → j < 8
-    → n / 2 ^ (56 - 8 * j) % 256 ≡ get_or (padded m) i 0
-padded_length m i j n q p h =
+pub padded_length : (m : List ℕ) (i j : ℕ) (r : List ℕ) → r ≡ to_be_bytes w64 (length m * 8 % 2 ^ 64)
+    → i ≡ length m + 1 + zeros (length m) + j → j < 8
+    → get_or r j 0 ≡ get_or (padded m) i 0
+padded_length m i j r q p h =
     let z : List ℕ = replicate (zeros (length m)) 0 in
     let e : i ≡ length m + suc (length z + j) = omega (arith, length-replicate {A = ℕ} (zeros (length m)) 0) in
-    rw (q, e, behind m (length z + j)) (sym (get_or-append-add z _ j 0 ∙ byte8 (8 * length m % 2 ^ 64) j h))
+    let t : length m * 8 ≡ 8 * length m = omega arith in
+    let w : r ≡ bytes8 (8 * length m % 2 ^ 64) = q ∙ ap (λ (x : ℕ). to_be_bytes w64 (x % 2 ^ 64)) t ∙ sym (bytes8_be (8 * length m % 2 ^ 64)) in
+    rw (e, behind m (length z + j)) (ap (λ (ys : List ℕ). get_or ys j 0) w ∙ sym (get_or-append-add z _ j 0))
 
 pub padded_past : (m : List ℕ) (i : ℕ) → length m + 9 + zeros (length m) ≤ i → 0 ≡ get_or (padded m) i 0
 padded_past m i h = sym (get_or-eq_default (padded m) 0 (rw length_padded h))
@@ -71,3 +76,15 @@ block_front m k h =
     let l : 64 ≤ length (drop (64 * k) m) = rw length-drop (omega arith) in
     let g : 64 * k ≤ length m = omega arith in
     rw (drop-append-le (64 * k) m _ g) (sym (take-append-le 64 (drop (64 * k) m) _ l))
+
+-- the bytes of one word more
+pub words_more : (d ys ws : List ℕ) (i : ℕ) → length d ≡ 32 → length ws ≡ 8 → i < 8 → take (4 * i) d ≡ flat_map bytes4 (take i ws)
+    → ys ≡ to_be_bytes w32 (get_or ws i 0)
+    → take (4 * (i + 1)) (put_mid (4 * i) (4 * i + 4 - 4 * i) d ys) ≡ flat_map bytes4 (take (i + 1) ws)
+words_more d ys ws i l w h o e =
+    let x : ℕ = get_or ws i 0 in
+    let b : x % 256 ≡ x / 1 % 256 = omega arith in
+    let q : ys ≡ bytes4 x = e ∙ rw b in
+    let n : length ys ≡ 4 = ap length q in
+    take-put_mid (4 * i) (4 * i + 4 - 4 * i) d ys (4 * (i + 1)) (omega arith) (omega arith)
+    ∙ ap₂ (λ (xs zs : List ℕ). xs ++ zs) o q ∙ flat_map_more bytes4 [] (take i ws) x ∙ ap (flat_map bytes4) (sym (take_more ws i 0 (omega arith)))

@@ -3,34 +3,18 @@
 
 ghost use Rattle.std.specs.Prelude.{◌≡◌, ◌+◌, ◌*◌, ◌≤◌, ◌<◌, ◌/◌, ◌%◌, ◌^◌, length, get_or};
 ghost use Rattle.sha256.specs.Fips as Fips;
-ghost use Rattle.sha256.specs.Words.{put_word};
 
 use compression::State;
-
-// Writes the word x into the four bytes from i on.
-fn put_word(d: &mut [u8; 32], i: usize, x: u32)
-    requires { i + 4 ≤ 32 }
-    ensures { d.new ≡ put_word d.old i x }
-{
-    d[i] = (x / 16777216 % 256) as u8;
-    d[i + 1] = (x / 65536 % 256) as u8;
-    d[i + 2] = (x / 256 % 256) as u8;
-    d[i + 3] = (x % 256) as u8;
-}
 
 // The bytes of the eight words.
 pub fn bytes_of(s: State) -> [u8; 32]
     ensures { result ≡ Fips.bytes_of s }
 {
+    let words = [s.a, s.b, s.c, s.d, s.e, s.f, s.g, s.h];
     let mut d = [0u8; 32];
-    put_word(&mut d, 0, s.a);
-    put_word(&mut d, 4, s.b);
-    put_word(&mut d, 8, s.c);
-    put_word(&mut d, 12, s.d);
-    put_word(&mut d, 16, s.e);
-    put_word(&mut d, 20, s.f);
-    put_word(&mut d, 24, s.g);
-    put_word(&mut d, 28, s.h);
+    for i in 0..8 {
+        d[4 * i..4 * i + 4].copy_from_slice(&words[i].to_be_bytes());
+    }
     d
 }
 
@@ -51,8 +35,7 @@ fn padded_byte(s: &[u8], i: usize) -> u8
     }
     let j = i - e;
     if j < 8 {
-        let bits = n % 2305843009213693952 * 8;
-        return ((bits >> (56 - 8 * j)) % 256) as u8;
+        return (n as u64).wrapping_mul(8).to_be_bytes()[j];
     }
     0
 }
@@ -63,10 +46,8 @@ fn padded_block(s: &[u8], k: usize) -> [u8; 64]
     ensures { result ≡ Fips.block (Fips.padded s.now) k }
 {
     let mut b = [0u8; 64];
-    let mut t = 0;
-    while t < 64 {
+    for t in 0..64 {
         b[t] = padded_byte(s, 64 * k + t);
-        t += 1;
     }
     b
 }
@@ -76,7 +57,7 @@ fn blocks(n: usize) -> usize
     requires { n < 2 ^ 63 }
     ensures { 64 * result ≡ n + 9 + Fips.zeros n }
 {
-    (n + 9 + (119 - n % 64) % 64) / 64
+    (n + 9).div_ceil(64)
 }
 
 // The initial hash value of section 5.3.3.
@@ -101,12 +82,8 @@ pub fn digest(s: &[u8]) -> [u8; 32]
 {
     let mut h = compression::hash(initial(), s);
     let n = s.len();
-    let total = blocks(n);
-    let mut i = n / 64;
-    while i < total {
-        let b = padded_block(s, i);
-        h = compression::hash(h, &b);
-        i += 1;
+    for i in n / 64..blocks(n) {
+        h = compression::hash(h, &padded_block(s, i));
     }
     bytes_of(h)
 }

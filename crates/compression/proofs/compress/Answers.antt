@@ -1,7 +1,12 @@
--- `compression::compress` meets its contract. What the loop leaves is the end of the block. Assumes nothing.
+-- `compression::compress` meets its contract. In each lane, what the loop leaves is the end of the block. Assumes nothing.
 use Rattle.std.proofs.Common.{arith}
 use Rattle.compression.proofs.Schedule.{compress_end}
 use Rattle.compression.proofs.compress.Goals as goal
 
 pub returns : goal.returns
-returns c = compress_end _ _ (omega arith) (omega arith) c.loop-t.invariant.3 c.plus.ensures
+returns g c =
+    record {
+      at = λ m q.
+          compress_end _ _ (omega (arith, c.loop-n.auto.n-end (omega arith))) (omega arith) (c.loop-n.invariant.at m q)
+          (c.plus_lanes.ensures.at m q);
+    }

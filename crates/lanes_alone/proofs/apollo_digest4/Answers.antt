@@ -1,15 +1,16 @@
 -- `lanes_alone::apollo_digest4` meets its contract: by the length, and by that of `digest4`. Assumes nothing.
-use Rattle.std.proofs.Common.{◌≡◌, ℕ, List, length, arith, length-take, length-drop, eq-eqb, ne_eqb}
+use Rattle.std.proofs.Common.{◌≡◌, ℕ, List, [], ◌∷◌, length, arith, length-take, length-drop, eq-eqb, ne_eqb}
 use Rattle.lanes.specs.declared.Four.{Four}
 use Rattle.sha256.specs.Fips.{sha256}
 use Rattle.apollo.specs.Bytes.{part, zeros}
+use Rattle.lanes.proofs.Digest.{all_of_four}
 use Rattle.lanes_alone.specs.Digests.{digests}
 use Rattle.lanes_alone.proofs.apollo_digest4.Goals as goal
 
-made : (b : List ℕ) (r : Four) → length b ≡ 2048 → r.d0 ≡ sha256 (part b 0 480) → r.d1 ≡ sha256 (part b 512 480)
-    → r.d2 ≡ sha256 (part b 1024 480) → r.d3 ≡ sha256 (part b 1536 480) → r ≡ digests b
+made : (b : List ℕ) (r : Four) → length b ≡ 2048
+    → r.0 ≡ sha256 (part b 0 480) ∷ sha256 (part b 512 480) ∷ sha256 (part b 1024 480) ∷ sha256 (part b 1536 480) ∷ [] → r ≡ digests b
 unfolding digests
-made b r l p q s t = rw (eq-eqb (length b) 2048 l, ← p, ← q, ← s, ← t)
+made b r l e = rw (eq-eqb (length b) 2048 l, ← e)
 
 pub returns-then-frames-ne2048 : goal.returns-then-frames-ne2048
 unfolding digests zeros
@@ -19,9 +20,9 @@ pub slice_bounds-digest4-end : goal.slice_bounds-digest4-end
 slice_bounds-digest4-end c = simp length-take (omega arith)
 
 pub digest4-requires : goal.digest4-requires
-digest4-requires c = (simp length-take (omega arith), simp (length-take, length-drop) (omega arith), simp (length-take, length-drop) (omega arith), simp (length-take, length-drop) (omega arith))
+digest4-requires c =
+    all_of_four (λ m. length m.now ≡ 480) (simp length-take (omega arith)) (simp (length-take, length-drop) (omega arith))
+    (simp (length-take, length-drop) (omega arith)) (simp (length-take, length-drop) (omega arith))
 
 pub returns : goal.returns
-returns c =
-    let e = c.digest4.ensures in
-    made _ _ c.if-frames-ne2048.false e.0 e.1 e.2 e.3
+returns c = made _ _ c.if-frames-ne2048.false c.digest4.ensures

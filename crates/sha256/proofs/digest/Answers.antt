@@ -5,15 +5,15 @@ use Rattle.sha256.proofs.Hash.{digest_whole, digest_step, digest_end}
 use Rattle.sha256.proofs.digest.Goals as goal
 
 pub loop-i-init : goal.loop-i-init
-loop-i-init c = (omega arith, digest_whole c.args.s.now _ _ c.initial.ensures c.hash-h.ensures)
+loop-i-init c = digest_whole c.args.s.now _ _ c.initial.ensures c.hash-h.ensures
 
-pub padded_block-b-requires : goal.padded_block-b-requires
-padded_block-b-requires c = omega (arith, length_padded c.args.s.now)
+pub padded_block-requires : goal.padded_block-requires
+padded_block-requires c = omega (arith, length_padded c.args.s.now)
 
 pub loop-i-preserved : goal.loop-i-preserved
 loop-i-preserved c =
-    (search rules, digest_step _ _ _ _ c.loop-i.i (search rules) (search rules) c.padded_block-b.ensures c.hash-h-in-loop-i.ensures)
+    digest_step _ _ _ _ c.loop-i.i (search rules) c.loop-i.invariant c.padded_block.ensures c.hash-h-in-loop-i.ensures
 
 pub returns : goal.returns
 returns c =
-    digest_end _ _ _ c.loop-i.i c.blocks-total.result (search rules) (omega arith) (omega arith) (search rules) c.bytes_of.ensures
+    digest_end _ _ _ c.loop-i.i c.blocks-i-end.result (search rules) (omega (arith, c.loop-i.auto.i-end (omega arith))) (omega arith) c.loop-i.invariant c.bytes_of.ensures

@@ -13,8 +13,7 @@ pub returns-then-i-e : goal.returns-then-i-e
 returns-then-i-e c = padded_zero _ _ (omega arith) (omega arith)
 
 pub returns-then-j-lt8 : goal.returns-then-j-lt8
-returns-then-j-lt8 c =
-    padded_length c.args.s.now c.args.i _ _ (omega arith) (omega arith) (omega arith)
+returns-then-j-lt8 c = padded_length c.args.s.now c.args.i _ _ c.to_be_bytes.ensures (omega arith) (omega arith)
 
 pub returns : goal.returns
 returns c = padded_past _ _ (omega arith)
