@@ -1,10 +1,8 @@
 -- What the answer of the code means.
-use Rattle.std.proofs.Math.Option.{Option, none, some}
-use Rattle.std.specs.Prelude.{ℕ}
-use Rattle.branch_links.specs.declared.Attachment.{Attachment}
-use Rattle.branch_links.specs.declared.Attachment.TheVariants.{At, Nowhere}
+use Rattle.std.proofs.Math.Option as Maybe
+use Rattle.std.specs.Prelude.{ℕ, Option, None, Some}
 
 -- the round that a frame attaches to
-abbrev pub attach_of : Attachment → Option ℕ
-attach_of (At r) = some r
-attach_of Nowhere = none
+abbrev pub attach_of : Option ℕ → Maybe.Option ℕ
+attach_of (Some r) = Maybe.some r
+attach_of None = Maybe.none

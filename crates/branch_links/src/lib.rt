@@ -8,23 +8,13 @@ ghost use Rattle.branch_links.specs.Answers.{attach_of};
 
 use apollo::size::FRAME;
 
-// Where a frame attaches: the round of a slot, 0 for the genesis.
-#[derive(Clone, Copy)]
-pub enum Attachment {
-    At(u32),
-    Nowhere,
-}
-
 // Frame x attaches to slot r.
 fn attaches(log: &[u8], x: &[u8], r: u32) -> bool
     requires { 0 < r }
     ensures { result ≡ Log.filled (Log.slot log.now r) && Frame.linked (Log.slot log.now r) x.now }
 {
     let p = slots::slot(log, r);
-    if frame::kind(p) != 1 {
-        return false;
-    }
-    frame::linked(p, x)
+    frame::kind(p) == 1 && frame::linked(p, x)
 }
 
 // Frame x attaches to the genesis.
@@ -36,20 +26,17 @@ fn attaches_genesis(x: &[u8]) -> bool
     frame::linked(&genesis, x)
 }
 
-// The round that frame x attaches to: the highest such slot below its own, the genesis last.
-pub fn attach(log: &[u8], x: &[u8]) -> Attachment
+// The round that frame x attaches to: the highest such slot below its own, the genesis, 0, last.
+pub fn attach(log: &[u8], x: &[u8]) -> Option<u32>
     ensures { attach_of result ≡ Log.attach log.now x.now (Frame.round x.now - 1) }
 {
-    let mut r = apollo::previous(frame::round(x));
-    while 0 < r {
+    for r in (1..frame::round(x)).rev() {
         if attaches(log, x, r) {
-            return Attachment::At(r);
+            return Some(r);
         }
-        r -= 1;
     }
     if attaches_genesis(x) {
-        Attachment::At(0)
-    } else {
-        Attachment::Nowhere
+        return Some(0);
     }
+    None
 }
