@@ -1,6 +1,6 @@
 -- What the answer of the code means.
 use Rattle.std.proofs.Math.Option as Maybe
-use Rattle.std.specs.Prelude.{ℕ, Option, Some, None}
+use Rattle.std.specs.Prelude.{ℕ, Option, None, Some}
 
 -- the round that a frame attaches to
 abbrev pub attach_of : Option ℕ → Maybe.Option ℕ

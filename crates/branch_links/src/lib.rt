@@ -14,10 +14,7 @@ fn attaches(log: &[u8], x: &[u8], r: u32) -> bool
     ensures { result ≡ Log.filled (Log.slot log.now r) && Frame.linked (Log.slot log.now r) x.now }
 {
     let p = slots::slot(log, r);
-    if frame::kind(p) != 1 {
-        return false;
-    }
-    frame::linked(p, x)
+    frame::kind(p) == 1 && frame::linked(p, x)
 }
 
 // Frame x attaches to the genesis.
@@ -29,20 +26,17 @@ fn attaches_genesis(x: &[u8]) -> bool
     frame::linked(&genesis, x)
 }
 
-// The round that frame x attaches to: the highest such slot below its own, the genesis last.
+// The round that frame x attaches to: the highest such slot below its own, the genesis, 0, last.
 pub fn attach(log: &[u8], x: &[u8]) -> Option<u32>
     ensures { attach_of result ≡ Log.attach log.now x.now (Frame.round x.now - 1) }
 {
-    let mut r = apollo::previous(frame::round(x));
-    while 0 < r {
+    for r in (1..frame::round(x)).rev() {
         if attaches(log, x, r) {
             return Some(r);
         }
-        r -= 1;
     }
     if attaches_genesis(x) {
-        Some(0)
-    } else {
-        None
+        return Some(0);
     }
+    None
 }

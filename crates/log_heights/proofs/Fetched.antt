@@ -77,9 +77,9 @@ module _ (log : List ℕ) (h : ℕ) where
       let q : c - lo ≡ suc (c - (lo + 1)) = omega arith in
       rw q
 
-  module _ (lo c : ℕ) (b : Bool) (e : b ≡ is_tall (lent log lo) h) where
+  module _ (lo c : ℕ) (x : List ℕ) (is : x ≡ slot log (lo + 1)) (b : Bool) (e : b ≡ is_tall x h) where
     tall_slot : is_tall (slot log (lo + 1)) h ≡ b
-    tall_slot = rw add-one (sym (rw (lent_slot log lo) at e))
+    tall_slot = sym (rw is at e)
 
     pub low_here : lo < c → b ≡ true → lo ≡ last_low log h lo (c - lo)
     low_here g t = rw (low_more lo c g, tall_slot, t)
@@ -87,11 +87,12 @@ module _ (log : List ℕ) (h : ℕ) where
     pub low_above : lo < c → b ≡ false → last_low log h (lo + 1) (c - (lo + 1)) ≡ last_low log h lo (c - lo)
     low_above g t = rw (low_more lo c g, tall_slot, t)
 
-  pub low_all : (lo c : ℕ) → c ≤ lo → lo ≡ last_low log h lo (c - lo)
+  pub low_all : (lo c : ℕ) → lo ≤ c → c ≤ lo → c ≡ last_low log h lo (c - lo)
   unfolding last_low
-  low_all lo c g =
+  low_all lo c f g =
       let z : c - lo ≡ 0 = omega arith in
-      rw z
+      let e : c ≡ lo = omega arith in
+      rw z e
 
   -- those up to a lower round come first
   up_first : (r d : ℕ) → (length (up_to r) ≤ length (up_to (r + d))) × (take (length (up_to r)) (up_to (r + d)) ≡ up_to r)

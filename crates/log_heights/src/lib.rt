@@ -7,49 +7,38 @@ ghost use Rattle.apollo.specs.Size.{frame_size};
 ghost use Rattle.apollo.specs.Log as Log;
 ghost use Rattle.apollo.specs.Read as Read;
 ghost use Rattle.apollo.specs.Fetch.{above};
+ghost use Rattle.apollo.specs.Found.{found};
 ghost use Rattle.log_heights.specs.Fetch.{is_tall, last_low};
 
 use apollo::size::{ENTRY, FRAME};
 
 // Slot x is filled, with height h and an entry length of at most 400.
+#[tactic(auto, unfolding(apollo::specs::Read::readable))]
 fn is_readable(x: &[u8], h: u32) -> bool
     ensures { result ≡ Read.readable x.now h }
 {
-    if frame::kind(x) != 1 {
-        return false;
-    }
-    if frame::height(x) != h {
-        return false;
-    }
-    frame::entry_length(x) <= ENTRY
+    frame::kind(x) == 1 && frame::height(x) == h && frame::entry_length(x) <= ENTRY
 }
 
-// The lowest such slot up to the committed round, 0 if none.
-pub fn lowest(log: &[u8], h: u32, committed: u32) -> u32
+// The round of the lowest such slot up to the committed round.
+pub fn lowest(log: &[u8], h: u32, committed: u32) -> Option<u32>
     requires { frame_size * committed ≤ length log.now }
-    ensures { result ≡ Read.lowest log.now h 0 committed }
+    ensures { result ≡ found (Read.lowest log.now h 0 committed) }
 {
-    let mut lo = 0;
-    while lo < committed {
-        let a = FRAME * (lo as usize);
-        let e = a + FRAME;
-        let r = lo + 1;
-        if is_readable(&log[a..e], h) {
-            return r;
+    for (lo, x) in (0..committed).zip(log.chunks_exact(FRAME)) {
+        if is_readable(x, h) {
+            return Some(lo + 1);
         }
-        lo = r;
     }
-    0
+    None
 }
 
 // Slot x is filled, with a height above h.
+#[tactic(auto, unfolding(crate::specs::Fetch::is_tall))]
 fn is_tall(x: &[u8], h: u32) -> bool
     ensures { result ≡ is_tall x.now h }
 {
-    if frame::kind(x) != 1 {
-        return false;
-    }
-    h < frame::height(x)
+    frame::kind(x) == 1 && h < frame::height(x)
 }
 
 // Slot x is copied after the first k frames of out if its height is above h; how many frames out has then.
@@ -71,16 +60,12 @@ fn last_low(log: &[u8], h: u32, last_round: u32) -> u32
     requires { frame_size * last_round ≤ length log.now }
     ensures { result ≡ last_low log.now h 0 last_round }
 {
-    let mut r = 0;
-    while r < last_round {
-        let a = FRAME * (r as usize);
-        let e = a + FRAME;
-        if is_tall(&log[a..e], h) {
+    for (r, x) in (0..last_round).zip(log.chunks_exact(FRAME)) {
+        if is_tall(x, h) {
             return r;
         }
-        r += 1;
     }
-    r
+    last_round
 }
 
 // The chain frames of height above h are copied to out, in rising round, as many as fit; how many. A slot is cut out in 512
@@ -92,15 +77,12 @@ pub fn fetch_frames(log: &[u8], h: u32, last_round: u32, out: &mut [u8]) -> usiz
 {
     let room = out.len() / FRAME;
     let mut k = 0;
-    let mut r = last_low(log, h, last_round);
-    while r < last_round {
+    for r in last_low(log, h, last_round)..last_round {
         if room <= k as usize {
             return k as usize;
         }
         let a = FRAME * (r as usize);
-        let e = a + FRAME;
-        k = fetch_slot(&log[a..e], h, out, k);
-        r += 1;
+        k = fetch_slot(&log[a..a + FRAME], h, out, k);
     }
     k as usize
 }

@@ -10,11 +10,7 @@ use Rattle.apollo.specs.Bytes.{part, zeros, number4}
 use Rattle.apollo.specs.Frame.{height}
 use Rattle.apollo.specs.Log.{genesis, slot, filled, highest, slots_read}
 
--- the genesis is not filled, and its height is 0
-pub genesis_empty : (log : List ℕ) (r : ℕ) → r ≡ 0 → false ≡ filled (slot log r)
-unfolding slot genesis zeros
-genesis_empty log r e = rw e
-
+-- the genesis has height 0
 pub genesis_height : (log : List ℕ) (r : ℕ) → r ≡ 0 → 0 ≡ height (slot log r)
 unfolding slot genesis zeros number4
 genesis_height log r e = rw e
@@ -40,7 +36,7 @@ highest_below log (suc r) h e =
     let z : suc r - 1 ≡ r = omega arith in
     rw (← e, z)
 
-pub highest_none : (log : List ℕ) (r : ℕ) → r ≤ 0 → r ≡ highest log r
+pub highest_none : (log : List ℕ) (r : ℕ) → r ≤ 0 → 0 ≡ highest log r
 unfolding highest
 highest_none log zero h = refl
 highest_none log (suc r) h = absurd (omega arith)
@@ -53,9 +49,6 @@ read_found log limit (suc r) n h e x =
     let d : n ≡ limit + 1 - suc r = omega arith in
     rw (← x, eqb-suc-zero r) d
 
-pub read_none : (log : List ℕ) (limit r n : ℕ) → r ≤ 0 → n + r ≡ limit → r ≡ highest log limit → n ≡ slots_read log limit
+pub read_none : (log : List ℕ) (limit : ℕ) → 0 ≡ highest log limit → limit ≡ slots_read log limit
 unfolding slots_read
-read_none log limit zero n h e x =
-    let d : n ≡ limit = omega arith in
-    rw (← x) d
-read_none log limit (suc r) n h e x = absurd (omega arith)
+read_none log limit x = rw (← x)

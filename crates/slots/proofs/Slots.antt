@@ -1,18 +1,18 @@
 -- Slots zeroed and stored in place, and frames stored one at a time. Assumes nothing.
 use mathlib.Core.Path.{◌≡◌, sym}
-use mathlib.Core.List.{List, [], append-nil}
+use mathlib.Core.List.{List, [], ◌++◌, append-nil}
 use Prim.Native.Nat.{ℕ, ◌+◌, ◌-◌, ◌*◌, ◌≤◌, ◌<◌}
 use native.Mathlib.Omega.{arith}
 use lib.ListN.{length, take, drop, length-take, length-drop, drop_of_length-le}
 use lib.Seq.{take_all, drop-drop}
 use borrow.Rule.Slice.PartMut.{put_mid}
 use Rattle.apollo.specs.Size.{frame_size}
-use Rattle.apollo.specs.Bytes.{part, zeros}
+use Rattle.apollo.specs.Bytes.{zeros}
 use Rattle.apollo.specs.Log.{store, clear_above}
-use Rattle.apollo.specs.Frame.{round}
+use Rattle.apollo.specs.Frame.{round, frames_of}
 use Rattle.apollo.specs.Branch.{store_all}
 use Rattle.slots.specs.Slots.{Slotted}
-use Rattle.frame.proofs.Frames.{rest, rest_next, rest_end, frame_part}
+use Rattle.frame.proofs.Walk.{frames_more, frames_done}
 
 -- a log whose slots above round r are zeroed in place, and one that has none
 pub cleared : (log y : List ℕ) (r : ℕ) → frame_size * r ≤ length log → y ≡ zeros (length (take (length log - frame_size * r) (drop (frame_size * r) log)))
@@ -40,27 +40,16 @@ module _ (log x : List ℕ) (r : ℕ) where
       let d : frame_size * r - frame_size + frame_size ≡ frame_size * r = omega arith in
       rw (f, a, b, drop-drop frame_size (frame_size * r - frame_size) log, d)
 
--- the frames stored one at a time
-pub each_more : (log y b goal : List ℕ) (n i : ℕ) → i < n
-    → y ≡ store log (round (take (frame_size * i + frame_size - frame_size * i) (drop (frame_size * i) b))) (take (frame_size * i + frame_size - frame_size * i) (drop (frame_size * i) b))
-    → store_all log (rest b n i) ≡ goal → store_all y (rest b n (i + 1)) ≡ goal
+-- the frames stored one at a time: x comes off the front of the bytes s, and leaves t
+module _ (s x t : List ℕ) (p : s ≡ x ++ t) (h : length x ≡ frame_size) where
+  pub each_more : (log y goal : List ℕ) → y ≡ store log (round x) x → store_all log (frames_of s) ≡ goal → store_all y (frames_of t) ≡ goal
+  unfolding store_all
+  each_more log y goal d e = rw d (rw (frames_more s x t p h) at e)
+
+  pub next_slotted : (size : ℕ) → Slotted size (frames_of s) → (1 ≤ round x) × (frame_size * round x ≤ size) × Slotted size (frames_of t)
+  unfolding Slotted
+  next_slotted size d = rw (frames_more s x t p h) at d
+
+pub each_end : (s log goal : List ℕ) → length s < frame_size → store_all log (frames_of s) ≡ goal → log ≡ goal
 unfolding store_all
-each_more log y b goal n i h d e = rw (d, frame_part b (frame_size * i)) (rw (rest_next b n i h) at e)
-
-pub each_end : (log b goal : List ℕ) (n i : ℕ) → n ≤ i → store_all log (rest b n i) ≡ goal → log ≡ goal
-unfolding store_all
-each_end log b goal n i h e = rw (rest_end b n i h) at e
-
--- the slot of the next frame, and of those after it
-pub slotted_next : (size : ℕ) (b : List ℕ) (n i : ℕ) → i < n → Slotted size (rest b n i)
-    → (1 ≤ round (part b (frame_size * i) frame_size)) × (frame_size * round (part b (frame_size * i) frame_size) ≤ size) × Slotted size (rest b n (i + 1))
-unfolding Slotted
-slotted_next size b n i h s = rw (rest_next b n i h) at s
-
-pub next_slot : (size : ℕ) (b : List ℕ) (n i : ℕ) → i < n → frame_size * n ≤ length b → Slotted size (rest b n i)
-    → (1 ≤ round (take (frame_size * i + frame_size - frame_size * i) (drop (frame_size * i) b)))
-    × (frame_size * round (take (frame_size * i + frame_size - frame_size * i) (drop (frame_size * i) b)) ≤ size)
-    × (length (take (frame_size * i + frame_size - frame_size * i) (drop (frame_size * i) b)) ≡ frame_size)
-next_slot size b n i h g s =
-    let p = slotted_next size b n i h s in
-    rw (frame_part b (frame_size * i)) (p.0, p.1, simp (length-take, length-drop) (omega arith))
+each_end s log goal h e = rw (frames_done s h) at e

@@ -25,7 +25,7 @@ fn clear_above(log: &mut [u8], r: u32)
 {
     let a = FRAME * (r as usize);
     if a < log.len() {
-        slices::clear(&mut log[a..]);
+        log[a..].fill(0);
     }
 }
 
@@ -35,8 +35,7 @@ pub fn store(log: &mut [u8], r: u32, x: &[u8])
     ensures { log.new ≡ Log.store log.old r x.now }
 {
     let e = FRAME * (r as usize);
-    let a = e - FRAME;
-    slices::copy(&mut log[a..e], x);
+    log[e - FRAME..e].copy_from_slice(x);
 }
 
 // Frame x is stored in the slot of its round.
@@ -53,13 +52,8 @@ fn store_each(log: &mut [u8], frames: &[u8])
     requires { Slotted (length log.old) (frames_of frames.now) }
     ensures { log.new ≡ Branch.store_all log.old (frames_of frames.now) }
 {
-    let n = frames.len() / FRAME;
-    let mut i = 0;
-    while i < n {
-        let start = FRAME * i;
-        let end = start + FRAME;
-        store_frame(log, &frames[start..end]);
-        i += 1;
+    for x in frames.chunks_exact(FRAME) {
+        store_frame(log, x);
     }
 }
 
@@ -83,11 +77,9 @@ pub fn slot<'a>(log: &'a [u8], r: u32) -> &'a [u8]
 
 // Slot r is filled.
 fn is_filled(log: &[u8], r: u32) -> bool
+    requires { 0 < r }
     ensures { result ≡ Log.filled (Log.slot log.now r) }
 {
-    if r == 0 {
-        return false;
-    }
     frame::kind(slot(log, r)) == 1
 }
 
@@ -105,14 +97,14 @@ pub fn slot_height(log: &[u8], r: u32) -> u32
 pub fn highest(log: &[u8], limit: u32) -> Found
     ensures { (result.round ≡ Log.highest log.now limit) × (result.slots_read ≡ Log.slots_read log.now limit) }
 {
-    let mut round = limit;
-    let mut slots_read = 0;
-    while 0 < round {
-        slots_read += 1;
+    for round in (1..=limit).rev() {
         if is_filled(log, round) {
+            let slots_read = limit - round + 1;
             return Found { round, slots_read };
         }
-        round -= 1;
     }
-    Found { round, slots_read }
+    Found {
+        round: 0,
+        slots_read: limit,
+    }
 }

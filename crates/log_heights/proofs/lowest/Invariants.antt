@@ -1,14 +1,16 @@
--- No slot up to `lo` is readable.
-use Rattle.std.proofs.Common.{◌≡◌, ◌≤◌, ◌-◌}
+-- No slot of those passed is readable.
+use Rattle.std.proofs.Common.{◌≡◌, ◌-◌, ◌*◌, drop}
+use Rattle.apollo.specs.Size.{frame_size}
 use Rattle.apollo.specs.Read as Read
 use Rattle.log_heights.proofs.lowest.Given as goal
 
 abbrev pub invariant-loop-lo : goal.invariant-loop-lo
 invariant-loop-lo l =
     record {
-      in_range : l.lo ≤ l.committed;
-      from_here : Read.lowest l.log l.h l.lo (l.committed - l.lo) ≡ Read.lowest l.log l.h 0 l.committed;
+      size : l.lo-iterator.b.size ≡ frame_size;
+      at : l.lo-iterator.b.rest.now ≡ drop (frame_size * l.lo-iterator.a.start) l.log;
+      last : l.lo-iterator.a.end ≡ l.committed;
+      from_here :
+          Read.lowest l.log l.h l.lo-iterator.a.start (l.committed - l.lo-iterator.a.start)
+          ≡ Read.lowest l.log l.h 0 l.committed;
     }
-
-abbrev pub decreases-loop-lo : goal.decreases-loop-lo
-decreases-loop-lo l = l.committed - l.lo

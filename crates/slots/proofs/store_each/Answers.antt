@@ -1,22 +1,33 @@
 -- `slots::store_each` meets its contract. By the next frame stored, in a log of the same size.
-use Rattle.std.proofs.Common.{arith}
-use Rattle.slots.proofs.Slots.{each_more, each_end, slotted_next, next_slot}
+use Rattle.std.proofs.Common.{◌∙◌, refl, arith}
+use Rattle.slots.proofs.Slots.{each_more, next_slotted, each_end}
 use Rattle.slots.proofs.store_each.Goals as goal
+
+pub loop-x-init : goal.loop-x-init
+loop-x-init c =
+    rw (c.into_iter-x-iterator.ensures.into_iter_gives, c.chunks_exact-x-items.ensures.rest)
+    record { size = c.chunks_exact-x-items.ensures.size; stored = refl; slotted = c.requires }
 
 pub store_frame-requires : goal.store_frame-requires
 store_frame-requires c =
-    rw c.loop-i.auto.log
-    (next_slot _ c.args.frames.now _ c.loop-i.i c.loop-i-test.true (omega arith) c.loop-i.invariant.slotted)
+    let k = c.in-Some.ensures.steps in
+    let v = c.loop-x.invariant in
+    let h = k.1.1 ∙ v.size in
+    let s = next_slotted _ _ _ k.1.0 h _ v.slotted in
+    rw c.loop-x.auto.log (s.0, s.1, h)
 
-pub loop-i-preserved : goal.loop-i-preserved
-loop-i-preserved c =
+pub loop-x-preserved : goal.loop-x-preserved
+loop-x-preserved c =
+    let k = c.in-Some.ensures.steps in
+    let v = c.loop-x.invariant in
+    let h = k.1.1 ∙ v.size in
     record {
-      in_range = omega arith;
-      stored =
-          each_more c.loop-i.log _ c.args.frames.now _ _ c.loop-i.i c.loop-i-test.true c.store_frame.ensures
-          c.loop-i.invariant.stored;
-      slotted = (slotted_next _ _ _ c.loop-i.i c.loop-i-test.true c.loop-i.invariant.slotted).2;
+      size = k.0 ∙ v.size;
+      stored = each_more _ _ _ k.1.0 h _ _ _ c.store_frame.ensures v.stored;
+      slotted = (next_slotted _ _ _ k.1.0 h _ v.slotted).2;
     }
 
 pub returns : goal.returns
-returns c = each_end c.loop-i.log c.args.frames.now _ _ c.loop-i.i c.loop-i-test.false c.loop-i.invariant.stored
+returns c =
+    let v = c.loop-x.invariant in
+    each_end _ _ _ (omega (arith, c.in-None.ensures.steps.1.0, v.size)) v.stored

@@ -1,18 +1,15 @@
 -- Storing the frames that are left makes the log asked for.
-use Rattle.std.proofs.Common.{◌≡◌, ◌≤◌, ◌-◌, length}
-use Rattle.apollo.specs.Frame as Frame
+use Rattle.std.proofs.Common.{◌≡◌, length}
+use Rattle.apollo.specs.Size.{frame_size}
+use Rattle.apollo.specs.Frame.{frames_of}
 use Rattle.apollo.specs.Branch.{store_all}
 use Rattle.slots.specs.Slots.{Slotted}
-use Rattle.frame.proofs.Frames.{rest}
 use Rattle.slots.proofs.store_each.Given as goal
 
-abbrev pub invariant-loop-i : goal.invariant-loop-i
-invariant-loop-i l =
+abbrev pub invariant-loop-x : goal.invariant-loop-x
+invariant-loop-x l =
     record {
-      in_range : l.i ≤ l.n;
-      stored : store_all l.log (rest l.frames l.n l.i) ≡ store_all l.fn.log (Frame.frames l.n l.frames);
-      slotted : Slotted (length l.fn.log) (rest l.frames l.n l.i);
+      size : l.x-iterator.size ≡ frame_size;
+      stored : store_all l.log (frames_of l.x-iterator.rest.now) ≡ store_all l.fn.log (frames_of l.frames);
+      slotted : Slotted (length l.fn.log) (frames_of l.x-iterator.rest.now);
     }
-
-abbrev pub decreases-loop-i : goal.decreases-loop-i
-decreases-loop-i l = l.n - l.i
