@@ -6,6 +6,7 @@ use crate::command::{Command, Step};
 use crate::sent::{Queue, Sent};
 use apollo::size::OUT;
 use apollo::{Answer, Replica, Round, Ticks};
+use std::alloc::{AllocError, Global};
 use text::{Line, Stop};
 
 // A replica, with its log of 6 slots and its masks.
@@ -13,21 +14,21 @@ use text::{Line, Stop};
 struct Card {
     id: u8,
     record: Replica,
-    log: [u8; 3072],
+    log: Vec<u8>,
     masks: [u16; 6],
     queue: Queue,
 }
 
 impl Card {
     // A record of zeros: the replica is not opened yet.
-    fn closed(id: u8) -> Self {
-        Card {
+    fn closed(alloc: Global, id: u8) -> Result<Self, AllocError> {
+        Ok(Card {
             id,
             record: record::zero_replica(),
-            log: [0; 3072],
+            log: vec![in alloc; 0; 3072]?,
             masks: [0; 6],
             queue: Queue::new(id),
-        }
+        })
     }
 
     fn open(&mut self, out: &mut [u8; OUT]) -> Answer {
@@ -71,9 +72,9 @@ impl Card {
     }
 
     // The record of an answer is kept, and the frames put out are sent.
-    fn keep(&mut self, x: Answer, out: &[u8; OUT], sent: &mut Sent) {
+    fn keep(&mut self, x: Answer, out: &[u8; OUT], sent: &mut Sent) -> Result<(), AllocError> {
         self.record = x.replica;
-        sent.put(out, x.frames);
+        sent.put(out, x.frames)
     }
 
     // Prints replica, the answer's number, R, tip round, committed round: 39 bytes at most.
@@ -109,15 +110,19 @@ pub struct Bench {
 
 impl Bench {
     // The replicas are opened in their order.
-    pub fn open() -> Self {
-        let mut cards = [Card::closed(0), Card::closed(1), Card::closed(2)];
-        let mut sent = Sent::nothing();
+    pub fn open(alloc: Global) -> Result<Self, AllocError> {
+        let mut cards = [
+            Card::closed(alloc, 0)?,
+            Card::closed(alloc, 1)?,
+            Card::closed(alloc, 2)?,
+        ];
+        let mut sent = Sent::nothing(alloc);
         for card in cards.iter_mut() {
             let mut out = [0; OUT];
             let x = card.open(&mut out);
-            card.keep(x, &out, &mut sent);
+            card.keep(x, &out, &mut sent)?;
         }
-        Bench { cards, sent }
+        Ok(Bench { cards, sent })
     }
 
     // A step of a replica is carried out, and its answer printed.
@@ -127,7 +132,7 @@ impl Bench {
         let Some(x) = card.answer(command.step, &self.sent, &mut out) else {
             return Ok(());
         };
-        card.keep(x, &out, &mut self.sent);
+        card.keep(x, &out, &mut self.sent)?;
         card.show(rt, x.number)
     }
 }

@@ -31,7 +31,7 @@ fn obey(
 
 // Carries out the lines of the input. Nothing says that it ends, so the lines are counted, up to a number that no run uses up.
 fn run(rt: &(impl Input + AllocGlobal + Print + Eprint)) -> Result<(), Stop> {
-    let mut bench = Bench::open();
+    let mut bench = Bench::open(rt.alloc())?;
     let mut reader = Reader::new(rt.reader());
     let mut line = Vec::new(rt.alloc());
     for number in 1..u64::MAX {

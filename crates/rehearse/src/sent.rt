@@ -1,22 +1,22 @@
 // The frames that the replicas sent.
 use apollo::size::{FRAME, OUT};
-use arrayvec::ArrayVec;
+use std::alloc::{AllocError, Global};
 
 // All of them, the oldest first.
 #[derive(Drop)]
-pub struct Sent(ArrayVec<u8, 18432>);
+pub struct Sent(Vec<u8>);
 
 impl Sent {
-    pub fn nothing() -> Self {
-        Sent(ArrayVec::new())
+    pub fn nothing(alloc: Global) -> Self {
+        Sent(Vec::new(alloc))
     }
 
-    // The first frames of an out buffer are sent. There is room for all: a replica emits at most a blame and a block for each of the
-    // 6 rounds, which makes 36 frames.
-    pub fn put(&mut self, out: &[u8; OUT], count: u8) {
+    // The first frames of an out buffer are sent.
+    pub fn put(&mut self, out: &[u8; OUT], count: u8) -> Result<(), AllocError> {
         for x in out.chunks_exact(FRAME).take(usize::from(count)) {
-            let _ = self.0.try_extend_from_slice(x);
+            self.0.extend_from_slice(x)?;
         }
+        Ok(())
     }
 
     pub fn bytes(&self) -> &[u8] {

@@ -7,7 +7,8 @@ ghost use Rattle.text.specs.Reading.{taken, behind, unread, Next, to_come};
 use std::alloc::AllocError;
 use std::io::Read;
 
-// What was read last: of these bytes, those from `at` up to `end` are still to come.
+// What was read last: of these bytes, those from `at` up to `end` are still to come. A piece of its own, since std's BufReader
+// promises nothing of a reader whose bytes are not known, as `Next` does.
 #[derive(Drop)]
 pub struct Piece {
     pub bytes: [u8; 4096],
@@ -44,12 +45,14 @@ impl<R: Read> Reader<R> {
         ensures from { result.from ≡ from }
         ensures nothing_read { unread result.piece ≡ [] }
     {
-        let piece = Piece {
-            bytes: [0; 4096],
-            at: 0,
-            end: 0,
-        };
-        Reader { from, piece }
+        Reader {
+            from,
+            piece: Piece {
+                bytes: [0; 4096],
+                at: 0,
+                end: 0,
+            },
+        }
     }
 
     // Reads once into the whole piece, and answers how many bytes came. A read that fails is told, and none came.
