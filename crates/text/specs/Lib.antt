@@ -1,3 +1,4 @@
--- What the functions of text put into a line, and how they read.
+-- What the functions of text put into a line, how they read, and how a program ends.
 pub mod Reading
 pub mod Row
+pub mod Status

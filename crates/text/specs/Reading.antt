@@ -1,36 +1,36 @@
--- The bytes of an input, one by one, from a buffer.
-use Rattle.std.specs.Prelude.{◌≡◌, true, false, cond, List, [], ◌∷◌, Option, ℕ, ◌+◌, ◌<◌, min, ltb, length, get_or, take, drop}
+-- The bytes of an input, one by one, from the piece that was read last.
+use Rattle.std.specs.Prelude.{◌≡◌, cond, List, Option, None, ℕ, ◌+◌, ◌<◌, ltb, length, slice_get, take, drop}
+use Rattle.std.specs.Option.{option_to_list}
 use Rattle.std.specs.Io.KnownBytes.{prepend_known}
-use Rattle.text.specs.declared.Reader.{Reader}
+use Rattle.text.specs.declared.stdin.Piece.{Piece}
 
--- the reader at the same place, at the input's end
-abbrev pub over : Reader → Reader
-over r = record { at = r.at; end = r.end; byte = r.byte; is_over = true }
+-- the next byte of the piece, if one is left
+unfoldable pub taken : Piece → Option ℕ
+taken p = cond (ltb p.at p.end) (slice_get p.bytes p.at) None
 
--- the reader after the next byte of the buffer
-unfoldable pub taken : List ℕ → Reader → Reader
-taken xs r =
-    cond (ltb r.at (min r.end (length xs)))
-    (record { at = r.at + 1; end = r.end; byte = get_or xs r.at 0; is_over = false })
-    (over r)
+-- the piece after its next byte
+abbrev pub behind : Piece → Piece
+behind p = record { bytes = p.bytes; at = p.at + length (option_to_list (taken p)); end = p.end }
 
--- the reader before n bytes that were read to the buffer's front
-abbrev pub before : ℕ → Reader → Reader
-before n r = record { at = 0; end = n; byte = r.byte; is_over = r.is_over }
+-- a piece of n bytes, which were read to its front
+abbrev pub fresh : List ℕ → ℕ → Piece
+fresh xs n = record { bytes = xs; at = 0; end = n }
 
--- a step from r to q: what was read is not known, but it is used from its first byte on, and only once all before is used up
-pub record Next (xs ys : List ℕ) (r q : Reader) : Type 0 where
-  pub kept : r.at < r.end → ys ≡ xs
-  pub byte : q ≡ taken ys (cond (ltb r.at r.end) r (before q.end r))
+-- where the next byte is taken from, in a step from p to q: what is left of p, else the bytes that were read
+abbrev pub source : Piece → Piece → Piece
+source p q = cond (ltb p.at p.end) p (fresh q.bytes q.end)
 
--- the byte that came, unless the input has ended
-abbrev pub came : Reader → List ℕ
-came q = cond q.is_over [] (q.byte ∷ [])
+-- a step from p to q, by which o comes: what was read is not known, but it is used from its first byte on, and only once all
+-- before is used up
+pub record Next (p q : Piece) (o : Option ℕ) : Type 0 where
+  pub kept : p.at < p.end → q.bytes ≡ p.bytes
+  pub byte : o ≡ taken (source p q)
+  pub rest : q ≡ behind (source p q)
 
--- what is left of the buffer
-unfoldable pub unread : List ℕ → Reader → List ℕ
-unread xs r = drop r.at (take r.end xs)
+-- what is left of the piece
+unfoldable pub unread : Piece → List ℕ
+unread p = drop p.at (take p.end p.bytes)
 
--- the bytes still to come: what is left of the buffer, and then what reads will give, where that is known
-abbrev pub to_come : List ℕ → Reader → Option (List ℕ) → Option (List ℕ)
-to_come xs r left = prepend_known (unread xs r) left
+-- the bytes still to come: what is left of the piece, and then what reads will give, where that is known
+abbrev pub to_come : Piece → Option (List ℕ) → Option (List ℕ)
+to_come p left = prepend_known (unread p) left

@@ -1,0 +1,205 @@
+// The replicas, and the calls that they get.
+use apollo::{Answer, Height, Replica};
+use mixed_lines::input::{Call, Change, Place, Seat, Sizes, Slot, Task};
+use mixed_lines::print;
+use std::alloc::{AllocError, Global};
+use text::Stop;
+
+// A replica, with its log of 9 slots and its masks.
+#[derive(Drop)]
+struct Card {
+    record: Replica,
+    log: Box<[u8; 4608]>,
+    masks: [u16; 9],
+}
+
+// The answer of a call.
+fn answer(
+    change: Change<'_>,
+    r: Replica,
+    log: &mut [u8],
+    masks: &mut [u16],
+    entry: &[u8],
+    out: &mut [u8],
+) -> Answer {
+    match change {
+        Change::Open(o) => call_open::open(
+            o.id,
+            o.f,
+            o.timeout,
+            o.last_round,
+            o.rotation,
+            log,
+            masks,
+            entry,
+            out,
+        ),
+        Change::Branch(frames) => call_branch::branch(r, log, masks, frames, entry, out),
+        Change::Blame(frame) => call_blame::blame(r, log, masks, frame, entry, out),
+        Change::Blames(frames) => call_blame::blames(r, log, masks, frames, entry, out),
+        Change::Tick => call_tick::tick(r, log, masks, entry, out),
+    }
+}
+
+// The same with the parts that the call is lent.
+fn lend(
+    change: Change<'_>,
+    r: Replica,
+    sizes: Sizes,
+    log: &mut [u8; 4608],
+    masks: &mut [u16; 9],
+    entry: &[u8],
+    out: &mut [u8; 6144],
+) -> Answer {
+    let log = &mut log[..sizes.log];
+    let masks = &mut masks[..sizes.masks];
+    let out = &mut out[..sizes.out];
+    answer(change, r, log, masks, entry, out)
+}
+
+// What a call finds in its out buffer.
+fn blank() -> [u8; 6144] {
+    [165; 6144]
+}
+
+impl Card {
+    // A record, a log and masks of zeros.
+    fn blank(alloc: Global) -> Result<Self, AllocError> {
+        Ok(Card {
+            record: record::zero_replica(),
+            log: Box::new(alloc, [0; 4608])?,
+            masks: [0; 9],
+        })
+    }
+
+    // Another record, and a log and masks of zeros.
+    fn begin(&mut self, record: Replica) {
+        self.record = record;
+        *self.log = [0; 4608];
+        self.masks = [0; 9];
+    }
+
+    fn store(&mut self, place: Place, slot: Slot<'_>) {
+        slots::store(&mut *self.log, place.index as u32 + 1, slot.bytes);
+    }
+
+    // The record of an answer is kept, if it takes the call.
+    fn keep(&mut self, number: u8, record: Replica) {
+        if number == 0 {
+            self.record = record;
+        }
+    }
+
+    fn change(
+        &mut self,
+        rt: &impl Print,
+        r: Replica,
+        sizes: Sizes,
+        entry: &[u8],
+        change: Change<'_>,
+    ) -> Result<(), Stop> {
+        let mut out = blank();
+        let x = lend(
+            change,
+            r,
+            sizes,
+            &mut *self.log,
+            &mut self.masks,
+            entry,
+            &mut out,
+        );
+        print::answer(
+            rt,
+            x,
+            &self.log[..sizes.log],
+            &self.masks[..sizes.masks],
+            &out[..sizes.out],
+        )?;
+        self.keep(x.number, x.replica);
+        Ok(())
+    }
+
+    fn accuse(&mut self, rt: &impl Print, r: Replica, frames: &[u8]) -> Result<(), Stop> {
+        let x = call_equivocation::equivocation(r, frames);
+        self.keep(x.number, x.replica);
+        print::marked(rt, x)
+    }
+
+    // Both forms of read, which have to agree.
+    fn read(&self, rt: &impl Print, r: Replica, sizes: Sizes, height: Height) -> Result<(), Stop> {
+        let log = &self.log[..sizes.log];
+        let part = call_read::read_part(r, log, height);
+        let mut number = 0;
+        let entry = call_read::read(r, log, height, &mut number);
+        print::entry(rt, number, part.start, entry.len(), log)
+    }
+
+    fn fetch(&self, rt: &impl Print, r: Replica, sizes: Sizes, height: Height) -> Result<(), Stop> {
+        let log = &self.log[..sizes.log];
+        let mut out = blank();
+        let out = &mut out[..sizes.out];
+        let x = call_fetch::fetch(r, log, height, out);
+        print::fetched(rt, x, log, out)
+    }
+
+    // A call that gets the record r.
+    fn call(&mut self, rt: &impl Print, r: Replica, call: Call<'_>) -> Result<(), Stop> {
+        match call {
+            Call::Change(sizes, entry, change) => self.change(rt, r, sizes, entry, change),
+            Call::Equivocation(frames) => self.accuse(rt, r, frames),
+            Call::Read(sizes, height) => self.read(rt, r, sizes, height),
+            Call::Fetch(sizes, height) => self.fetch(rt, r, sizes, height),
+        }
+    }
+}
+
+// The five replicas, and the record that the next call gets instead of its replica's, if one is given.
+#[derive(Drop)]
+pub struct Table {
+    cards: [Card; 5],
+    given: Option<Replica>,
+}
+
+impl Table {
+    // Records, logs and masks of zeros.
+    pub fn blank(alloc: Global) -> Result<Self, AllocError> {
+        Ok(Table {
+            cards: [
+                Card::blank(alloc)?,
+                Card::blank(alloc)?,
+                Card::blank(alloc)?,
+                Card::blank(alloc)?,
+                Card::blank(alloc)?,
+            ],
+            given: None,
+        })
+    }
+
+    // The same again.
+    fn clear(&mut self) {
+        for card in self.cards.iter_mut() {
+            card.begin(record::zero_replica());
+        }
+        self.given = None;
+    }
+
+    fn call(&mut self, rt: &impl Print, seat: Seat, call: Call<'_>) -> Result<(), Stop> {
+        let card = &mut self.cards[seat.index];
+        let r = self.given.take().unwrap_or(card.record);
+        card.call(rt, r, call)
+    }
+
+    // Carries out the task of a line.
+    pub fn obey(&mut self, rt: &impl Print, task: Task<'_>) -> Result<(), Stop> {
+        match task {
+            Task::Clear => self.clear(),
+            Task::Begin(seat, record) => self.cards[seat.index].begin(record),
+            Task::Store(seat, place, slot) => self.cards[seat.index].store(place, slot),
+            Task::Mask(seat, place, mask) => self.cards[seat.index].masks[place.index] = mask,
+            Task::Give(record) => self.given = Some(record),
+            Task::Digest(bytes) => print::digest(rt, bytes)?,
+            Task::Call(seat, call) => self.call(rt, seat, call)?,
+        }
+        Ok(())
+    }
+}

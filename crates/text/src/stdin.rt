@@ -1,0 +1,109 @@
+// The lines of standard input.
+ghost use Rattle.std.specs.Prelude.{◌≡◌, ◌≢◌, [], ◌∷◌, ◌++◌, take, cond, All, IfOk};
+ghost use Rattle.std.specs.Option.{option_to_list};
+ghost use Rattle.std.specs.Io.KnownBytes.{Consumes};
+ghost use Rattle.text.specs.Reading.{taken, behind, unread, Next, to_come};
+
+use std::alloc::AllocError;
+use std::io::Read;
+
+// What was read last: of these bytes, those from `at` up to `end` are still to come. A piece of its own, since std's BufReader
+// promises nothing of a reader whose bytes are not known, as `Next` does.
+#[derive(Drop)]
+pub struct Piece {
+    pub bytes: [u8; 4096],
+    pub at: usize,
+    pub end: usize,
+}
+
+impl Piece {
+    // The next byte, if one is left.
+    #[tactic(auto, unfolding(crate::specs::Reading::taken))]
+    fn take(&mut self) -> Option<u8>
+        ensures byte { result ≡ taken self.old }
+        ensures rest { self.new ≡ behind self.old }
+    {
+        if self.end <= self.at {
+            return None;
+        }
+        let b = self.bytes.get(self.at).copied()?;
+        self.at += 1;
+        Some(b)
+    }
+}
+
+// A reader of standard input, which `from` reads.
+#[derive(Drop)]
+pub struct Reader<R> {
+    pub from: R,
+    pub piece: Piece,
+}
+
+impl<R: Read> Reader<R> {
+    #[tactic(auto, unfolding(crate::specs::Reading::unread))]
+    pub fn new(from: R) -> Self
+        ensures from { result.from ≡ from }
+        ensures nothing_read { unread result.piece ≡ [] }
+    {
+        Reader {
+            from,
+            piece: Piece {
+                bytes: [0; 4096],
+                at: 0,
+                end: 0,
+            },
+        }
+    }
+
+    // Reads once into the whole piece, and answers how many bytes came. A read that fails is told, and none came.
+    fn fill(&mut self, rt: &impl Eprint) -> usize
+        ensures at { self.new.piece.at ≡ self.old.piece.at }
+        ensures end { self.new.piece.end ≡ self.old.piece.end }
+        ensures bytes { Consumes (R.remaining self.old.from) (R.remaining self.new.from) (take result self.new.piece.bytes) }
+    {
+        match self.from.read(&mut self.piece.bytes) {
+            Ok(n) => n,
+            Err(e) => {
+                let _ = eprintln!(rt; "standard input: {e}");
+                0
+            }
+        }
+    }
+
+    // The next byte, unless the input has ended. Reads where none is left of the piece; a read that fails is told, and ends
+    // the input.
+    pub fn next(&mut self, rt: &impl Eprint) -> Option<u8>
+        ensures step { Next self.old.piece self.new.piece result }
+        ensures bytes { Consumes (to_come self.old.piece (R.remaining self.old.from)) (to_come self.new.piece (R.remaining self.new.from))
+            (option_to_list result) }
+    {
+        if self.piece.end <= self.piece.at {
+            self.piece.end = self.fill(rt);
+            self.piece.at = 0;
+        }
+        self.piece.take()
+    }
+
+    // Reads the next line, without its end. Answers whether the line ended; if not, the input did. Nothing says that either does,
+    // so the bytes are counted, up to a number that no run uses up.
+    pub fn read_line(&mut self, rt: &impl Eprint, line: &mut Vec<u8>) -> Result<bool, AllocError>
+        ensures bytes { IfOk result (λ is_line. Consumes (to_come self.old.piece (R.remaining self.old.from))
+            (to_come self.new.piece (R.remaining self.new.from)) (line.new.items ++ cond is_line (10 ∷ []) [])) }
+        ensures one { All (λ b. b ≢ 10) line.new.items }
+    {
+        line.clear();
+        for _ in 0..u64::MAX {
+            match self.next(rt) {
+                None => return Ok(false),
+                Some(b'\n') => return Ok(true),
+                Some(b) => line.push(b)?,
+            }
+        }
+        Ok(false)
+    }
+}
+
+// Tells that a line of the input is no command.
+pub fn no_command(rt: &impl Eprint, number: u64) {
+    let _ = eprintln!(rt; "line {number}: no command");
+}
