@@ -1,13 +1,20 @@
 -- The answers of read.
-use Rattle.std.specs.Prelude.{ℕ, ◌+◌, ◌-◌, ◌*◌, List}
+use Rattle.std.specs.Prelude.{ℕ, ◌+◌, ◌-◌, ◌*◌, List, Result, Ok, Err}
 use Rattle.apollo.specs.Size.{frame_size}
 use Rattle.apollo.specs.declared.Part.{Part}
+use Rattle.apollo.specs.declared.refusal.Refusal.{Refusal}
+use Rattle.apollo.specs.Refused.{number}
 use Rattle.apollo.specs.Frame.{entry_length}
 use Rattle.apollo.specs.Log.{slot}
 
 -- an empty part with the number of a refusal
 abbrev pub no_part : (number : ℕ) → Part
 no_part number = record { number = number; start = 0; length = 0 }
+
+-- what the code's result tells
+abbrev pub told : Result Part Refusal → Part
+told (Ok p) = p
+told (Err e) = no_part (number e)
 
 -- the entry in slot r
 abbrev pub entry_part : (log : List ℕ) (r : ℕ) → Part

@@ -1,20 +1,21 @@
 // The call read: the entry at a committed height. Takes any record and height, and slices of any length and content.
 #![tactic(auto)]
 
-ghost use Rattle.std.specs.Prelude.{◌≡◌, ◌+◌, ◌≤◌, ◌<◌, length};
+ghost use Rattle.std.specs.Prelude.{◌≡◌, ◌+◌, ◌≤◌, ◌<◌, length, IfOk};
 ghost use Rattle.apollo.specs.Bytes as Bytes;
 ghost use Rattle.apollo.specs.Calls.{read_call};
-ghost use Rattle.call_read.specs.Answers.{no_part, entry_part};
+ghost use Rattle.apollo.specs.Refused.{number, refusal_of};
+ghost use Rattle.call_read.specs.Answers.{no_part, entry_part, told};
 ghost use Rattle.apollo.specs.Read.{place_in};
 
 use apollo::size::FRAME;
-use apollo::{Height, Part, Replica};
+use apollo::{Height, Part, Refusal, Replica};
 
-fn no_part(number: u8) -> Part
-    ensures { result ≡ no_part number }
+fn no_part(e: Refusal) -> Part
+    ensures { result ≡ no_part (number e) }
 {
     Part {
-        number,
+        number: e.into(),
         start: 0,
         length: 0,
     }
@@ -34,17 +35,26 @@ fn entry_part(log: &[u8], r: u32) -> Part
 }
 
 // The part of the log that is the entry at a committed height: 2, 15, and taken.
+fn find(replica: Replica, log: &[u8], height: Height) -> Result<Part, Refusal>
+    ensures { told result ≡ (read_call replica log.now height.0).answer }
+{
+    if !(record_ranges::valid_record(replica) & record_ranges::valid_log(replica, log)) {
+        return Err(Refusal::BadReplica);
+    }
+    match log_heights::lowest(log, height.0, replica.committed_round.0) {
+        Some(r) => Ok(entry_part(log, r)),
+        None => Err(Refusal::Absent),
+    }
+}
+
+// The same as C has it.
 pub fn read_part(replica: Replica, log: &[u8], height: Height) -> Part
     ensures { result ≡ (read_call replica log.now height.0).answer }
 {
-    if !(record_ranges::valid_record(replica) & record_ranges::valid_log(replica, log)) {
-        return no_part(apollo::refusal::BAD_REPLICA);
+    match find(replica, log, height) {
+        Ok(part) => part,
+        Err(e) => no_part(e),
     }
-    let r = log_heights::lowest(log, height.0, replica.committed_round.0);
-    if r == 0 {
-        return no_part(apollo::refusal::ABSENT);
-    }
-    entry_part(log, r)
 }
 
 // The part p of the log: its bytes, in the place where they lie.
@@ -58,13 +68,12 @@ fn cut<'a>(log: &'a [u8], p: Part) -> &'a [u8]
     &log[start..end]
 }
 
-// The entry at a committed height, as the part of the lent log that `read_part` tells, empty if refused.
-pub fn read<'a>(replica: Replica, log: &'a [u8], height: Height, number: &mut u8) -> &'a [u8]
-    ensures bytes { result.now ≡ (read_call replica log.now height.0).bytes }
-    ensures place { result.ref_ptr ≡ place_in log.entry (read_call replica log.now height.0).answer.start }
-    ensures number { number.new ≡ (read_call replica log.now height.0).answer.number }
+// The entry at a committed height, as the part of the lent log that `read_part` tells.
+pub fn read<'a>(replica: Replica, log: &'a [u8], height: Height) -> Result<&'a [u8], Refusal>
+    ensures bytes { IfOk result (λ x. x.now ≡ (read_call replica log.now height.0).bytes) }
+    ensures place { IfOk result (λ x. x.ref_ptr ≡ place_in log.entry (read_call replica log.now height.0).answer.start) }
+    ensures number { refusal_of result ≡ (read_call replica log.now height.0).answer.number }
 {
-    let p = read_part(replica, log, height);
-    *number = p.number;
-    cut(log, p)
+    let p = find(replica, log, height)?;
+    Ok(cut(log, p))
 }
