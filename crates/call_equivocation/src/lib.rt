@@ -6,18 +6,19 @@ ghost use Rattle.apollo.specs.Size.{pair_size};
 ghost use Rattle.apollo.specs.Frame.{first_frame};
 ghost use Rattle.apollo.specs.Equivocation.{marked, second, conflicting};
 ghost use Rattle.apollo.specs.Calls.{equivocation_call};
+ghost use Rattle.apollo.specs.Refused.{number, verdict_of};
 ghost use Rattle.call_equivocation.specs.Judge.{judged_two, judged_pair};
 
 use apollo::size::{CHECK, FRAME, PAIR};
-use apollo::{Marked, Replica, Setup, Verdict};
+use apollo::{Marked, Refusal, Refused, Replica, Setup};
 use frame_forms::Form;
 
-fn answer(number: u8, place: u32, r: Replica) -> Marked
-    ensures { result ≡ marked number place r }
+fn refused(e: Refused, r: Replica) -> Marked
+    ensures { result ≡ marked (number e.refusal) e.place r }
 {
     Marked {
-        number,
-        place,
+        number: e.refusal.into(),
+        place: e.place,
         replica: r,
     }
 }
@@ -33,38 +34,26 @@ fn is_conflicting(x: &[u8], y: &[u8]) -> bool
 }
 
 // 7 and 8 of both, then 18.
-fn judge_two(s: Setup, frames: &[u8]) -> Verdict
+fn judge_two(s: Setup, frames: &[u8]) -> Result<(), Refused>
     requires { length frames.now ≡ pair_size }
-    ensures { result ≡ judged_two s (first_frame frames.now) (second frames.now) }
+    ensures { verdict_of result ≡ judged_two s (first_frame frames.now) (second frames.now) }
 {
-    let each = judging::judge_each(Form::Block, s, frames);
-    if each.number != 0 {
-        return each;
-    }
+    judging::judge_each(Form::Block, s, frames)?;
     if !is_conflicting(
         slices::part(frames, 0, FRAME),
         slices::part(frames, FRAME, FRAME),
     ) {
-        return Verdict {
-            number: apollo::refusal::NOT_EQUIVOCATION,
-            place: 0,
-        };
+        return Err(Refusal::NotEquivocation.into());
     }
-    Verdict {
-        number: 0,
-        place: 0,
-    }
+    Ok(())
 }
 
 // 6, and what follows it.
-fn judge_pair(s: Setup, frames: &[u8]) -> Verdict
-    ensures { result ≡ judged_pair s frames.now }
+fn judge_pair(s: Setup, frames: &[u8]) -> Result<(), Refused>
+    ensures { verdict_of result ≡ judged_pair s frames.now }
 {
     if frames.len() != PAIR {
-        return Verdict {
-            number: apollo::refusal::BAD_LENGTH,
-            place: 0,
-        };
+        return Err(Refusal::BadLength.into());
     }
     judge_two(s, frames)
 }
@@ -74,13 +63,16 @@ pub fn equivocation(replica: Replica, frames: &[u8]) -> Marked
     ensures { result ≡ equivocation_call replica frames.now }
 {
     if !record_ranges::valid_record(replica) {
-        return answer(apollo::refusal::BAD_REPLICA, 0, replica);
+        return refused(Refusal::BadReplica.into(), replica);
     }
     let s = record::setup(replica);
-    let judged = judge_pair(s, frames);
-    if judged.number != 0 {
-        return answer(judged.number, judged.place, replica);
+    if let Err(e) = judge_pair(s, frames) {
+        return refused(e, replica);
     }
     let card = rotation::leader(s, frame::round(slices::part(frames, 0, FRAME)));
-    answer(0, 0, record::with_mark(replica, card))
+    Marked {
+        number: 0,
+        place: 0,
+        replica: record::with_mark(replica, card),
+    }
 }

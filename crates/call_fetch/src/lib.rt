@@ -3,30 +3,44 @@
 
 ghost use Rattle.std.specs.Prelude.{◌≡◌};
 ghost use Rattle.apollo.specs.Calls.{fetch_call, fetched};
-ghost use Rattle.call_fetch.specs.Answers.{no_frames};
+ghost use Rattle.apollo.specs.Refused.{number};
+ghost use Rattle.call_fetch.specs.Answers.{no_frames, told};
 
 use apollo::size::OUT;
-use apollo::{Fetched, Height, Replica};
+use apollo::{Fetched, Height, Refusal, Replica};
 
-fn no_frames(number: u8) -> Fetched
-    ensures { result ≡ no_frames number }
+fn no_frames(e: Refusal) -> Fetched
+    ensures { result ≡ no_frames (number e) }
 {
-    Fetched { number, count: 0 }
+    Fetched {
+        number: e.into(),
+        count: 0,
+    }
 }
 
-// The chain frames above a height are copied to the start of the out buffer, as many as fit: 2, 4, 15, and taken.
-pub fn fetch(replica: Replica, log: &[u8], height: Height, out: &mut [u8]) -> Fetched
-    ensures { fetched result out.new ≡ fetch_call replica log.now height.0 out.old }
+// The chain frames above a height are copied to the start of the out buffer, as many as fit; how many: 2, 4, 15, and taken.
+fn copy_above(replica: Replica, log: &[u8], height: Height, out: &mut [u8]) -> Result<usize, Refusal>
+    ensures { fetched (told result) out.new ≡ fetch_call replica log.now height.0 out.old }
 {
     if !(record_ranges::valid_record(replica) & record_ranges::valid_log(replica, log)) {
-        return no_frames(apollo::refusal::BAD_REPLICA);
+        return Err(Refusal::BadReplica);
     }
     if out.len() < OUT {
-        return no_frames(apollo::refusal::OUT_TOO_SHORT);
+        return Err(Refusal::OutTooShort);
     }
     let count = log_heights::fetch_frames(log, height.0, replica.last_round.0, out);
     if count == 0 {
-        return no_frames(apollo::refusal::ABSENT);
+        return Err(Refusal::Absent);
     }
-    Fetched { number: 0, count }
+    Ok(count)
+}
+
+// The same as C has it.
+pub fn fetch(replica: Replica, log: &[u8], height: Height, out: &mut [u8]) -> Fetched
+    ensures { fetched result out.new ≡ fetch_call replica log.now height.0 out.old }
+{
+    match copy_above(replica, log, height, out) {
+        Ok(n) => Fetched { number: 0, count: n },
+        Err(e) => no_frames(e),
+    }
 }

@@ -36,7 +36,8 @@ fn entry_part(log: &[u8], r: u32) -> Part
 
 // The part of the log that is the entry at a committed height: 2, 15, and taken.
 fn find(replica: Replica, log: &[u8], height: Height) -> Result<Part, Refusal>
-    ensures { told result ≡ (read_call replica log.now height.0).answer }
+    ensures part { told result ≡ (read_call replica log.now height.0).answer }
+    ensures number { refusal_of result ≡ (read_call replica log.now height.0).answer.number }
 {
     if !(record_ranges::valid_record(replica) & record_ranges::valid_log(replica, log)) {
         return Err(Refusal::BadReplica);
