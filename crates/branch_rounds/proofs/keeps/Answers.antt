@@ -1,12 +1,7 @@
 -- `branch_rounds::keeps` meets its contract. By a law for each way that a frame's test goes, and for the end.
-use Rattle.std.proofs.Common.{◌∙◌, refl, arith}
+use Rattle.std.proofs.Common.{◌∙◌, arith}
 use Rattle.branch_rounds.proofs.Kept.{keeps_stop, keeps_next, keeps_end}
 use Rattle.branch_rounds.proofs.keeps.Goals as goal
-
-pub loop-x-init : goal.loop-x-init
-loop-x-init c =
-    rw (c.into_iter-x-iterator.ensures.into_iter_gives, c.chunks_exact-x-items.ensures.rest)
-    record { size = c.chunks_exact-x-items.ensures.size; answer = refl }
 
 pub returns-then-not-keeps_frame : goal.returns-then-not-keeps_frame
 returns-then-not-keeps_frame c =
