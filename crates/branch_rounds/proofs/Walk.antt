@@ -54,18 +54,18 @@ module _ (s : Setup) (masks : List ℕ) where
 
   -- the frames from s on, behind round lo: the frame x, and then t
   module _ (lo : ℕ) (b : List ℕ) (goal : ℕ) (e : first_uncertified s masks lo (frames_of b) ≡ goal) where
-    module _ (x t : List ℕ) (p : b ≡ x ++ t) (h : length x ≡ frame_size) where
-      pub stop : (r : ℕ) → Some r ≡ found (gap s masks lo (round x - lo - 1)) → Some r ≡ found goal
+    module _ (x t : List ℕ) (p : b ≡ x ++ t) (h : length x ≡ frame_size) (to : ℕ) (is : to ≡ round x) where
+      pub stop : (r : ℕ) → Some r ≡ found (gap s masks lo (to - lo - 1)) → Some r ≡ found goal
       unfolding first_uncertified
       stop r d =
-          let q = some_found (gap s masks lo (round x - lo - 1)) r d in
-          let z : gap s masks lo (round x - lo - 1) ≡ 0 → ⊥ = rw (q.0) (q.1) in
-          let g : gap s masks lo (round x - lo - 1) ≡ goal = rw (frames_more b x t p h, ne_eqb (gap s masks lo (round x - lo - 1)) 0 z) at e in
+          let q = some_found (gap s masks lo (to - lo - 1)) r d in
+          let z : gap s masks lo (to - lo - 1) ≡ 0 → ⊥ = rw (q.0) (q.1) in
+          let g : gap s masks lo (to - lo - 1) ≡ goal = rw (frames_more b x t p h, ← is, ne_eqb (gap s masks lo (to - lo - 1)) 0 z) at e in
           rw g at d
 
-      pub next : None ≡ found (gap s masks lo (round x - lo - 1)) → first_uncertified s masks (round x) (frames_of t) ≡ goal
+      pub next : None ≡ found (gap s masks lo (to - lo - 1)) → first_uncertified s masks to (frames_of t) ≡ goal
       unfolding first_uncertified
-      next d = rw (frames_more b x t p h, eq-eqb (gap s masks lo (round x - lo - 1)) 0 (none_found _ d)) at e
+      next d = rw (frames_more b x t p h, ← is, eq-eqb (gap s masks lo (to - lo - 1)) 0 (none_found _ d)) at e
 
     pub end : length b < frame_size → None ≡ found goal
     unfolding first_uncertified

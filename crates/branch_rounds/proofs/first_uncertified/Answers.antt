@@ -7,16 +7,15 @@ pub returns-in-Some-gap : goal.returns-in-Some-gap
 returns-in-Some-gap c =
     let k = c.in-Some.ensures.steps in
     let v = c.loop-x.invariant in
-    stop _ _ _ _ _ v.answer _ _ k.1.0 (k.1.1 ∙ v.size) _ (sym c.in-Some-gap.is ∙ (rw c.round-to.ensures at c.gap.ensures))
+    stop _ _ _ _ _ v.answer _ _ k.1.0 (k.1.1 ∙ v.size) _ c.round-to.ensures _ (sym c.in-Some-gap.is ∙ c.gap.ensures)
 
 pub loop-x-preserved : goal.loop-x-preserved
 loop-x-preserved c =
     let k = c.in-Some.ensures.steps in
     let v = c.loop-x.invariant in
-    rw c.round-to.ensures
     record {
       size = k.0 ∙ v.size;
-      answer = next _ _ _ _ _ v.answer _ _ k.1.0 (k.1.1 ∙ v.size) (sym c.in_default.is ∙ (rw c.round-to.ensures at c.gap.ensures));
+      answer = next _ _ _ _ _ v.answer _ _ k.1.0 (k.1.1 ∙ v.size) _ c.round-to.ensures (sym c.in_default.is ∙ c.gap.ensures);
     }
 
 pub returns : goal.returns
