@@ -25,7 +25,8 @@ module _ (s : Setup) (masks : List ℕ) where
   gap_none lo zero h = refl
   gap_none lo (suc k) h = rw (h (lo + 1) (omega arith) (omega arith)) (gap_none (lo + 1) k (λ r a b. h r (omega arith) (omega arith)))
 
-  pub gap_some : (lo k n : ℕ) → lo < n → n < lo + k + 1 → certified s masks n ≡ false → ((r : ℕ) → lo < r → r < n → certified s masks r ≡ true)
+  pub gap_some : (lo k n : ℕ) → lo < n → n < lo + k + 1 → certified s masks n ≡ false
+      → ((r : ℕ) → lo < r → r < n → certified s masks r ≡ true)
       → gap s masks lo k ≡ n
   unfolding gap
   gap_some lo zero n a b c h = absurd (omega arith)

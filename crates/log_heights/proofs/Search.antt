@@ -17,8 +17,8 @@ use Rattle.apollo.proofs.Found.{found_none, found_some}
 use Rattle.frame.proofs.Walk.{frame_there, frame_is}
 
 -- in the log up to round c: the frame x behind the first i, and none
-pub slot_is : (log s x t : List ℕ) (c i : ℕ) → frame_size * c ≤ length log → s ≡ drop (frame_size * i) (take (frame_size * c) log) → s ≡ x ++ t
-    → length x ≡ frame_size → (i < c) × (x ≡ slot log (i + 1))
+pub slot_is : (log s x t : List ℕ) (c i : ℕ) → frame_size * c ≤ length log → s ≡ drop (frame_size * i) (take (frame_size * c) log)
+    → s ≡ x ++ t → length x ≡ frame_size → (i < c) × (x ≡ slot log (i + 1))
 unfolding slot
 slot_is log s x t c i g a e h =
     let f : frame_size * i + frame_size ≤ length (take (frame_size * c) log) = frame_there (take (frame_size * c) log) s x t i a e h in
@@ -38,7 +38,8 @@ slots_done log s i c g a h = omega (arith, rw a at h, length-drop (frame_size * 
 
 -- lowest, from slot lo + 1 upwards to c
 module _ (log : List ℕ) (h lo c : ℕ) where
-  lowest_more : lo < c → lowest log h lo (c - lo) ≡ cond (readable (slot log (lo + 1)) h) (lo + 1) (lowest log h (lo + 1) (c - (lo + 1)))
+  lowest_more : lo < c → lowest log h lo (c - lo)
+      ≡ cond (readable (slot log (lo + 1)) h) (lo + 1) (lowest log h (lo + 1) (c - (lo + 1)))
   unfolding lowest
   lowest_more g =
       let q : c - lo ≡ suc (c - (lo + 1)) = omega arith in

@@ -9,5 +9,6 @@ abbrev pub invariant-loop-x : goal.invariant-loop-x
 invariant-loop-x l = record {
   size : l.x-iterator.size ≡ frame_size;
   answer :
-      Branch.first_uncertified l.s l.masks l.lo (frames_of l.x-iterator.rest.now) ≡ Branch.first_uncertified l.s l.masks l.a (frames_of l.frames);
+      Branch.first_uncertified l.s l.masks l.lo (frames_of l.x-iterator.rest.now)
+      ≡ Branch.first_uncertified l.s l.masks l.a (frames_of l.frames);
 }

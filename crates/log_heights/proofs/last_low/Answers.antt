@@ -9,7 +9,12 @@ use Rattle.log_heights.proofs.last_low.Goals as goal
 
 pub loop-r-init : goal.loop-r-init
 loop-r-init c =
-    rw (c.into_iter-r-iterator.ensures.into_iter_gives, c.enumerate-r-items.ensures.source, c.enumerate-r-items.ensures.count, c.chunks_exact.ensures.rest)
+    rw (
+      c.into_iter-r-iterator.ensures.into_iter_gives,
+      c.enumerate-r-items.ensures.source,
+      c.enumerate-r-items.ensures.count,
+      c.chunks_exact.ensures.rest,
+    )
     record { size = c.chunks_exact.ensures.size; at = refl; in_range = omega arith; from_here = rw sub-zero refl }
 
 pub returns-then-is_tall : goal.returns-then-is_tall

@@ -8,7 +8,12 @@ use Rattle.log_heights.proofs.lowest.Goals as goal
 
 pub loop-i-init : goal.loop-i-init
 loop-i-init c =
-    rw (c.into_iter-i-iterator.ensures.into_iter_gives, c.enumerate-i-items.ensures.source, c.enumerate-i-items.ensures.count, c.chunks_exact.ensures.rest)
+    rw (
+      c.into_iter-i-iterator.ensures.into_iter_gives,
+      c.enumerate-i-items.ensures.source,
+      c.enumerate-i-items.ensures.count,
+      c.chunks_exact.ensures.rest,
+    )
     record { size = c.chunks_exact.ensures.size; at = refl; from_here = rw sub-zero refl }
 
 pub returns-then-is_readable : goal.returns-then-is_readable
