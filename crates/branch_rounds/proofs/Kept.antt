@@ -1,33 +1,26 @@
 -- The slots that a branch would keep, frame by frame. Assumes nothing.
-use mathlib.Core.Path.{◌≡◌, sym, ◌∙◌}
+use mathlib.Core.Path.{◌≡◌}
 use mathlib.Core.Bool.{Bool, true, false}
-use mathlib.Core.List.{List}
-use Prim.Native.Nat.{ℕ, ◌+◌, ◌-◌, ◌*◌, ◌≤◌, ◌<◌}
-use lib.ListN.{take, drop}
+use mathlib.Core.List.{List, ◌++◌}
+use Prim.Native.Nat.{ℕ, ◌*◌, ◌<◌}
+use lib.ListN.{length}
 use Rattle.apollo.specs.Size.{frame_size}
 use Rattle.apollo.specs.Bytes.{blank}
-use Rattle.apollo.specs.Frame.{round}
+use Rattle.apollo.specs.Frame.{round, frames_of}
 use Rattle.branch_rounds.specs.Keeps.{keeps_frame, keeps_all}
-use Rattle.frame.proofs.Frames.{rest, rest_next, rest_end, frame_part}
+use Rattle.frame.proofs.Walk.{frames_more, frames_done}
 
--- along the frames
-module _ (log b : List ℕ) (lo n i c : ℕ) (k goal : Bool) (h : i < n)
-    (d : k ≡ keeps_frame log lo (take (frame_size * i + frame_size - frame_size * i) (drop (frame_size * i) b)) c)
-    (e : keeps_all log lo (rest b n i) c ≡ goal) where
-  pub keeps_stop : k ≡ false → false ≡ goal
+-- the frames from b on, above round lo: the frame x, and then t
+module _ (log b : List ℕ) (lo c : ℕ) (goal : Bool) (e : keeps_all log lo (frames_of b) c ≡ goal) where
+  module _ (x t : List ℕ) (p : b ≡ x ++ t) (h : length x ≡ frame_size) where
+    pub keeps_stop : false ≡ keeps_frame log lo x c → false ≡ goal
+    unfolding keeps_all
+    keeps_stop f = rw (frames_more b x t p h, ← f) at e
+
+    pub keeps_next : true ≡ keeps_frame log lo x c → keeps_all log (round x) (frames_of t) c ≡ goal
+    unfolding keeps_all
+    keeps_next f = rw (frames_more b x t p h, ← f) at e
+
+  pub keeps_end : length b < frame_size → blank log (frame_size * lo) (frame_size * c) ≡ goal
   unfolding keeps_all
-  keeps_stop f =
-      let g : keeps_frame log lo (take frame_size (drop (frame_size * i) b)) c ≡ false = rw (frame_part b (frame_size * i)) at (sym d ∙ f) in
-      rw (rest_next b n i h, g) at e
-
-  pub keeps_next : (to : ℕ) → k ≡ true → to ≡ round (take (frame_size * i + frame_size - frame_size * i) (drop (frame_size * i) b))
-      → keeps_all log to (rest b n (i + 1)) c ≡ goal
-  unfolding keeps_all
-  keeps_next to t f =
-      let g : keeps_frame log lo (take frame_size (drop (frame_size * i) b)) c ≡ true = rw (frame_part b (frame_size * i)) at (sym d ∙ t) in
-      rw (f, frame_part b (frame_size * i)) (rw (rest_next b n i h, g) at e)
-
-pub keeps_end : (log b : List ℕ) (lo n i c : ℕ) (k goal : Bool) → n ≤ i → k ≡ blank log (frame_size * lo) (frame_size * c)
-    → keeps_all log lo (rest b n i) c ≡ goal → k ≡ goal
-unfolding keeps_all
-keeps_end log b lo n i c k goal h d e = d ∙ (rw (rest_end b n i h) at e)
+  keeps_end h = rw (frames_done b h) at e

@@ -2,8 +2,9 @@
 // function takes slices of any length and any numbers.
 #![tactic(auto)]
 
-ghost use Rattle.std.specs.Prelude.{◌≡◌};
+ghost use Rattle.std.specs.Prelude.{◌≡◌, ◌-◌};
 ghost use Rattle.apollo.specs.Frame.{frames_of};
+ghost use Rattle.apollo.specs.Masks as Masks;
 ghost use Rattle.apollo.specs.Branch as Branch;
 ghost use Rattle.apollo.specs.Found.{found};
 ghost use Rattle.branch_rounds.specs.Keeps.{keeps_frame, keeps_all};
@@ -11,33 +12,26 @@ ghost use Rattle.branch_rounds.specs.Keeps.{keeps_frame, keeps_all};
 use apollo::Setup;
 use apollo::size::FRAME;
 
+// The first round between lo and `to` that is not certified.
+fn gap(s: Setup, masks: &[u16], lo: u32, to: u32) -> Option<u32>
+    ensures { result ≡ found (Masks.gap s masks.now lo (to - lo - 1)) }
+{
+    (lo.saturating_add(1)..to).find(|&r| !masks::certified(s, masks, r))
+}
+
 // The first round that the frames skip, the first of them on round a, and that is not certified.
 pub fn first_uncertified(s: Setup, masks: &[u16], a: u32, frames: &[u8]) -> Option<u32>
     ensures { result ≡ found (Branch.first_uncertified s masks.now a (frames_of frames.now)) }
 {
-    let n = frames.len() / FRAME;
     let mut lo = a;
-    let mut i = 0;
-    let found = 'walk: loop {
-        if n <= i {
-            break 'walk None;
-        }
-        let start = FRAME * i;
-        let e = start + FRAME;
-        let to = frame::round(&frames[start..e]);
-        let end = to as u64;
-        let mut p = lo as u64;
-        while p + 1 < end {
-            let place = (p + 1) as u32;
-            if !masks::certified(s, masks, place) {
-                break 'walk Some(place);
-            }
-            p += 1;
+    for x in frames.chunks_exact(FRAME) {
+        let to = frame::round(x);
+        if let Some(place) = gap(s, masks, lo, to) {
+            return Some(place);
         }
         lo = to;
-        i += 1;
-    };
-    found
+    }
+    None
 }
 
 // The slots above round lo up to that of frame x and to the committed round would keep their bytes.
@@ -50,31 +44,22 @@ fn keeps_frame(log: &[u8], lo: u32, x: &[u8], committed: u32) -> bool
     if committed < r {
         return slices::is_blank(log, a, FRAME * (committed as usize));
     }
-    if r == 0 {
+    let Some(below) = r.checked_sub(1) else {
         return false;
-    }
-    if !slices::is_blank(log, a, FRAME * ((r - 1) as usize)) {
-        return false;
-    }
-    slices::same_bytes(slots::slot(log, r), x)
+    };
+    slices::is_blank(log, a, FRAME * (below as usize)) && slices::same_bytes(slots::slot(log, r), x)
 }
 
 // The slots up to the committed round would keep their bytes if the frames were taken on round a.
 pub fn keeps(log: &[u8], a: u32, frames: &[u8], committed: u32) -> bool
     ensures { result ≡ keeps_all log.now a (frames_of frames.now) committed }
 {
-    let n = frames.len() / FRAME;
     let mut lo = a;
-    let mut i = 0;
-    while i < n {
-        let s = FRAME * i;
-        let e = s + FRAME;
-        let x = &frames[s..e];
+    for x in frames.chunks_exact(FRAME) {
         if !keeps_frame(log, lo, x, committed) {
             return false;
         }
         lo = frame::round(x);
-        i += 1;
     }
     slices::is_blank(log, FRAME * (lo as usize), FRAME * (committed as usize))
 }

@@ -1,30 +1,45 @@
 -- A walk upward over the slots of a log, and the search for the lowest readable one. Assumes nothing.
-use mathlib.Core.Path.{◌≡◌, sym, ◌∙◌}
+use mathlib.Core.Path.{◌≡◌, sym, ap, ◌∙◌}
 use mathlib.Core.Bool.{true, false, cond}
 use mathlib.Core.List.{List, ◌++◌}
 use Prim.Native.Nat.{ℕ, suc, ◌+◌, ◌-◌, ◌*◌, ◌≤◌, ◌<◌}
 use native.Mathlib.Numerals.{add-one}
 use native.Mathlib.Omega.{arith}
-use lib.ListN.{length, drop, length-drop}
+use lib.ListN.{length, take, drop, length-take, length-drop}
+use lib.Seq.{take-take}
+use Rattle.std.proofs.lemmas.List.{drop-take}
 use Rattle.std.specs.Prelude.{Some, None}
 use Rattle.apollo.specs.Size.{frame_size}
 use Rattle.apollo.specs.Log.{slot}
 use Rattle.apollo.specs.Read.{readable, lowest}
 use Rattle.apollo.specs.Found.{found}
 use Rattle.apollo.proofs.Found.{found_none, found_some}
-use Rattle.frame.proofs.Walk.{frame_is}
+use Rattle.frame.proofs.Walk.{frame_there, frame_is}
 
--- the frame x behind the first lo, and none
-pub slot_is : (log s x t : List ℕ) (lo : ℕ) → s ≡ drop (frame_size * lo) log → s ≡ x ++ t → length x ≡ frame_size → x ≡ slot log (lo + 1)
+-- in the log up to round c: the frame x behind the first i, and none
+pub slot_is : (log s x t : List ℕ) (c i : ℕ) → frame_size * c ≤ length log → s ≡ drop (frame_size * i) (take (frame_size * c) log)
+    → s ≡ x ++ t → length x ≡ frame_size → (i < c) × (x ≡ slot log (i + 1))
 unfolding slot
-slot_is log s x t lo a e h = rw add-one (frame_is log s x t lo a e h)
+slot_is log s x t c i g a e h =
+    let f : frame_size * i + frame_size ≤ length (take (frame_size * c) log) = frame_there (take (frame_size * c) log) s x t i a e h in
+    let l : i < c = omega (arith, f, length-take (frame_size * c) log) in
+    let p : frame_size * c ≡ frame_size * i + (frame_size * c - frame_size * i) = omega arith in (
+      l,
+      rw add-one
+          (frame_is (take (frame_size * c) log) s x t i a e h
+          ∙ ap (λ (n : ℕ). take frame_size (drop (frame_size * i) (take n log))) p
+          ∙ ap (take frame_size) (drop-take (frame_size * i) (frame_size * c - frame_size * i) log)
+          ∙ take-take frame_size (frame_size * c - frame_size * i) (drop (frame_size * i) log) (omega arith)),
+    )
 
-pub slots_done : (log s : List ℕ) (lo c : ℕ) → frame_size * c ≤ length log → s ≡ drop (frame_size * lo) log → length s < frame_size → c ≤ lo
-slots_done log s lo c g a h = omega (arith, rw a at h, length-drop (frame_size * lo) log)
+pub slots_done : (log s : List ℕ) (i c : ℕ) → frame_size * c ≤ length log → s ≡ drop (frame_size * i) (take (frame_size * c) log)
+    → length s < frame_size → c ≤ i
+slots_done log s i c g a h = omega (arith, rw a at h, length-drop (frame_size * i) (take (frame_size * c) log), length-take (frame_size * c) log)
 
 -- lowest, from slot lo + 1 upwards to c
 module _ (log : List ℕ) (h lo c : ℕ) where
-  lowest_more : lo < c → lowest log h lo (c - lo) ≡ cond (readable (slot log (lo + 1)) h) (lo + 1) (lowest log h (lo + 1) (c - (lo + 1)))
+  lowest_more : lo < c → lowest log h lo (c - lo)
+      ≡ cond (readable (slot log (lo + 1)) h) (lo + 1) (lowest log h (lo + 1) (c - (lo + 1)))
   unfolding lowest
   lowest_more g =
       let q : c - lo ≡ suc (c - (lo + 1)) = omega arith in

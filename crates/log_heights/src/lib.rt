@@ -25,9 +25,10 @@ pub fn lowest(log: &[u8], h: u32, committed: u32) -> Option<u32>
     requires { frame_size * committed ≤ length log.now }
     ensures { result ≡ found (Read.lowest log.now h 0 committed) }
 {
-    for (lo, x) in (0..committed).zip(log.chunks_exact(FRAME)) {
+    let end = FRAME * (committed as usize);
+    for (i, x) in log[..end].chunks_exact(FRAME).enumerate() {
         if is_readable(x, h) {
-            return Some(lo + 1);
+            return Some(i as u32 + 1);
         }
     }
     None
@@ -60,9 +61,10 @@ fn last_low(log: &[u8], h: u32, last_round: u32) -> u32
     requires { frame_size * last_round ≤ length log.now }
     ensures { result ≡ last_low log.now h 0 last_round }
 {
-    for (r, x) in (0..last_round).zip(log.chunks_exact(FRAME)) {
+    let end = FRAME * (last_round as usize);
+    for (r, x) in log[..end].chunks_exact(FRAME).enumerate() {
         if is_tall(x, h) {
-            return r;
+            return r as u32;
         }
     }
     last_round

@@ -1,36 +1,24 @@
--- `branch_rounds::first_uncertified` meets its contract. By a law for each step of the walk.
+-- `branch_rounds::first_uncertified` meets its contract. By a law for each way that a frame's search goes.
 use Rattle.std.proofs.Common.{◌∙◌, sym, arith}
-use Rattle.branch_rounds.proofs.Walk.{pass, stop, leave, enter, end, told_none, told_round}
+use Rattle.branch_rounds.proofs.Walk.{stop, next, end}
 use Rattle.branch_rounds.proofs.first_uncertified.Goals as goal
 
-pub loop-p-init : goal.loop-p-init
-loop-p-init c = record {
-  p_fits = omega arith;
-  answer =
-      enter _ c.args.masks.now c.args.frames.now c.walk.lo _ c.walk.i c.round-to.result (omega arith) c.round-to.ensures
-      ∙ c.walk.invariant.answer;
-}
+pub returns-in-Some-gap : goal.returns-in-Some-gap
+returns-in-Some-gap c =
+    let k = c.in-Some.ensures.steps in
+    let v = c.loop-x.invariant in
+    stop _ _ _ _ _ v.answer _ _ k.1.0 (k.1.1 ∙ v.size) _ c.round-to.ensures _ (sym c.in-Some-gap.is ∙ c.gap.ensures)
 
-pub loop-p-preserved : goal.loop-p-preserved
-loop-p-preserved c = record {
-  p_fits = omega arith;
-  answer =
-      pass _ c.args.masks.now c.loop-p.p c.round-to.result _ c.loop-p-test.true (sym c.if-not-certified.ensures)
-      ∙ c.loop-p.invariant.answer;
-}
+pub loop-x-preserved : goal.loop-x-preserved
+loop-x-preserved c =
+    let k = c.in-Some.ensures.steps in
+    let v = c.loop-x.invariant in
+    record {
+      size = k.0 ∙ v.size;
+      answer = next _ _ _ _ _ v.answer _ _ k.1.0 (k.1.1 ∙ v.size) _ c.round-to.ensures (sym c.in_default.is ∙ c.gap.ensures);
+    }
 
-pub walk-preserved : goal.walk-preserved
-walk-preserved c = record {
-  in_range = omega arith;
-  answer = leave _ c.args.masks.now c.loop-p.p c.round-to.result _ c.loop-p-test.false ∙ c.loop-p.invariant.answer;
-}
-
-pub returns-then-n-i : goal.returns-then-n-i
-returns-then-n-i c =
-    told_none _ (end c.args.s c.args.masks.now c.args.frames.now c.walk.lo _ c.walk.i c.if-n-i.true ∙ c.walk.invariant.answer)
-
-pub returns-then-not-certified : goal.returns-then-not-certified
-returns-then-not-certified c =
-    told_round _ _ (omega arith)
-    (stop c.args.s c.args.masks.now c.loop-p.p c.round-to.result _ c.loop-p-test.true (sym c.if-not-certified.ensures)
-    ∙ c.loop-p.invariant.answer)
+pub returns : goal.returns
+returns c =
+    let v = c.loop-x.invariant in
+    end _ _ _ _ _ v.answer (omega (arith, c.in-None.ensures.steps.1.0, v.size))

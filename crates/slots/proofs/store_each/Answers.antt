@@ -1,12 +1,7 @@
 -- `slots::store_each` meets its contract. By the next frame stored, in a log of the same size.
-use Rattle.std.proofs.Common.{◌∙◌, refl, arith}
+use Rattle.std.proofs.Common.{◌∙◌, arith}
 use Rattle.slots.proofs.Slots.{each_more, next_slotted, each_end}
 use Rattle.slots.proofs.store_each.Goals as goal
-
-pub loop-x-init : goal.loop-x-init
-loop-x-init c =
-    rw (c.into_iter-x-iterator.ensures.into_iter_gives, c.chunks_exact-x-items.ensures.rest)
-    record { size = c.chunks_exact-x-items.ensures.size; stored = refl; slotted = c.requires }
 
 pub store_frame-requires : goal.store_frame-requires
 store_frame-requires c =
