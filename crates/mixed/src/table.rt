@@ -129,9 +129,11 @@ impl Card {
     fn read(&self, rt: &impl Print, r: Replica, sizes: Sizes, height: Height) -> Result<(), Stop> {
         let log = &self.log[..sizes.log];
         let part = call_read::read_part(r, log, height);
-        let mut number = 0;
-        let entry = call_read::read(r, log, height, &mut number);
-        print::entry(rt, number, part.start, entry.len(), log)
+        let (number, size) = match call_read::read(r, log, height) {
+            Ok(entry) => (0, entry.len()),
+            Err(e) => (e.into(), 0),
+        };
+        print::entry(rt, number, part.start, size, log)
     }
 
     fn fetch(&self, rt: &impl Print, r: Replica, sizes: Sizes, height: Height) -> Result<(), Stop> {
