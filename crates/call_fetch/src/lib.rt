@@ -19,7 +19,12 @@ fn no_frames(e: Refusal) -> Fetched
 }
 
 // The chain frames above a height are copied to the start of the out buffer, as many as fit; how many: 2, 4, 15, and taken.
-fn copy_above(replica: Replica, log: &[u8], height: Height, out: &mut [u8]) -> Result<usize, Refusal>
+fn copy_above(
+    replica: Replica,
+    log: &[u8],
+    height: Height,
+    out: &mut [u8],
+) -> Result<usize, Refusal>
     ensures { fetched (told result) out.new ≡ fetch_call replica log.now height.0 out.old }
 {
     if !(record_ranges::valid_record(replica) & record_ranges::valid_log(replica, log)) {
@@ -40,7 +45,10 @@ pub fn fetch(replica: Replica, log: &[u8], height: Height, out: &mut [u8]) -> Fe
     ensures { fetched result out.new ≡ fetch_call replica log.now height.0 out.old }
 {
     match copy_above(replica, log, height, out) {
-        Ok(n) => Fetched { number: 0, count: n },
+        Ok(n) => Fetched {
+            number: 0,
+            count: n,
+        },
         Err(e) => no_frames(e),
     }
 }

@@ -26,7 +26,7 @@ pub fn open(
     if let Err(e) = refusals::of_open(r, rotation.len(), log, masks, entry.len(), out.len()) {
         return calls::refused(record::zero_replica(), e.into());
     }
-    log.fill(0);
-    masks.fill(0);
+    slices::clear(log);
+    masks::clear(masks);
     rounds::enter_round(r, log, entry, out)
 }

@@ -26,7 +26,14 @@ fn judge_room(entry: usize, out: usize) -> Result<(), Refusal>
 }
 
 // Open: 1, 17, 4 and 5. The record has the rotation, padded; `length` is how long that was.
-pub fn of_open(r: Replica, length: usize, log: &[u8], masks: &[u16], entry: usize, out: usize) -> Result<(), Refusal>
+pub fn of_open(
+    r: Replica,
+    length: usize,
+    log: &[u8],
+    masks: &[u16],
+    entry: usize,
+    out: usize,
+) -> Result<(), Refusal>
     ensures { refusal_of result ≡ open_number r length log.now masks.now entry out }
 {
     if !(record_ranges::valid_own(r)
@@ -40,7 +47,14 @@ pub fn of_open(r: Replica, length: usize, log: &[u8], masks: &[u16], entry: usiz
 }
 
 // Tick, branch, blame and blames: 2 to 5. The caller tests the record by itself, from its own copy: the compiler then makes no other.
-pub fn guard(is_valid: bool, r: Replica, log: &[u8], masks: &[u16], entry: usize, out: usize) -> Result<(), Refusal>
+pub fn guard(
+    is_valid: bool,
+    r: Replica,
+    log: &[u8],
+    masks: &[u16],
+    entry: usize,
+    out: usize,
+) -> Result<(), Refusal>
     ensures { refusal_of result ≡ guard_number is_valid r log.now masks.now entry out }
 {
     if !(is_valid & record_ranges::valid_log(r, log) & record_ranges::valid_masks(r, masks)) {

@@ -25,7 +25,7 @@ fn clear_above(log: &mut [u8], r: u32)
 {
     let a = FRAME * (r as usize);
     if a < log.len() {
-        log[a..].fill(0);
+        slices::clear(&mut log[a..]);
     }
 }
 
@@ -35,7 +35,7 @@ pub fn store(log: &mut [u8], r: u32, x: &[u8])
     ensures { log.new ≡ Log.store log.old r x.now }
 {
     let e = FRAME * (r as usize);
-    log[e - FRAME..e].copy_from_slice(x);
+    slices::copy(&mut log[e - FRAME..e], x);
 }
 
 // Frame x is stored in the slot of its round.

@@ -4,4 +4,4 @@ use Rattle.slots.proofs.Slots.{stored}
 use Rattle.slots.proofs.store.Goals as goal
 
 pub returns : goal.returns
-returns c = stored c.args.log.now c.args.x.now c.args.r c.copy_from_slice.new.self (omega arith) c.copy_from_slice.ensures.after
+returns c = stored c.args.log.now c.args.x.now c.args.r c.copy.new.out (omega arith) c.copy.ensures
