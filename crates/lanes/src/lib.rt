@@ -24,7 +24,7 @@ fn last_block(s: &[u8]) -> [u8; 64]
 #[derive(Clone, Copy)]
 pub struct Four(pub [[u8; 32]; 4]);
 
-// The SHA-256 digests of four messages of 480 bytes.
+// The SHA-256 digests of four messages of 480 bytes. Lists of four: with `map` and a closure it was not proved that each block is there.
 pub fn digest4(m: [&[u8]; 4]) -> Four
     requires { All (λ message. length message.now ≡ 480) m }
     ensures { result.0 ≡ map (λ message. sha256 message.now) m.entry }

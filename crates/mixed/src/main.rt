@@ -30,7 +30,8 @@ fn obey(
     }
 }
 
-// Carries out the lines of the input. Nothing says that it ends, so the lines are counted, up to a number that no run uses up.
+// Carries out the lines of the input, as `run` of rehearse does: a function of both would need a closure over what each keeps. Nothing says
+// that the input ends, so the lines are counted, up to a number that no run uses up.
 fn run(rt: &(impl Input + AllocGlobal + Print + Eprint)) -> Result<(), Stop> {
     let mut table = Table::blank(rt.alloc())?;
     let mut bytes = Bytes::default();

@@ -57,7 +57,8 @@ fn store_each(log: &mut [u8], frames: &[u8])
     }
 }
 
-// The frames are taken on round a.
+// The frames are taken on round a. That they have slots is asked by this, by what it calls and by what calls it, and by nothing else: a
+// type that holds it would say it no less often.
 pub fn take_branch(log: &mut [u8], a: u32, frames: &[u8])
     requires { Slotted (length log.old) (frames_of frames.now) }
     ensures { log.new ≡ Branch.grown log.old a (frames_of frames.now) }
