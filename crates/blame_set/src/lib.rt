@@ -35,8 +35,8 @@ fn joined(x: &[u8], before: u16) -> u16
     masks::with_bit(before, frame::signer(x))
 }
 
-// The frames are of round r, and no signer is there twice. That signers have bits is asked here, below and in `add_blames`: a type that holds
-// it would be made once, by `judge_set`, and opened in its one caller.
+// The frames are of round r, and no signer is there twice. That signers have bits is asked here, below and in `add_blames`: a type that
+// holds it would be made once, by `judge_set`, and opened in its one caller.
 fn is_one_set(frames: &[u8], r: u32) -> bool
     requires { HaveBits (frames_of frames.now) }
     ensures { result ≡ Blame.one_set r 0 (frames_of frames.now) }

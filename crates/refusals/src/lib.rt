@@ -1,5 +1,6 @@
-// What refuses a call: the first refusal, and for a branch and for blames its place. Of the entry and the out buffer the length is enough. Every public function takes any record, and slices of any length and content; `guard` is told
-// whether the record, by itself, is valid.
+// What refuses a call: the first refusal, and for a branch and for blames its place. Of the entry and the out buffer the length is
+// enough. Every public function takes any record, and slices of any length and content; `guard` is told whether the record, by
+// itself, is valid.
 #![tactic(auto)]
 
 ghost use Rattle.std.specs.Prelude.{◌≡◌, ◌≤◌};

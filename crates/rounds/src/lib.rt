@@ -1,6 +1,6 @@
 // What a replica does without being refused: it enters a round, hears its own blame, settles a round after blames, or counts a tick
-// down. Log, masks, entry and out buffer come one by one, as C lends them, and in three forms: open, blame and tick change the masks, a branch
-// reads them, and a tick hands on what lies behind its blame in out. One struct would have to be three.
+// down. Log, masks, entry and out buffer come one by one, as C lends them, and in three forms: open, blame and tick change the masks, a
+// branch reads them, and a tick hands on what lies behind its blame in out. One struct would have to be three.
 #![tactic(auto)]
 
 ghost use Rattle.std.specs.Prelude.{◌≡◌, ◌&&◌, List, ℕ, ◌-◌, ◌≤◌, ◌<◌, eqb};
