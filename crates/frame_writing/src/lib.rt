@@ -10,13 +10,13 @@ ghost use Rattle.frame_writing.specs.Put.{Written};
 
 use apollo::size::CHECK;
 
-// Writes x from `start` on.
+// Writes x from `start` on, not by `copy_from_slice`: of the C library the archive needs memset alone.
 fn put(out: &mut [u8], start: usize, x: &[u8])
     requires { start + length x.now ≤ length out.old }
     ensures { Written out.old start x.now out.new }
 {
     let end = start + x.len();
-    out[start..end].copy_from_slice(x);
+    slices::copy(&mut out[start..end], x);
 }
 
 // Writes zeros from `start` up to, not including, `end`.

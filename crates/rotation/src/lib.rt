@@ -65,6 +65,6 @@ pub fn padded(rotation: &[u8]) -> [u8; 15]
 {
     let mut seats = [0; 15];
     let n = rotation.len().min(15);
-    seats[..n].copy_from_slice(&rotation[..n]);
+    slices::copy(&mut seats[..n], &rotation[..n]);
     seats
 }
