@@ -59,12 +59,13 @@ pub fn valid_rotation(seats: [u8; 15], n: usize) -> bool
 }
 
 // A rotation as a record holds it: 15 seats, zero past its end; of a longer one, which 17 refuses, the first 15.
-#[tactic(auto, using(crate::proofs::Fill::filled))]
+// One by one: a copy of n bytes is a call of memcpy, and of the C library the archive needs memset alone.
 pub fn padded(rotation: &[u8]) -> [u8; 15]
     ensures { result ≡ padded rotation.now }
 {
     let mut seats = [0; 15];
-    let n = rotation.len().min(15);
-    slices::copy(&mut seats[..n], &rotation[..n]);
+    for i in 0..15 {
+        seats[i] = slices::byte(rotation, i);
+    }
     seats
 }
