@@ -11,6 +11,7 @@ pub mod Enter
 pub mod Committed
 pub mod Judging
 pub mod Refused
+pub mod Kind
 pub mod Found
 pub mod BlockRun
 pub mod Outcome

@@ -3,11 +3,14 @@
 #![tactic(auto)]
 
 ghost use Rattle.std.specs.Prelude.{◌≡◌, ◌-◌};
+ghost use Rattle.apollo.specs.Setup.{setup_of};
 
 pub mod claims;
+pub mod kind;
 pub mod refusal;
 pub mod size;
 
+pub use kind::{Kind, UnknownKind};
 pub use refusal::{Refusal, Refused};
 
 // A round, 1 to T; the genesis has round 0.
@@ -56,6 +59,20 @@ pub struct Replica {
     pub committed_height: Height,
     pub rotation: [u8; 15], // seating, zero past n
     pub equivocators: u16, // marks, bit i for card i
+}
+
+// The set-up in a record.
+impl From<Replica> for Setup {
+    ghost from_gives = { λ r s. s ≡ setup_of r };
+
+    fn from(r: Replica) -> Setup {
+        let rotation = r.rotation;
+        Setup {
+            f: r.f,
+            last_round: r.last_round,
+            rotation,
+        }
+    }
 }
 
 // The answer of open, branch, blame, blames and tick (results).

@@ -14,8 +14,7 @@ ghost use Rattle.blame_set.specs.Set as Set;
 ghost use Rattle.blame_set.specs.Set.{HaveBits};
 
 use apollo::size::FRAME;
-use apollo::{Refusal, Refused, Replica};
-use frame_forms::Form;
+use apollo::{Kind, Refusal, Refused, Replica};
 
 // Frame x is of round r, and its signer is not in the mask.
 fn joins(x: &[u8], r: u32, before: u16) -> bool
@@ -94,7 +93,7 @@ fn judge_frames(r: Replica, masks: &[u16], frames: &[u8]) -> Result<(), Refused>
     requires { (r.f ≤ 7) × (length frames.now ≤ frame_size * 15) }
     ensures { verdict_of result ≡ Set.judged_frames r masks.now frames.now }
 {
-    judging::judge_each(Form::Blame, record::setup(r), frames)?;
+    judging::judge_each(Kind::Blame, r.into(), frames)?;
     Ok(judge_together(r, masks, frames)?)
 }
 

@@ -24,7 +24,7 @@ fn is_stale(round: u32, frames: &[u8]) -> bool
 fn judge_on(r: Replica, log: &[u8], masks: &[u16], frames: &[u8], a: u32) -> Result<u32, Refused>
     ensures { judged_of result ≡ Judge.judged_on r log.now masks.now frames.now a }
 {
-    if let Some(place) = branch_rounds::first_uncertified(record::setup(r), masks, a, frames) {
+    if let Some(place) = branch_rounds::first_uncertified(r.into(), masks, a, frames) {
         return Err(Refused {
             refusal: Refusal::NotCertified,
             place,
@@ -53,7 +53,7 @@ fn judge_whole(r: Replica, log: &[u8], masks: &[u16], frames: &[u8]) -> Result<u
     requires { length frames.now ≤ frame_size * r.last_round.0 }
     ensures { judged_of result ≡ Judge.judged_whole r log.now masks.now frames.now }
 {
-    judging::judge_run(record::setup(r), Start::AnyParent, frames)?;
+    judging::judge_run(r.into(), Start::AnyParent, frames)?;
     if is_stale(r.round.0, frames) {
         return Err(Refusal::Stale.into());
     }

@@ -6,6 +6,7 @@ ghost use Rattle.apollo.specs.Frame as Frame;
 ghost use Rattle.apollo.specs.Log as Log;
 ghost use Rattle.branch_links.specs.Answers.{attach_of};
 
+use apollo::Kind;
 use apollo::size::FRAME;
 
 // Frame x attaches to slot r.
@@ -14,7 +15,7 @@ fn attaches(log: &[u8], x: &[u8], r: u32) -> bool
     ensures { result ≡ Log.filled (Log.slot log.now r) && Frame.linked (Log.slot log.now r) x.now }
 {
     let p = slots::slot(log, r);
-    frame::kind(p) == 1 && frame::linked(p, x)
+    frame::is_kind(p, Kind::Block) && frame::linked(p, x)
 }
 
 // Frame x attaches to the genesis.

@@ -1,5 +1,5 @@
-// The calls blame and blames: one frame, or a set of up to 15. The answer and the lent buffers are those of the definitions, refused
-// or not.
+// The calls blame and blames: one frame, or a set of up to 15, two names that C has. The answer and the lent buffers are those of the
+// definitions, refused or not.
 #![tactic(auto)]
 
 ghost use Rattle.std.specs.Prelude.{◌≡◌, ◌≤◌};
@@ -10,7 +10,8 @@ ghost use Rattle.apollo.specs.Calls.{state, outcome, blame_call, blames_call};
 use apollo::size::FRAME;
 use apollo::{Answer, Replica};
 
-// Hands in 1 to `most` blames. Nothing is set before the last is judged.
+// Hands in 1 to `most` blames, 1 or 15. Nothing is set before the last is judged. That it is 15 at most is handed on to where a set is
+// judged: the number stands in two calls below, and a type would be made there to be opened there.
 fn hand_in(
     most: u32,
     replica: Replica,

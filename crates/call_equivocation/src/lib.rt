@@ -10,9 +10,9 @@ ghost use Rattle.apollo.specs.Refused.{number, verdict_of};
 ghost use Rattle.call_equivocation.specs.Judge.{judged_two, judged_pair};
 
 use apollo::size::{CHECK, FRAME, PAIR};
-use apollo::{Marked, Refusal, Refused, Replica, Setup};
-use frame_forms::Form;
+use apollo::{Kind, Marked, Refusal, Refused, Replica, Setup};
 
+// The answer of a refusal. As `calls::refused`: C has another struct for it.
 fn refused(e: Refused, r: Replica) -> Marked
     ensures { result ≡ marked (number e.refusal) e.place r }
 {
@@ -38,7 +38,7 @@ fn judge_two(s: Setup, frames: &[u8]) -> Result<(), Refused>
     requires { length frames.now ≡ pair_size }
     ensures { verdict_of result ≡ judged_two s (first_frame frames.now) (second frames.now) }
 {
-    judging::judge_each(Form::Block, s, frames)?;
+    judging::judge_each(Kind::Block, s, frames)?;
     if !is_conflicting(
         slices::part(frames, 0, FRAME),
         slices::part(frames, FRAME, FRAME),
@@ -65,7 +65,7 @@ pub fn equivocation(replica: Replica, frames: &[u8]) -> Marked
     if !record_ranges::valid_record(replica) {
         return refused(Refusal::BadReplica.into(), replica);
     }
-    let s = record::setup(replica);
+    let s = Setup::from(replica);
     if let Err(e) = judge_pair(s, frames) {
         return refused(e, replica);
     }

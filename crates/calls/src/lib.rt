@@ -7,7 +7,7 @@ ghost use Rattle.calls.specs.Refused.{refused_answer};
 
 use apollo::{Answer, Refused, Replica};
 
-// The answer of a refusal.
+// The answer of a refusal; C reads the leader 255. Each answer is a struct of its own in C, so equivocation, read and fetch have theirs.
 pub fn refused(r: Replica, e: Refused) -> Answer
     ensures { result ≡ refused_answer r (number e.refusal) e.place }
 {

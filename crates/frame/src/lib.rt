@@ -2,12 +2,14 @@
 // takes slices of any length, as the definitions do.
 #![tactic(auto)]
 
-ghost use Rattle.std.specs.Prelude.{◌≡◌, ◌≤◌, ◌<◌};
+ghost use Rattle.std.specs.Prelude.{◌≡◌, ◌≤◌, ◌<◌, eqb};
 ghost use Rattle.apollo.specs.Size.{frame_size};
 ghost use Rattle.apollo.specs.Bytes as Bytes;
 ghost use Rattle.apollo.specs.Frame as Frame;
+ghost use Rattle.apollo.specs.Kind.{kind_number, kind_of};
 
 use apollo::size::{CHECK, FRAME};
+use apollo::{Kind, UnknownKind};
 
 #[tactic(auto, unfolding(apollo::specs::Bytes::number4))]
 fn number4(x: &[u8], start: usize) -> u32
@@ -22,10 +24,17 @@ fn number4(x: &[u8], start: usize) -> u32
     ])
 }
 
-pub fn kind(x: &[u8]) -> u8
-    ensures { result ≡ Frame.kind x.now }
+pub fn kind(x: &[u8]) -> Result<Kind, UnknownKind>
+    ensures { result ≡ kind_of (Frame.kind x.now) }
 {
-    slices::byte(x, 0)
+    Kind::try_from(slices::byte(x, 0))
+}
+
+// x is of that kind.
+pub fn is_kind(x: &[u8], kind: Kind) -> bool
+    ensures { result ≡ eqb (Frame.kind x.now) (kind_number kind) }
+{
+    u8::from(kind) == slices::byte(x, 0)
 }
 
 pub fn signer(x: &[u8]) -> u8

@@ -1,11 +1,11 @@
--- What the names of the forms mean.
+-- The form that a frame of a kind is to have.
 use Rattle.std.specs.Prelude.{List, Bool, ℕ}
 use Rattle.apollo.specs.declared.Setup.{Setup}
 use Rattle.apollo.specs.Frame.{block_form, blame_form}
-use Rattle.frame_forms.specs.declared.Form.{Form}
-use Rattle.frame_forms.specs.declared.Form.TheVariants.{Block, Blame}
+use Rattle.apollo.specs.declared.kind.Kind.{Kind}
+use Rattle.apollo.specs.declared.kind.Kind.TheVariants.{Block, Blame}
 
--- the test of a frame with that form
-abbrev pub form_of : Form → Setup → List ℕ → Bool
+-- its test
+abbrev pub form_of : Kind → Setup → List ℕ → Bool
 form_of Block = block_form
 form_of Blame = blame_form

@@ -10,14 +10,7 @@ ghost use Rattle.sha256.specs.Fips.{sha256};
 ghost use Rattle.frame_forms.specs.Forms.{form_of};
 
 use apollo::size::{CHECK, ENTRY};
-use apollo::{Refusal, Setup};
-
-// The form that a frame is to have.
-#[derive(Clone, Copy)]
-pub enum Form {
-    Block,
-    Blame,
-}
+use apollo::{Kind, Refusal, Setup};
 
 fn within(lo: u32, n: u32, hi: u32) -> bool
     ensures { result ≡ Bytes.within lo n hi }
@@ -47,7 +40,7 @@ pub fn block_form(s: Setup, x: &[u8]) -> bool
 {
     let r = frame::round(x);
     let n = frame::entry_length(x);
-    if frame::kind(x) != 1 {
+    if !frame::is_kind(x, Kind::Block) {
         return false;
     }
     if frame::signer(x) != rotation::leader(s, r) {
@@ -70,10 +63,10 @@ pub fn block_form(s: Setup, x: &[u8]) -> bool
 pub fn blame_form(s: Setup, x: &[u8]) -> bool
     ensures { result ≡ Frame.blame_form s x.now }
 {
-    if frame::kind(x) != 2 {
+    if !frame::is_kind(x, Kind::Blame) {
         return false;
     }
-    if 2 * (s.f as u32) + 1 <= frame::signer(x) as u32 {
+    if 2 * u32::from(s.f) + 1 <= u32::from(frame::signer(x)) {
         return false;
     }
     if !slices::is_blank(x, 2, 4) {
@@ -85,34 +78,34 @@ pub fn blame_form(s: Setup, x: &[u8]) -> bool
     slices::is_blank(x, 8, CHECK)
 }
 
-// x has that form.
-fn has_form(form: Form, s: Setup, x: &[u8]) -> bool
-    ensures { result ≡ form_of form s x.now }
+// x has the form of that kind. By the kind: a test as a parameter would have to be named in two ways, in the code and in the clause.
+fn has_form(kind: Kind, s: Setup, x: &[u8]) -> bool
+    ensures { result ≡ form_of kind s x.now }
 {
-    match form {
-        Form::Block => block_form(s, x),
-        Form::Blame => blame_form(s, x),
+    match kind {
+        Kind::Block => block_form(s, x),
+        Kind::Blame => blame_form(s, x),
     }
 }
 
-// 7 and 8 of a frame that is to have that form. `checked`: its check is right.
+// 7 and 8 of a frame that is to have the form of that kind. `checked`: its check is right.
 #[tactic(auto, unfolding(apollo::specs::Judging::fault))]
-pub fn fault_known(form: Form, s: Setup, x: &[u8], checked: bool) -> Result<(), Refusal>
+pub fn fault_known(kind: Kind, s: Setup, x: &[u8], checked: bool) -> Result<(), Refusal>
     requires { checked ≡ Frame.checked sha256 x.now }
-    ensures { refusal_of result ≡ fault sha256 (form_of form s) x.now }
+    ensures { refusal_of result ≡ fault sha256 (form_of kind s) x.now }
 {
     if !checked {
         return Err(Refusal::BadDigest);
     }
-    if !has_form(form, s, x) {
+    if !has_form(kind, s, x) {
         return Err(Refusal::BadForm);
     }
     Ok(())
 }
 
 // The same of a frame whose check is not known.
-pub fn fault(form: Form, s: Setup, x: &[u8]) -> Result<(), Refusal>
-    ensures { refusal_of result ≡ fault sha256 (form_of form s) x.now }
+pub fn fault(kind: Kind, s: Setup, x: &[u8]) -> Result<(), Refusal>
+    ensures { refusal_of result ≡ fault sha256 (form_of kind s) x.now }
 {
-    fault_known(form, s, x, checked(x))
+    fault_known(kind, s, x, checked(x))
 }

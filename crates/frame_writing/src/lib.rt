@@ -1,4 +1,5 @@
-// Frames written in place: the block and the blame that a replica makes.
+// Frames written in place, to the front of a buffer as C lends it: the block and the blame that a replica makes. An array of 512 bytes cut
+// out of it would ask for the same room where it is cut.
 #![tactic(auto)]
 
 ghost use Rattle.std.specs.Prelude.{◌≡◌, ◌+◌, ◌-◌, ◌≤◌, ◌∷◌, ◌++◌, length, take, drop};
@@ -8,6 +9,7 @@ ghost use Rattle.apollo.specs.Frame as Frame;
 ghost use Rattle.sha256.specs.Fips.{sha256};
 ghost use Rattle.frame_writing.specs.Put.{Written};
 
+use apollo::Kind;
 use apollo::size::CHECK;
 
 // Writes x from `start` on, not by `copy_from_slice`: of the C library the archive needs memset alone.
@@ -44,7 +46,20 @@ fn block_start(id: u8, n: u16, round: u32, height: u32) -> [u8; 12]
     let [n0, n1] = n.to_be_bytes();
     let [r0, r1, r2, r3] = round.to_be_bytes();
     let [h0, h1, h2, h3] = height.to_be_bytes();
-    [1, id, n0, n1, r0, r1, r2, r3, h0, h1, h2, h3]
+    [
+        Kind::Block.into(),
+        id,
+        n0,
+        n1,
+        r0,
+        r1,
+        r2,
+        r3,
+        h0,
+        h1,
+        h2,
+        h3,
+    ]
 }
 
 // Bytes 0 to 7 of a blame.
@@ -52,7 +67,7 @@ fn blame_start(id: u8, round: u32) -> [u8; 8]
     ensures { result ≡ 2 ∷ id ∷ 0 ∷ 0 ∷ Bytes.bytes4 round }
 {
     let [r0, r1, r2, r3] = round.to_be_bytes();
-    [2, id, 0, 0, r0, r1, r2, r3]
+    [Kind::Blame.into(), id, 0, 0, r0, r1, r2, r3]
 }
 
 // Writes the block that replica `id` makes to the front of out.

@@ -15,8 +15,7 @@ ghost use Rattle.frame_forms.specs.Forms.{form_of};
 ghost use Rattle.judging.specs.Starts.{start_of, parent_of};
 
 use apollo::size::FRAME;
-use apollo::{Refusal, Refused, Setup};
-use frame_forms::Form;
+use apollo::{Kind, Refusal, Refused, Setup};
 
 // What the first frame of a run must follow.
 #[derive(Clone, Copy, Debug, PartialEq, Eq)]
@@ -25,15 +24,15 @@ pub enum Start {
     Genesis,
 }
 
-// 7 and 8 of the frames, each of which is to have that form.
-pub fn judge_each(form: Form, s: Setup, frames: &[u8]) -> Result<(), Refused>
+// 7 and 8 of the frames, each of which is to have the form of that kind.
+pub fn judge_each(kind: Kind, s: Setup, frames: &[u8]) -> Result<(), Refused>
     requires { length frames.now ≤ frame_size * 4294967295 }
-    ensures { verdict_of result ≡ judged_each sha256 (form_of form s) 0 (frames_of frames.now) }
+    ensures { verdict_of result ≡ judged_each sha256 (form_of kind s) 0 (frames_of frames.now) }
 {
     let mut known = [false; 4];
     for (i, x) in frames.chunks_exact(FRAME).enumerate() {
         known = frame_checks::renew(known, frames, i);
-        if let Err(refusal) = frame_forms::fault_known(form, s, x, known[i % 4]) {
+        if let Err(refusal) = frame_forms::fault_known(kind, s, x, known[i % 4]) {
             let place = i as u32;
             return Err(Refused { refusal, place });
         }
@@ -58,7 +57,7 @@ fn judge_next(s: Setup, p: Option<&[u8]>, x: &[u8], checked: bool) -> Result<(),
     requires { checked ≡ Frame.checked sha256 x.now }
     ensures { refusal_of result ≡ judged_next sha256 s (parent_of p.entry) x.now }
 {
-    frame_forms::fault_known(Form::Block, s, x, checked)?;
+    frame_forms::fault_known(Kind::Block, s, x, checked)?;
     match p {
         Some(p) if !is_child(p, x) => Err(Refusal::NotChild),
         _ => Ok(()),

@@ -10,6 +10,7 @@ ghost use Rattle.apollo.specs.Fetch.{above};
 ghost use Rattle.apollo.specs.Found.{found};
 ghost use Rattle.log_heights.specs.Fetch.{is_tall, last_low};
 
+use apollo::Kind;
 use apollo::size::{ENTRY, FRAME};
 
 // Slot x is filled, with height h and an entry length of at most 400.
@@ -17,7 +18,7 @@ use apollo::size::{ENTRY, FRAME};
 fn is_readable(x: &[u8], h: u32) -> bool
     ensures { result ≡ Read.readable x.now h }
 {
-    frame::kind(x) == 1 && frame::height(x) == h && frame::entry_length(x) <= ENTRY
+    frame::is_kind(x, Kind::Block) && frame::height(x) == h && frame::entry_length(x) <= ENTRY
 }
 
 // The round of the lowest such slot up to the committed round.
@@ -39,7 +40,7 @@ pub fn lowest(log: &[u8], h: u32, committed: u32) -> Option<u32>
 fn is_tall(x: &[u8], h: u32) -> bool
     ensures { result ≡ is_tall x.now h }
 {
-    frame::kind(x) == 1 && h < frame::height(x)
+    frame::is_kind(x, Kind::Block) && h < frame::height(x)
 }
 
 // Slot x is copied after the first k frames of out if its height is above h; how many frames out has then.

@@ -44,7 +44,8 @@ pub fn has_bit(m: u16, i: u8) -> bool
     m.checked_shr(u32::from(i)).unwrap_or(0) % 2 == 1
 }
 
-// A mask with bit i set.
+// A mask with bit i set. That i < 16 is asked here and handed on by its callers, each of which has it from another fact: a frame's form, a
+// leader's range, an own number. A type for such numbers would be made in each of these places, and opened here.
 #[tactic(auto, using(crate::proofs::Masks::bit_set))]
 pub fn with_bit(m: u16, i: u8) -> u16
     requires { i < 16 }
@@ -79,7 +80,7 @@ pub fn add_blame(masks: &mut [u16], r: u32, i: u8)
     }
 }
 
-// All masks are zeroed.
+// All masks are zeroed, as `slices::clear` does with bytes.
 #[tactic(auto, unfolding(apollo::specs::Bytes::zeros))]
 pub fn clear(masks: &mut [u16])
     ensures { masks.new ≡ zeros (length masks.old) }

@@ -1,30 +1,17 @@
-// The record of a replica: made, with other fields, the set-up in it, and whether it leads R.
+// The record of a replica: made, with other fields, and whether it leads R.
 #![tactic(auto)]
 
 ghost use Rattle.std.specs.Prelude.{◌≡◌, ◌<◌};
-ghost use Rattle.apollo.specs.Setup.{setup_of};
 ghost use Rattle.apollo.specs.Replica.{with_round, with_timer, with_tip, with_committed, with_mark, fresh, zero_replica, leads};
 
-use apollo::{Height, Replica, Round, Setup, Ticks};
-
-// The set-up in a record.
-pub fn setup(r: Replica) -> Setup
-    ensures { result ≡ setup_of r }
-{
-    let rotation = r.rotation;
-    Setup {
-        f: r.f,
-        last_round: r.last_round,
-        rotation,
-    }
-}
+use apollo::{Height, Replica, Round, Ticks};
 
 // R ≤ T, and this replica leads R.
 #[tactic(auto, unfolding(apollo::specs::Replica::leads))]
 pub fn leads(r: Replica) -> bool
     ensures { result ≡ leads r }
 {
-    let leader = rotation::leader(setup(r), r.round.0);
+    let leader = rotation::leader(r.into(), r.round.0);
     (r.round.0 <= r.last_round.0) & (leader == r.id)
 }
 
@@ -50,20 +37,7 @@ pub fn fresh(id: u8, f: u8, timeout: Ticks, last_round: Round, rotation: &[u8]) 
 pub fn zero_replica() -> Replica
     ensures { result ≡ zero_replica }
 {
-    Replica {
-        id: 0,
-        f: 0,
-        timeout: Ticks(0),
-        last_round: Round(0),
-        round: Round(0),
-        timer: Ticks(0),
-        tip_round: Round(0),
-        tip_height: Height(0),
-        committed_round: Round(0),
-        committed_height: Height(0),
-        rotation: [0; 15],
-        equivocators: 0,
-    }
+    Replica::default()
 }
 
 // The record with another R.

@@ -1,6 +1,6 @@
 // What refuses a call: the first refusal, and for a branch and for blames its place. Of the entry and the out buffer the length is
 // enough. Every public function takes any record, and slices of any length and content; `guard` is told whether the record, by
-// itself, is valid.
+// itself, is valid. Log, masks, entry and out come one by one, as in rounds: of two the length is enough, and open has no valid record.
 #![tactic(auto)]
 
 ghost use Rattle.std.specs.Prelude.{◌≡◌, ◌≤◌};
@@ -43,7 +43,7 @@ pub fn of_open(
     {
         return Err(Refusal::BadSetup);
     }
-    setup_ranges::refusal(record::setup(r), length)?;
+    setup_ranges::refusal(r.into(), length)?;
     judge_room(entry, out)
 }
 
@@ -61,8 +61,8 @@ pub fn guard(
     if !(is_valid & record_ranges::valid_log(r, log) & record_ranges::valid_masks(r, masks)) {
         return Err(Refusal::BadReplica);
     }
-    let round = r.round.0 as u64;
-    let end = r.last_round.0 as u64 + 1;
+    let round = u64::from(r.round.0);
+    let end = u64::from(r.last_round.0) + 1;
     if round == end {
         return Err(Refusal::RoundsOver);
     }

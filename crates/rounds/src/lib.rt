@@ -1,6 +1,7 @@
 // What a replica does without being refused: it enters a round, hears its own blame, settles a round after blames, or counts a tick
 // down. Log, masks, entry and out buffer come one by one, as C lends them, and in three forms: open, blame and tick change the masks, a
-// branch reads them, and a tick hands on what lies behind its blame in out. One struct would have to be three.
+// branch reads them, and a tick hands on what lies behind its blame in out. One struct would have to be three. So `Ready` is asked four times
+// of the same buffers, and three times that R is T at most: a type that holds these would hold them lent, in the same three forms.
 #![tactic(auto)]
 
 ghost use Rattle.std.specs.Prelude.{◌≡◌, ◌&&◌, List, ℕ, ◌-◌, ◌≤◌, ◌<◌, eqb};
@@ -17,7 +18,7 @@ ghost use Rattle.rounds.specs.Rounds.{told};
 
 use apollo::{Answer, Replica};
 
-// The leader of R, 255 when R = T + 1.
+// The leader of R, 255 when R = T + 1: what C reads in an answer.
 fn next_leader(r: Replica) -> u8
     ensures { result ≡ next_leader r }
 {
@@ -25,7 +26,7 @@ fn next_leader(r: Replica) -> u8
     if r.last_round.0 < round {
         return 255;
     }
-    rotation::leader(record::setup(r), round)
+    rotation::leader(r.into(), round)
 }
 
 // Taken, with some frames emitted.
@@ -71,7 +72,7 @@ fn certifies(r: Replica, masks: &[u16], round: u32) -> bool
     if round != r.round.0 {
         return false;
     }
-    masks::certified(record::setup(r), masks, round)
+    masks::certified(r.into(), masks, round)
 }
 
 // After blames for a round: if that is R and now certified, R grows by 1 and is entered.

@@ -12,7 +12,7 @@ use apollo::{Refusal, Setup};
 pub fn valid_limits(f: u8, last_round: u32) -> bool
     ensures { result ≡ within 1 f 7 && within 1 last_round 4096 }
 {
-    ((1 <= f) & (f <= 7)) & ((1 <= last_round) & (last_round <= 4096))
+    (1..=7).contains(&f) & (1..=4096).contains(&last_round)
 }
 
 // 1 and 17 of a set-up that has the rotation padded; `length` is how long that was.
@@ -23,7 +23,7 @@ pub fn refusal(s: Setup, length: usize) -> Result<(), Refusal>
         return Err(Refusal::BadSetup);
     }
     let seats = s.rotation;
-    let n = 2 * (s.f as usize) + 1;
+    let n = 2 * usize::from(s.f) + 1;
     if !((length == n) & rotation::valid_rotation(seats, n)) {
         return Err(Refusal::BadRotation);
     }

@@ -4,7 +4,8 @@
 ghost use Rattle.std.specs.Prelude.{◌≡◌, length, get_or};
 ghost use Rattle.apollo.specs.Bytes as Bytes;
 
-// Byte i of x, 0 past its end.
+// Byte i of x, 0 past its end. The library's expression, as in `masks::mask` and `rotation::leader`: a function for all three would only
+// rename it.
 pub fn byte(x: &[u8], i: usize) -> u8
     ensures { result ≡ get_or x.now i 0 }
 {
@@ -53,7 +54,8 @@ pub fn copy(out: &mut [u8], x: &[u8])
     }
 }
 
-// Zeroes all of out. As `masks::clear`: one line each, and one for both would ask its callers for the zero.
+// Zeroes all of out. A function, so that callers cite the definition and no law of `fill`. One with `masks::clear` would ask them for the
+// zero of their type, or for a proof that its default is one.
 #[tactic(auto, unfolding(apollo::specs::Bytes::zeros))]
 pub fn clear(out: &mut [u8])
     ensures { out.new ≡ Bytes.zeros (length out.old) }

@@ -9,6 +9,7 @@ ghost use Rattle.apollo.specs.Log as Log;
 ghost use Rattle.apollo.specs.Branch as Branch;
 ghost use Rattle.slots.specs.Slots.{Slotted};
 
+use apollo::Kind;
 use apollo::size::FRAME;
 
 // What a search of the log gives, laid out as in C.
@@ -29,7 +30,8 @@ fn clear_above(log: &mut [u8], r: u32)
     }
 }
 
-// Frame x is stored in slot r.
+// Frame x is stored in slot r. Its length is asked, here and of the callers: an array of 512 bytes would be made of each lent frame, by a test
+// that asks for the same.
 pub fn store(log: &mut [u8], r: u32, x: &[u8])
     requires { (1 ≤ r) × (frame_size * r ≤ length log.old) × (length x.now ≡ frame_size) }
     ensures { log.new ≡ Log.store log.old r x.now }
@@ -81,7 +83,7 @@ fn is_filled(log: &[u8], r: u32) -> bool
     requires { 0 < r }
     ensures { result ≡ Log.filled (Log.slot log.now r) }
 {
-    frame::kind(slot(log, r)) == 1
+    frame::is_kind(slot(log, r), Kind::Block)
 }
 
 // The height in slot r.

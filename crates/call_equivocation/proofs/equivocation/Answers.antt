@@ -10,16 +10,16 @@ returns-then-not-valid_record c =
 
 pub returns-in-Err : goal.returns-in-Err
 returns-in-Err c =
-    pair_refused _ _ _ c.valid_record.ensures c.if-not-valid_record.false _ c.setup-s.ensures _
+    pair_refused _ _ _ c.valid_record.ensures c.if-not-valid_record.false _ c.from-s.ensures _
     (refused_verdict _ _ c.judge_pair.ensures _ c.in-Err.is) _ c.refused-in-Err.ensures (number_some c.in-Err.e.refusal)
 
 pub with_mark-requires : goal.with_mark-requires
 with_mark-requires c =
-    card_low _ _ _ c.valid_record.ensures c.if-not-valid_record.false _ c.setup-s.ensures _
+    card_low _ _ _ c.valid_record.ensures c.if-not-valid_record.false _ c.from-s.ensures _
     (taken_verdict _ _ c.judge_pair.ensures _ c.in_default.is) _ c.part.ensures _ _ c.round.ensures c.leader-card.ensures
 
 pub returns : goal.returns
 returns c =
-    pair_taken _ _ _ c.valid_record.ensures c.if-not-valid_record.false _ c.setup-s.ensures _
+    pair_taken _ _ _ c.valid_record.ensures c.if-not-valid_record.false _ c.from-s.ensures _
     (taken_verdict _ _ c.judge_pair.ensures _ c.in_default.is) _ c.part.ensures _ _ c.round.ensures c.leader-card.ensures _ _
     c.with_mark.ensures refl refl

@@ -13,5 +13,5 @@ invariant-loop-i l = record {
   size : l.i-iterator.iter.size ≡ frame_size;
   at : l.i-iterator.iter.rest.now ≡ drop (frame_size * l.i-iterator.count) l.frames;
   held : Held l.frames l.i-iterator.count l.known;
-  answer : judged_each sha256 (form_of l.form l.s) l.i-iterator.count (frames_of l.i-iterator.iter.rest.now) ≡ judged_each sha256 (form_of l.form l.s) 0 (frames_of l.frames);
+  answer : judged_each sha256 (form_of l.kind l.s) l.i-iterator.count (frames_of l.i-iterator.iter.rest.now) ≡ judged_each sha256 (form_of l.kind l.s) 0 (frames_of l.frames);
 }

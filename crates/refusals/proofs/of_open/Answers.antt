@@ -17,12 +17,12 @@ returns-in_err-refusal c =
     let p = err_from_is_err_and c.from_residual.result c.from_residual.ensures.1 in
     rw (p.1, p.2)
     (open_setup a.r a.log.now a.masks.now a.entry a.out a.length _ _ _ c.valid_own.ensures c.valid_log.ensures c.valid_masks.ensures
-    c.if-not-valid_own-valid_log.false _ _ c.setup.ensures (refused_number _ _ c.refusal.ensures _ c.in_err-refusal.was)
+    c.if-not-valid_own-valid_log.false _ _ c.into.ensures (refused_number _ _ c.refusal.ensures _ c.in_err-refusal.was)
     (number_some c.in_err-refusal.field-0.0))
 
 pub returns : goal.returns
 returns c =
     let a = c.args in
     open_room a.r a.log.now a.masks.now a.entry a.out a.length _ _ _ c.valid_own.ensures c.valid_log.ensures c.valid_masks.ensures
-    c.if-not-valid_own-valid_log.false _ _ c.setup.ensures c.refusal.ensures _ (taken_none _ _ refl _ c.in_ok-refusal.was)
+    c.if-not-valid_own-valid_log.false _ _ c.into.ensures c.refusal.ensures _ (taken_none _ _ refl _ c.in_ok-refusal.was)
     c.judge_room.ensures

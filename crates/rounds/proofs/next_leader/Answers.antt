@@ -6,4 +6,4 @@ pub returns-then-r-round : goal.returns-then-r-round
 returns-then-r-round c = no_leader c.args.r c.if-r-round.true
 
 pub returns : goal.returns
-returns c = some_leader c.args.r _ _ c.if-r-round.false c.setup.ensures c.leader.ensures
+returns c = some_leader c.args.r _ _ c.if-r-round.false c.into.ensures c.leader.ensures

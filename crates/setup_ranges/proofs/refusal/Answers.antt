@@ -10,9 +10,13 @@ returns-then-not-valid_limits c = rw (← c.valid_limits.ensures, c.if-not-valid
 pub returns-then-not-length-n : goal.returns-then-not-length-n
 unfolding lent_number valid_limits valid_rotation
 returns-then-not-length-n c =
-    rw (← c.valid_limits.ensures, ← c.valid_rotation.ensures, c.if-not-valid_limits.false, c.if-not-length-n.true)
+    let seats = rw c.from.ensures at c.valid_rotation.ensures in
+    let wrong = rw (c.from.ensures, seats) at c.if-not-length-n.true in
+    rw (← c.valid_limits.ensures, c.if-not-valid_limits.false, wrong)
 
 pub returns : goal.returns
 unfolding lent_number valid_limits valid_rotation
 returns c =
-    rw (← c.valid_limits.ensures, ← c.valid_rotation.ensures, c.if-not-valid_limits.false, c.if-not-length-n.false)
+    let seats = rw c.from.ensures at c.valid_rotation.ensures in
+    let right = rw (c.from.ensures, seats) at c.if-not-length-n.false in
+    rw (← c.valid_limits.ensures, c.if-not-valid_limits.false, right)
