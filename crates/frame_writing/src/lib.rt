@@ -43,31 +43,20 @@ fn seal(out: &mut [u8])
 fn block_start(id: u8, n: u16, round: u32, height: u32) -> [u8; 12]
     ensures { result ≡ 1 ∷ id ∷ (Bytes.bytes2 n ++ (Bytes.bytes4 round ++ Bytes.bytes4 height)) }
 {
+    let kind = Kind::Block.into();
     let [n0, n1] = n.to_be_bytes();
     let [r0, r1, r2, r3] = round.to_be_bytes();
     let [h0, h1, h2, h3] = height.to_be_bytes();
-    [
-        Kind::Block.into(),
-        id,
-        n0,
-        n1,
-        r0,
-        r1,
-        r2,
-        r3,
-        h0,
-        h1,
-        h2,
-        h3,
-    ]
+    [kind, id, n0, n1, r0, r1, r2, r3, h0, h1, h2, h3]
 }
 
 // Bytes 0 to 7 of a blame.
 fn blame_start(id: u8, round: u32) -> [u8; 8]
     ensures { result ≡ 2 ∷ id ∷ 0 ∷ 0 ∷ Bytes.bytes4 round }
 {
+    let kind = Kind::Blame.into();
     let [r0, r1, r2, r3] = round.to_be_bytes();
-    [Kind::Blame.into(), id, 0, 0, r0, r1, r2, r3]
+    [kind, id, 0, 0, r0, r1, r2, r3]
 }
 
 // Writes the block that replica `id` makes to the front of out.

@@ -1,5 +1,5 @@
 // Masks of 16 bits, a bit for each replica: their bits, as the blame masks and the marks have them; of the blame masks certified (shown)
-// rounds, and blames added; all masks zeroed.
+// rounds, and blames added; all masks zeroed. There is one for each slot of the log, in a buffer of their own, as C lends them.
 #![tactic(auto)]
 
 ghost use Rattle.std.specs.Prelude.{◌≡◌, ◌%◌, ◌^◌, ◌<◌, ltb, length};
