@@ -1,8 +1,8 @@
 -- Laws of messages side by side. Assumes nothing.
-use Rattle.std.proofs.Common.{◌≡◌, ℕ, ◌+◌, ◌*◌, ◌%◌, ◌<◌, ◌≤◌, List, [], get_or, set, length, ap, sym, ◌∙◌, add-one, arith, ⊎_elim, eq-or-lt_of_le}
+use Rattle.std.proofs.Common.{◌≡◌, ℕ, ◌+◌, ◌*◌, ◌%◌, ◌<◌, ◌≤◌, List, [], get_or, set, length, ap, sym, ◌∙◌, add-one, refl, arith, ⊎_elim, eq-or-lt_of_le, get_or-set_other, get_or-set_same}
 use Rattle.std.proofs.Math.ListN.{get_or-map}
 use Rattle.std.proofs.Math.Seq.{map-set_same}
-use Rattle.std.proofs.lemmas.List.{map-set, length-map}
+use Rattle.std.proofs.lemmas.List.{map-set}
 use Rattle.std.specs.Borrow.{Bor}
 use Rattle.compression.specs.Fips.{K, word_at, add32, σ0, σ1, schedule, round, rounds}
 use Rattle.compression.specs.declared.State.{State}
@@ -51,12 +51,6 @@ pub record Upto (n l : ℕ) (P Q : ℕ → Type 0) : Type 0 where
   pub done : (m : ℕ) → m < l → P m
   pub left : (m : ℕ) → l ≤ m → m < n → Q m
 
-pub upto_start : {P Q : ℕ → Type 0} {n : ℕ} → ((m : ℕ) → m < n → Q m) → Upto n 0 P Q
-upto_start f = record { done = λ m p. absurd (omega arith); left = λ m p q. f m q }
-
-pub upto_end : {P Q : ℕ → Type 0} {n l : ℕ} → n ≤ l → Upto n l P Q → (m : ℕ) → m < n → P m
-upto_end g u m q = u.done m (omega arith)
-
 pub upto_step : {P Q P' Q' : ℕ → Type 0} {n : ℕ} (l : ℕ) → l < n → (Q l → P' l) → ((m : ℕ) → (m ≡ l → ⊥) → P m → P' m)
     → ((m : ℕ) → (m ≡ l → ⊥) → Q m → Q' m) → Upto n l P Q → Upto n (l + 1) P' Q'
 upto_step {P} {Q} {P'} {Q'} l g here below above u =
@@ -74,20 +68,20 @@ pub upto_put : (P Q : ℕ → State → Type 0) {n : ℕ} {v v' : Lanes n} {r : 
 upto_put P Q l g f u =
     upto_step l g (λ q. rw u.here (f q)) (λ m n p. rw (u.same m n) p) (λ m n q. rw (u.same m n) q)
 
--- no word is loaded yet
-pub loaded_start : (L : ℕ) (b : ℕ → List ℕ) (w : List (List ℕ)) → length w ≡ 16 → Loaded L b 0 w
-loaded_start L b w e =
-    record { at = λ m q. record { wide = length-map w (λ (row : List ℕ). get_or row m 0) ∙ e; holds = λ u h g. absurd (omega arith) } }
+-- word t of each lane is loaded
+pub loaded_more : {L : ℕ} {b : ℕ → List ℕ} {w : List (List ℕ)} (r : List ℕ) {t : ℕ} → t < 16
+    → ((m : ℕ) → m < L → get_or r m 0 ≡ word_at (b m) (4 * t)) → Loaded L b t w → Loaded L b (t + 1) (set w t r)
+loaded_more {b = b} {w} r {t} h e o =
+    record { at = λ m q. rw (words_put w r t m (get_or r m 0) refl) (load_step (b m) (words_at w m) t (get_or r m 0) h (e m q) (o.at m q)).1 }
 
 -- the bytes of a lane are what its reference points to
 pub bytes_are : (b : List (Bor (List ℕ))) (m : ℕ) → bytes_at b m ≡ (get_or b m (record { ref_ptr = (0, 0); now = [] })).now
 bytes_are b m = get_or-map (λ (block : Bor (List ℕ)). block.now) b m (record { ref_ptr = (0, 0); now = [] })
 
--- word t of one lane more is loaded
-pub upto_load : (b : ℕ → List ℕ) (w : List (List ℕ)) (r : List ℕ) {n : ℕ} (t l x : ℕ) → t < 16 → l < n → get_or r l 0 ≡ x
-    → ((m : ℕ) → (m ≡ l → ⊥) → get_or r m 0 ≡ get_or (get_or w t []) m 0) → x ≡ word_at (b l) (4 * t)
-    → Upto n l (λ m. Window (schedule (b m) 64) (words_at w m) (t + 1)) (λ m. Window (schedule (b m) 64) (words_at w m) t)
-    → Upto n (l + 1) (λ m. Window (schedule (b m) 64) (words_at (set w t r) m) (t + 1)) (λ m. Window (schedule (b m) 64) (words_at (set w t r) m) t)
-upto_load b w r t l x h g e k q =
-    let s : Kept l w (set w t r) = words_kept w r t l k in
-    upto_step l g (λ o. rw (words_put w r t l x e) (load_step (b l) (words_at w l) t x h q o).1) (λ m n p. rw (s.same m n) p) (λ m n p. rw (s.same m n) p)
+-- one word more of a row
+pub word_put : (r : List ℕ) {f : ℕ → ℕ} (x l : ℕ) → l < length r → ((m : ℕ) → m < l → get_or r m 0 ≡ f m) → x ≡ f l
+    → (m : ℕ) → m < l + 1 → get_or (set r l x) m 0 ≡ f m
+word_put r {f} x l h o e m q = ⊎_elim (λ d. here m (omega arith)) (λ b. get_or-set_other r l m x 0 (omega arith) ∙ o m (omega arith)) (eq-or-lt_of_le q)
+  where
+    here : (m : ℕ) → m ≡ l → get_or (set r l x) m 0 ≡ f m
+    here m d = rw d (get_or-set_same r l x 0 h ∙ e)

@@ -1,5 +1,5 @@
 -- Laws of the schedule of a block, of the sixteen words of it that are at hand, and of the rounds. Assumes nothing.
-use Rattle.std.proofs.Common.{◌≡◌, ℕ, zero, suc, ◌+◌, ◌-◌, ◌*◌, ◌%◌, ◌<◌, ◌≤◌, List, [], length, get_or, set, sym, refl, ap, ◌∙◌, ⊎_elim, le_of_suc-le-suc, not-suc-le-zero, eq-or-lt_of_le, add-one, arith, length-append, length-set, get_or-set_other, get_or-set_same, le-ltb, lt-ltb}
+use Rattle.std.proofs.Common.{◌≡◌, ℕ, zero, suc, ◌+◌, ◌-◌, ◌*◌, ◌%◌, ◌<◌, ◌≤◌, List, [], length, get_or, set, sym, refl, ap, ◌∙◌, ⊎_elim, le_of_suc-le-suc, eq-or-lt_of_le, add-one, arith, length-append, length-set, get_or-set_other, get_or-set_same, le-ltb, lt-ltb}
 use lib.ListN.{get_or-append}
 use lib.Seq.{get_or_at}
 use Rattle.compression.specs.declared.State.{State}
@@ -82,12 +82,6 @@ extend_step w i x e b t h g m o =
     (at (t - 2) ((i + 14) % 16) (omega arith) (omega arith) (omega arith), at (t - 7) ((i + 9) % 16) (omega arith) (omega arith) (omega arith), at (t - 15) ((i + 1) % 16) (omega arith) (omega arith) (omega arith), at (t - 16) i (omega arith) (omega arith) (omega arith))
     (sym (word_extended b t h g)) in
     (q, rw m at (window_step (schedule b 64) w t x o q))
-
--- the start of a block: no word is wanted yet
-pub turned_start : (s : State) (W w : List ℕ) → length w ≡ 16 → Turned s W 0 s w
-unfolding rounds
-turned_start s W w l =
-    record { variables = refl; words = record { wide = l; holds = λ u h _. absurd (not-suc-le-zero h) } }
 
 -- one round more
 pub turned_step : {s v v' : State} {W w w' : List ℕ} {t x : ℕ} (t' : ℕ) (k : List ℕ) → k ≡ K → t' ≡ t + 1

@@ -3,7 +3,7 @@ use Rattle.std.specs.Prelude.{◌≡◌, List, [], ℕ, ◌<◌, slice_index, sl
 use Rattle.std.specs.Borrow.{Bor}
 use Rattle.compression.specs.declared.State.{State}
 use Rattle.compression.specs.declared.Lanes.{Lanes}
-use Rattle.compression.specs.Fips.{schedule, plus, compress}
+use Rattle.compression.specs.Fips.{schedule, compress}
 use Rattle.compression.specs.Window.{Window, Turned}
 
 -- the sixteen words of lane l, of rows of words
@@ -40,10 +40,6 @@ pub record Loaded (L : ℕ) (b : ℕ → List ℕ) (t : ℕ) (w : List (List ℕ
 -- after t rounds in each lane, from the hash values h over the blocks b
 pub record AllTurned {L : ℕ} (h : ℕ → State) (b : ℕ → List ℕ) (t : ℕ) (v : Lanes L) (w : List (List ℕ)) : Type 0 where
   pub at : (m : ℕ) → m < L → Turned (h m) (schedule (b m) 64) t (state_at v m) (words_at w m)
-
--- the variables v are added to each lane
-pub record Added {L : ℕ} (v h h' : Lanes L) : Type 0 where
-  pub at : (m : ℕ) → m < L → state_at h' m ≡ plus (state_at h m) (state_at v m)
 
 -- the bytes that lane m is given
 abbrev pub bytes_at : List (Bor (List ℕ)) → ℕ → List ℕ

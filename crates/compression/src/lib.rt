@@ -6,7 +6,7 @@
 ghost use Rattle.std.specs.Prelude.{◌≡◌, ℕ, ◌+◌, ◌*◌, ◌/◌, ◌%◌, ◌<◌, ◌≤◌, List, length, slice_index};
 ghost use Rattle.compression.specs.Fips as Fips;
 ghost use Rattle.compression.specs.Window.{Window, Turned};
-ghost use Rattle.compression.specs.Lanes.{words_at, state_at, bytes_at, Kept, Put, AllTurned, Loaded, Added, Compressed};
+ghost use Rattle.compression.specs.Lanes.{words_at, state_at, bytes_at, Kept, Put, AllTurned, Loaded, Compressed};
 
 // The constants of section 4.2.2.
 const K: [u32; 64] = [
@@ -105,6 +105,7 @@ fn maj(x: u32, y: u32, z: u32) -> u32
     y ^ ((x ^ y) & (y ^ z))
 }
 
+// The standard's four functions under its names. One of three numbers for all would not show which two turn alone and which two shift.
 fn big_sigma0(x: u32) -> u32
     ensures { result ≡ Fips.Σ0 x }
 {
@@ -229,7 +230,7 @@ impl<const L: usize> Lanes<L> {
         }
     }
 
-    // The words of lane l.
+    // The words of lane l. Each contract that reads or writes a lane asks `l < L`: a type in its place would be made and opened at each call.
     pub fn lane(&self, l: usize) -> State
         requires { l < L }
         ensures { result ≡ state_at self.now l }
@@ -262,6 +263,17 @@ impl<const L: usize> Lanes<L> {
     }
 }
 
+// Each lane becomes what the step makes of it. By an index, since eight rows are read and written side by side.
+fn each_lane<const L: usize, F: Fn(State, usize) -> State>(v: &mut Lanes<L>, step: F)
+    requires { (m : ℕ) → m < L → F.pre step (state_at v.old m) m }
+    ensures { (m : ℕ) → m < L → F.post step (state_at v.old m) m (state_at v.new m) }
+{
+    for l in 0..L {
+        let made = step(v.lane(l), l);
+        v.put(l, made);
+    }
+}
+
 // Word l of a row is x.
 fn put_word<const L: usize>(row: &mut [u32; L], l: usize, x: u32)
     requires { l < L }
@@ -289,7 +301,7 @@ fn extend<const L: usize>(w: &mut [[u32; L]; 16], i: usize, l: usize) -> u32
     x
 }
 
-// Round 16 n + i of lane l, for n from 1 on.
+// Round 16 n + i of lane l, for n from 1 on. Three contracts ask `1 ≤ n < 4`, which only the loop of compress meets: a type says it no shorter.
 fn extend_round<const L: usize>(
     s: State,
     w: &mut [[u32; L]; 16],
@@ -331,7 +343,7 @@ fn next_rounds<const L: usize>(s: State, w: &mut [[u32; L]; 16], n: usize, l: us
     extend_round(v, w, n, 15, l)
 }
 
-// The sixteen rounds of every lane from 16 n on.
+// The sixteen rounds of every lane from 16 n on. Not by each_lane, whose step is an `Fn`: this one writes w.
 fn next_lanes<const L: usize>(v: &mut Lanes<L>, w: &mut [[u32; L]; 16], n: usize)
     requires { (1 ≤ n) × (n < 4) }
     ensures { (h : ℕ → State) (b : ℕ → List ℕ) → AllTurned h b (16 * n) v.old w.old
@@ -376,33 +388,13 @@ fn first_rounds<const L: usize>(s: State, w: &[[u32; L]; 16], l: usize) -> State
     held_round(v, w, 15, l)
 }
 
-// Rounds 0 to 15 of every lane.
-fn first_lanes<const L: usize>(v: &mut Lanes<L>, w: &[[u32; L]; 16])
-    ensures { (b : ℕ → List ℕ) → Loaded L b 16 w.now → AllTurned (state_at v.old) b 16 v.new w.now }
-{
-    for l in 0..L {
-        let first = first_rounds(v.lane(l), w, l);
-        v.put(l, first);
-    }
-}
-
-// The variables v are added to the hash values h, lane by lane.
-fn plus_lanes<const L: usize>(h: &mut Lanes<L>, v: &Lanes<L>)
-    ensures { Added v.now h.old h.new }
-{
-    for l in 0..L {
-        let sum = plus(h.lane(l), v.lane(l));
-        h.put(l, sum);
-    }
-}
-
 // Word t of each lane's block.
-fn load_row<const L: usize>(w: &mut [[u32; L]; 16], b: &[&[u8; 64]], t: usize)
+fn load_row<const L: usize>(row: &mut [u32; L], b: &[&[u8; 64]], t: usize)
     requires { (length b.now ≡ L) × (t < 16) }
-    ensures { Loaded L (bytes_at b.now) t w.old → Loaded L (bytes_at b.now) (t + 1) w.new }
+    ensures { (m : ℕ) → m < L → slice_index row.new m ≡ Fips.word_at (bytes_at b.now m) (4 * t) }
 {
-    for l in 0..L {
-        put_word(&mut w[t], l, word_at(b[l], 4 * t));
+    for (l, x) in row.iter_mut().enumerate() {
+        *x = word_at(b[l], 4 * t);
     }
 }
 
@@ -411,8 +403,8 @@ fn load_rows<const L: usize>(w: &mut [[u32; L]; 16], b: &[&[u8; 64]])
     requires { length b.now ≡ L }
     ensures { Loaded L (bytes_at b.now) 16 w.new }
 {
-    for t in 0..16 {
-        load_row(w, b, t);
+    for (t, row) in w.iter_mut().enumerate() {
+        load_row(row, b, t);
     }
 }
 
@@ -424,11 +416,24 @@ pub fn compress<const L: usize>(h: &mut Lanes<L>, b: &[&[u8; 64]])
     let mut w = [[0u32; L]; 16];
     load_rows(&mut w, b);
     let mut v = *h;
-    first_lanes(&mut v, &w);
+    each_lane(
+        &mut v,
+        |s, l|
+            requires { l < L }
+            ensures { (p : List ℕ) → Window (Fips.schedule p 64) (words_at w l) 16
+                → Turned s (Fips.schedule p 64) 16 result (words_at w l) }
+        { first_rounds(s, &w, l) },
+    );
     for n in 1..4 {
         next_lanes(&mut v, &mut w, n);
     }
-    plus_lanes(h, &v);
+    each_lane(
+        h,
+        |s, l|
+            requires { l < L }
+            ensures { result ≡ Fips.plus s (state_at v l) }
+        { plus(s, v.lane(l)) },
+    );
 }
 
 // Block i of p.
@@ -444,8 +449,8 @@ pub fn hash(h: State, p: &[u8]) -> State
     ensures { result ≡ Fips.hash h p.now (length p.now / 64) }
 {
     let mut v = Lanes::<1>::new(h);
-    for i in 0..p.len() / 64 {
-        compress(&mut v, &[block(p, i)]);
+    for b in p.as_chunks::<64>().0 {
+        compress(&mut v, &[b]);
     }
     v.lane(0)
 }

@@ -46,6 +46,10 @@ each_of_four P a b c d (suc (suc (suc (suc k)))) h = absurd (omega arith)
 pub all_of_four : (P : Bor (List ℕ) → Type 0) {a b c d : Bor (List ℕ)} → P a → P b → P c → P d → All P (a ∷ b ∷ c ∷ d ∷ [])
 all_of_four P {a} {b} {c} {d} p q r s k e h = each_of_four (λ j. P (get_or (a ∷ b ∷ c ∷ d ∷ []) j e)) p q r s k h
 
+-- a message of the length of digest4's
+abbrev pub Long : Bor (List ℕ) → Type 0
+Long x = length x.now ≡ 480
+
 -- message k of m, as the code reads it
 abbrev pub message : List (Bor (List ℕ)) → ℕ → List ℕ
 message m k = (get_or m k (record { ref_ptr = (0, 0); now = [] })).now
@@ -59,11 +63,8 @@ unfolding hash
 hashed_start m h s i e = record { at = λ k q. e k q ∙ i }
 
 pub hashed_step : {m : List (Bor (List ℕ))} {f : ℕ → List ℕ} {h h' : Lanes 4} (i : ℕ) → Hashed m i h
-    → f 0 ≡ block (padded (message m 0)) i → f 1 ≡ block (padded (message m 1)) i → f 2 ≡ block (padded (message m 2)) i
-    → f 3 ≡ block (padded (message m 3)) i → Compressed f h h' → Hashed m (i + 1) h'
-hashed_step {m} {f} i o e0 e1 e2 e3 c =
-    let e : (k : ℕ) → k < 4 → f k ≡ block (padded (message m k)) i = each_of_four (λ k. f k ≡ block (padded (message m k)) i) e0 e1 e2 e3 in
-    record { at = λ k q. rw hash_more (c.at k q ∙ ap₂ compress (o.at k q) (e k q)) }
+    → ((k : ℕ) → k < 4 → f k ≡ block (padded (message m k)) i) → Compressed f h h' → Hashed m (i + 1) h'
+hashed_step i o e c = record { at = λ k q. rw hash_more (c.at k q ∙ ap₂ compress (o.at k q) (e k q)) }
 
 -- a block that lies whole in a message of 480 bytes
 pub block_in : (s r : List ℕ) (i : ℕ) → length s ≡ 480 → i < 7 → r ≡ block s i → r ≡ block (padded s) i

@@ -24,28 +24,17 @@ fn last_block(s: &[u8]) -> [u8; 64]
 #[derive(Clone, Copy)]
 pub struct Four(pub [[u8; 32]; 4]);
 
-// The SHA-256 digests of four messages of 480 bytes. Lists of four: with `map` and a closure it was not proved that each block is there.
+// The SHA-256 digests of four messages of 480 bytes. The last list is spelled out: a closure would say again what lane asks and both give.
 pub fn digest4(m: [&[u8]; 4]) -> Four
     requires { All (λ message. length message.now ≡ 480) m }
     ensures { result.0 ≡ map (λ message. sha256 message.now) m.entry }
 {
     let mut h = Lanes::<4>::new(sha256::initial());
     for i in 0..7 {
-        compress(
-            &mut h,
-            &[
-                block(m[0], i),
-                block(m[1], i),
-                block(m[2], i),
-                block(m[3], i),
-            ],
-        );
+        compress(&mut h, &m.map(|s| block(s, i)));
     }
-    let p0 = last_block(m[0]);
-    let p1 = last_block(m[1]);
-    let p2 = last_block(m[2]);
-    let p3 = last_block(m[3]);
-    compress(&mut h, &[&p0, &p1, &p2, &p3]);
+    let last = m.map(last_block);
+    compress(&mut h, &last.each_ref());
     Four([
         sha256::bytes_of(h.lane(0)),
         sha256::bytes_of(h.lane(1)),

@@ -1,3 +1,4 @@
 pub mod Padding
+pub mod FromFn
 pub mod Hash
 pub mod Examples

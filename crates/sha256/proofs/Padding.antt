@@ -7,7 +7,8 @@ use lib.ListN.{length, get_or, take, drop, replicate, length-append, length-drop
 use lib.Seq.{get_or-append-add, get_or-append_seam, take-append-le, drop-append-le}
 use Rattle.std.specs.Int.{w32, w64, to_be_bytes}
 use Rattle.std.specs.List.{flat_map}
-use Rattle.std.proofs.lemmas.List.{flat_map_more, take_more}
+use Rattle.std.proofs.lemmas.List.{flat_map_more, take_more, get_or-take, get_or-drop}
+use Rattle.std.proofs.lemmas.Grind.{get_or_default_zero}
 use Rattle.std.proofs.lemmas.Slice.{take-put_mid}
 use borrow.Rule.Slice.PartMut.{put_mid}
 use Rattle.sha256.specs.Fips.{padded, zeros, bytes4, bytes8, block}
@@ -88,3 +89,8 @@ words_more d ys ws i l w h o e =
     let n : length ys ≡ 4 = ap length q in
     take-put_mid (4 * i) (4 * i + 4 - 4 * i) d ys (4 * (i + 1)) (omega arith) (omega arith)
     ∙ ap₂ (λ (xs zs : List ℕ). xs ++ zs) o q ∙ flat_map_more bytes4 [] (take i ws) x ∙ ap (flat_map bytes4) (sym (take_more ws i 0 (omega arith)))
+
+-- a byte of a block
+pub block_byte : (p : List ℕ) (k i d : ℕ) → 64 * k + 64 ≤ length p → i < 64 → get_or (block p k) i d ≡ get_or p (64 * k + i) 0
+block_byte p k i d l h =
+    get_or-take 64 (drop (64 * k) p) i d h ∙ get_or-drop (64 * k) p i d ∙ get_or_default_zero p (64 * k + i) d (omega arith)

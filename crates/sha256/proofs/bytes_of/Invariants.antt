@@ -5,4 +5,4 @@ use Rattle.sha256.specs.Fips.{bytes4}
 use Rattle.sha256.proofs.bytes_of.Given as goal
 
 abbrev pub invariant-loop-i : goal.invariant-loop-i
-invariant-loop-i l = (length l.d ≡ 32) × (take (4 * l.i) l.d ≡ flat_map bytes4 (take l.i l.words))
+invariant-loop-i l = (length l.d ≡ 32) × (take (4 * l.i) l.d ≡ flat_map bytes4 (take l.i l.word-items))
