@@ -15,7 +15,10 @@ use Rattle.apollo.specs.Log.{slot, filled, store, chain}
 use Rattle.apollo.specs.Fetch.{above}
 use Rattle.apollo.proofs.Fetch.{above_append}
 use Rattle.frame.proofs.Frames.{frame_part}
+use Rattle.std.specs.Prelude.{Option, None, Some}
+use Rattle.std.specs.Option.{MatchOption}
 use Rattle.log_heights.specs.Fetch.{is_tall, last_low}
+use Rattle.log_heights.proofs.Search.{slots, First}
 
 above_one : (h : ℕ) (x : List ℕ) (b : Bool) → above h (cond b (x ∷ []) []) ≡ cond (b && ltb h (height x)) (x ∷ []) []
 unfolding above
@@ -70,29 +73,25 @@ module _ (log : List ℕ) (h : ℕ) where
       let n : (last_low log h 0 c ≤ 0 + c) × (up_to (last_low log h 0 c) ≡ []) = low_none c 0 (unfold chain above in refl) in
       rw e (omega (arith, n.0), n.1)
 
-  -- that round found in a walk upwards, at slot lo + 1 of c
-  low_more : (lo c : ℕ) → lo < c → last_low log h lo (c - lo) ≡ cond (is_tall (slot log (lo + 1)) h) lo (last_low log h (lo + 1) (c - (lo + 1)))
+  -- that round found among the slots
+  pub low_first : (lo n : ℕ) (r : Option ℕ) → First (λ x. is_tall x h ≡ true) (λ x. is_tall x h ≡ false) (slots log lo n) r
+      → MatchOption r (last_low log h lo n ≡ lo + n) (λ i. (i < n) × (last_low log h lo n ≡ lo + i))
   unfolding last_low
-  low_more lo c g =
-      let q : c - lo ≡ suc (c - (lo + 1)) = omega arith in
-      rw q
+  low_first lo zero None e = omega arith
+  low_first lo (suc n) None e =
+      let f : last_low log h (lo + 1) n ≡ lo + 1 + n = low_first (lo + 1) n None (λ k d a b. e (suc k) d (omega arith) (omega arith)) in
+      rw (e 0 [] (omega arith) (omega arith)) (omega (arith, f))
+  low_first lo zero (Some i) e = absurd (omega (arith, e.0))
+  low_first lo (suc n) (Some zero) e = (omega arith, rw (e.1 []) (omega arith))
+  low_first lo (suc n) (Some (suc i)) e =
+      let f : (i < n) × (last_low log h (lo + 1) n ≡ lo + 1 + i) =
+      low_first (lo + 1) n (Some i) (omega (arith, e.0), e.1, λ k d a b. e.2 (suc k) d (omega arith) (omega arith)) in
+      (omega (arith, f.0), rw (e.2 0 [] (omega arith) (omega arith)) (omega (arith, f.1)))
 
-  module _ (lo c : ℕ) (x : List ℕ) (is : x ≡ slot log (lo + 1)) (b : Bool) (e : b ≡ is_tall x h) where
-    tall_slot : is_tall (slot log (lo + 1)) h ≡ b
-    tall_slot = sym (rw is at e)
-
-    pub low_here : lo < c → b ≡ true → lo ≡ last_low log h lo (c - lo)
-    low_here g t = rw (low_more lo c g, tall_slot, t)
-
-    pub low_above : lo < c → b ≡ false → last_low log h (lo + 1) (c - (lo + 1)) ≡ last_low log h lo (c - lo)
-    low_above g t = rw (low_more lo c g, tall_slot, t)
-
-  pub low_all : (lo c : ℕ) → lo ≤ c → c ≤ lo → c ≡ last_low log h lo (c - lo)
-  unfolding last_low
-  low_all lo c f g =
-      let z : c - lo ≡ 0 = omega arith in
-      let e : c ≡ lo = omega arith in
-      rw z e
+  pub low_told : (n : ℕ) (r : Option ℕ) → MatchOption r (last_low log h 0 n ≡ 0 + n) (λ i. (i < n) × (last_low log h 0 n ≡ 0 + i)) → n < 4294967296
+      → (q : ℕ) (Nothing : Type 0) (Thing : ℕ → Type 0) → MatchOption r Nothing Thing → (Nothing → q ≡ n) → ((i : ℕ) → Thing i → i < 4294967296 → q ≡ i) → q ≡ last_low log h 0 n
+  low_told n None f g q N S e a b = omega (arith, f, a e)
+  low_told n (Some i) f g q N S e a b = omega (arith, f.1, b i e (omega (arith, f.0)))
 
   -- those up to a lower round come first
   up_first : (r d : ℕ) → (length (up_to r) ≤ length (up_to (r + d))) × (take (length (up_to r)) (up_to (r + d)) ≡ up_to r)

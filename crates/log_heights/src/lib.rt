@@ -26,12 +26,10 @@ pub fn lowest(log: &[u8], h: u32, committed: u32) -> Option<u32>
     ensures { result ≡ found (Read.lowest log.now h 0 committed) }
 {
     let end = FRAME * (committed as usize);
-    for (i, x) in log[..end].chunks_exact(FRAME).enumerate() {
-        if is_readable(x, h) {
-            return Some(i as u32 + 1);
-        }
-    }
-    None
+    let i = log[..end]
+        .chunks_exact(FRAME)
+        .position(|x| is_readable(x, h))?;
+    Some(i as u32 + 1)
 }
 
 // Slot x is filled, with a height above h.
@@ -62,12 +60,10 @@ fn last_low(log: &[u8], h: u32, last_round: u32) -> u32
     ensures { result ≡ last_low log.now h 0 last_round }
 {
     let end = FRAME * (last_round as usize);
-    for (r, x) in log[..end].chunks_exact(FRAME).enumerate() {
-        if is_tall(x, h) {
-            return r as u32;
-        }
-    }
-    last_round
+    log[..end]
+        .chunks_exact(FRAME)
+        .position(|x| is_tall(x, h))
+        .map_or(last_round, |r| r as u32)
 }
 
 // The chain frames of height above h are copied to out, in rising round, as many as fit; how many. A slot is cut out in 512
