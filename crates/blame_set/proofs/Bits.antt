@@ -2,13 +2,13 @@
 use mathlib.Core.Path.{◌≡◌, refl}
 use mathlib.Core.Bool.{Bool, true, false, cond}
 use mathlib.Core.List.{List, [], ◌∷◌}
-use Prim.Native.Nat.{ℕ, ◌+◌, ◌-◌, ◌*◌, ◌≤◌, ◌<◌}
+use Prim.Native.Nat.{ℕ, ◌+◌, ◌≤◌}
 use native.Mathlib.Omega.{arith}
 use lib.Dec.{eqb}
 use borrow.Author.Tests.{eqb-true, eqb-false}
 use Rattle.sha256.specs.Fips.{sha256}
 use Rattle.apollo.specs.declared.Setup.{Setup}
-use Rattle.apollo.specs.Frame.{signer, blame_form}
+use Rattle.apollo.specs.Frame.{blame_form}
 use Rattle.apollo.specs.Judging.{Verdict, verdict, fault, judged_each}
 use Rattle.frame_forms.proofs.Facts.{BlameFields, blame_fields}
 use Rattle.apollo.proofs.Fault.{fault_none}

@@ -34,7 +34,8 @@ fn joined(x: &[u8], before: u16) -> u16
     masks::with_bit(before, frame::signer(x))
 }
 
-// The frames are of round r, and no signer is there twice. That signers have bits is asked here, below and in `add_blames`: a type that
+// The frames are of round r, and no signer is there twice. By a loop: `try_fold` would hand the mask on in an Option, of which `is_some`
+// alone is read. That signers have bits is asked here, below and in `add_blames`: a type that
 // holds it would be made once, by `judge_set`, and opened in its one caller.
 fn is_one_set(frames: &[u8], r: u32) -> bool
     requires { HaveBits (frames_of frames.now) }
@@ -62,12 +63,7 @@ fn is_heard(masks: &[u16], x: &[u8]) -> bool
 fn is_any_fresh(masks: &[u16], frames: &[u8]) -> bool
     ensures { result ≡ Blame.any_fresh masks.now (frames_of frames.now) }
 {
-    for x in frames.chunks_exact(FRAME) {
-        if !is_heard(masks, x) {
-            return true;
-        }
-    }
-    false
+    frames.chunks_exact(FRAME).any(|x| !is_heard(masks, x))
 }
 
 // 16, 14 and 10 of frames that passed 7 and 8.

@@ -1,2 +1,3 @@
 pub mod Attaching
+pub mod Downward
 pub mod Ordered

@@ -1,7 +1,7 @@
 // Where a branch attaches: the round of the slot that its first frame has as its parent.
 #![tactic(auto)]
 
-ghost use Rattle.std.specs.Prelude.{◌≡◌, ◌-◌, ◌<◌, ◌&&◌};
+ghost use Rattle.std.specs.Prelude.{◌≡◌, ◌-◌, ◌&&◌};
 ghost use Rattle.apollo.specs.Frame as Frame;
 ghost use Rattle.apollo.specs.Log as Log;
 ghost use Rattle.branch_links.specs.Answers.{attach_of};
@@ -11,7 +11,6 @@ use apollo::size::FRAME;
 
 // Frame x attaches to slot r.
 fn attaches(log: &[u8], x: &[u8], r: u32) -> bool
-    requires { 0 < r }
     ensures { result ≡ Log.filled (Log.slot log.now r) && Frame.linked (Log.slot log.now r) x.now }
 {
     let p = slots::slot(log, r);
@@ -31,13 +30,8 @@ fn attaches_genesis(x: &[u8]) -> bool
 pub fn attach(log: &[u8], x: &[u8]) -> Option<u32>
     ensures { attach_of result ≡ Log.attach log.now x.now (Frame.round x.now - 1) }
 {
-    for r in (1..frame::round(x)).rev() {
-        if attaches(log, x, r) {
-            return Some(r);
-        }
-    }
-    if attaches_genesis(x) {
-        return Some(0);
-    }
-    None
+    (1..frame::round(x))
+        .rev()
+        .find(|&r| attaches(log, x, r))
+        .or_else(|| attaches_genesis(x).then_some(0))
 }

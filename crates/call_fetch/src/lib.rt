@@ -9,6 +9,7 @@ ghost use Rattle.call_fetch.specs.Answers.{no_frames, told};
 use apollo::size::OUT;
 use apollo::{Fetched, Height, Refusal, Replica};
 
+// No frames, refused. C has a struct of its own for each of its four answers, so the answers of a refusal are four functions.
 fn no_frames(e: Refusal) -> Fetched
     ensures { result ≡ no_frames (number e) }
 {
@@ -44,11 +45,6 @@ fn copy_above(
 pub fn fetch(replica: Replica, log: &[u8], height: Height, out: &mut [u8]) -> Fetched
     ensures { fetched result out.new ≡ fetch_call replica log.now height.0 out.old }
 {
-    match copy_above(replica, log, height, out) {
-        Ok(n) => Fetched {
-            number: 0,
-            count: n,
-        },
-        Err(e) => no_frames(e),
-    }
+    copy_above(replica, log, height, out)
+        .map_or_else(no_frames, |count| Fetched { number: 0, count })
 }

@@ -7,11 +7,14 @@ use native.Mathlib.Omega.{arith}
 use lib.Dec.{eqb, leb}
 use lib.ListN.{length}
 use borrow.Author.Tests.{eq-eqb, ne_eqb, eqb-false, leb-true, not-false}
+use Rattle.std.specs.Prelude.{Ok, Err}
+use Rattle.std.specs.Option.{ok_or}
 use Rattle.apollo.specs.Size.{frame_size}
 use Rattle.apollo.specs.declared.Replica.{Replica}
 use Rattle.apollo.specs.Bytes.{part}
 use Rattle.apollo.specs.Frame.{entry_length, height}
 use Rattle.apollo.specs.Log.{slot, filled}
+use Rattle.apollo.specs.Found.{found}
 use Rattle.apollo.specs.Replica.{valid_replica}
 use Rattle.apollo.specs.Read.{ReadOutcome, part_of, readable, lowest, read_call}
 use Rattle.apollo.proofs.Tests.{and_second, by_cond}
@@ -37,6 +40,18 @@ module _ (r : Replica) (log : List ℕ) (h : ℕ) (v : Bool) (e : v ≡ valid_re
     pub read_found : (q ≡ 0 → ⊥) → entry_part log q ≡ (read_call r log h).answer
     unfolding read_call
     read_found n = rw (← e, t, ← d, ne_eqb q 0 n)
+
+-- the round looked for, by what `ok_or` makes of it
+module _ {E : Type 0} (a : E) where
+  pub no_round : (q : ℕ) (e : E) → Err e ≡ ok_or (found q) a → (e ≡ a) × (q ≡ 0)
+  unfolding found
+  no_round zero e p = (cc, refl)
+  no_round (suc q) e p = cc
+
+  pub the_round : (q r : ℕ) → Ok r ≡ ok_or (found q) a → (r ≡ q) × (q ≡ 0 → ⊥)
+  unfolding found
+  the_round zero r p = cc
+  the_round (suc q) r p = (cc, λ z. omega arith)
 
 -- the bytes shown are those of the part
 shown : (log : List ℕ) (a b : Bool) (m n k s l : ℕ) → (o : ReadOutcome)

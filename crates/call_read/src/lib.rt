@@ -1,7 +1,7 @@
 // The call read: the entry at a committed height. Takes any record and height, and slices of any length and content.
 #![tactic(auto)]
 
-ghost use Rattle.std.specs.Prelude.{◌≡◌, ◌+◌, ◌≤◌, ◌<◌, length, IfOk};
+ghost use Rattle.std.specs.Prelude.{◌≡◌, ◌+◌, ◌≤◌, length, IfOk};
 ghost use Rattle.apollo.specs.Bytes as Bytes;
 ghost use Rattle.apollo.specs.Calls.{read_call};
 ghost use Rattle.apollo.specs.Refused.{number, refusal_of};
@@ -11,6 +11,7 @@ ghost use Rattle.apollo.specs.Read.{place_in};
 use apollo::size::FRAME;
 use apollo::{Height, Part, Refusal, Replica};
 
+// No part, refused. C has a struct of its own for each of its four answers, so the answers of a refusal are four functions.
 fn no_part(e: Refusal) -> Part
     ensures { result ≡ no_part (number e) }
 {
@@ -23,10 +24,9 @@ fn no_part(e: Refusal) -> Part
 
 // The part of the log that is the entry in slot r.
 fn entry_part(log: &[u8], r: u32) -> Part
-    requires { 0 < r }
     ensures { result ≡ entry_part log.now r }
 {
-    let i = (r - 1) as usize;
+    let i = apollo::previous(r) as usize;
     Part {
         number: 0,
         start: FRAME * i + 44,
@@ -42,20 +42,15 @@ fn find(replica: Replica, log: &[u8], height: Height) -> Result<Part, Refusal>
     if !(record_ranges::valid_record(replica) & record_ranges::valid_log(replica, log)) {
         return Err(Refusal::BadReplica);
     }
-    match log_heights::lowest(log, height.0, replica.committed_round.0) {
-        Some(r) => Ok(entry_part(log, r)),
-        None => Err(Refusal::Absent),
-    }
+    let r = log_heights::lowest(log, height.0, replica.committed_round.0).ok_or(Refusal::Absent)?;
+    Ok(entry_part(log, r))
 }
 
 // The same as C has it.
 pub fn read_part(replica: Replica, log: &[u8], height: Height) -> Part
     ensures { result ≡ (read_call replica log.now height.0).answer }
 {
-    match find(replica, log, height) {
-        Ok(part) => part,
-        Err(e) => no_part(e),
-    }
+    find(replica, log, height).unwrap_or_else(no_part)
 }
 
 // The part p of the log: its bytes, in the place where they lie.

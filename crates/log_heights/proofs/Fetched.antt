@@ -1,21 +1,73 @@
--- The frames that fetch copies, slot by slot. Assumes nothing.
-use mathlib.Core.Path.{◌≡◌, refl, sym, ap, ◌∙◌}
+-- The frames that fetch copies, one by one. Assumes nothing.
+use mathlib.Core.Path.{◌≡◌, refl, sym, ap, subst, ◌∙◌}
 use mathlib.Core.Bool.{Bool, true, false, ◌&&◌, cond}
-use mathlib.Core.List.{List, [], ◌∷◌, ◌++◌, flatten, append_assoc, append-nil}
-use Prim.Native.Nat.{ℕ, zero, suc, ◌+◌, ◌-◌, ◌*◌, ◌/◌, ◌≤◌, ◌<◌, min}
-use native.Mathlib.Nat.{le_refl}
+use mathlib.Core.List.{List, [], ◌∷◌, ◌++◌, map, flatten, append_assoc, append-nil}
+use Prim.Native.Nat.{ℕ, zero, suc, ◌+◌, ◌-◌, ◌*◌, ◌≤◌, ◌<◌, min}
 use native.Mathlib.Numerals.{add-one}
 use native.Mathlib.Omega.{arith}
 use lib.Dec.{ltb}
-use lib.ListN.{length, take, drop, length-take, length-drop, length-append}
-use lib.Seq.{take-length, take-append-le, take_at, drop-append-add, drop-drop}
+use lib.ListN.{length, take, drop, length-take, length-drop, length-append, length-map}
+use lib.Seq.{take_at, drop-append-add, drop-drop}
+use denote.Ref.{Bor}
+use denote.Param.Members.{Mut}
+use Rattle.std.specs.Prelude.{Option, Some, None}
+use Rattle.std.specs.List.{filter}
+use Rattle.std.specs.Fn.{CalledAt}
+use Rattle.std.specs.Iterator.{Yields}
+use Rattle.std.specs.Iterator.Adapters.{filter_source, filter_callee, filter_steps, take_source, take_count, take_steps}
+use Rattle.std.specs.Slice.Iter.{chunks_exact_rest, chunks_exact_size, chunks_exact_steps}
+use Rattle.std.specs.declared.iter.Filter.{Filter}
+use Rattle.std.specs.declared.iter.Take.{Take}
+use Rattle.std.specs.declared.slice.ChunksExact.{ChunksExact}
+use Rattle.std.proofs.lemmas.Iterator.{YieldsList, YieldsList-from_take}
+use Rattle.std.proofs.lemmas.Iterator.Consumers.{YieldsList-from_filter}
+use Rattle.std.proofs.lemmas.List.{take_min, map-append}
 use Rattle.apollo.specs.Size.{frame_size}
 use Rattle.apollo.specs.Frame.{height}
 use Rattle.apollo.specs.Log.{slot, filled, store, chain}
 use Rattle.apollo.specs.Fetch.{above}
 use Rattle.apollo.proofs.Fetch.{above_append}
-use Rattle.frame.proofs.Frames.{frame_part}
-use Rattle.log_heights.specs.Fetch.{is_tall, last_low}
+use Rattle.log_heights.specs.Fetch.{is_tall}
+use Rattle.log_heights.proofs.Search.{slots, length_slots, YieldsList-from_log}
+use Rattle.log_heights.proofs.Walked.{next_item, all_items}
+
+-- whole frames
+Whole : List (List ℕ) → Type 0
+Whole [] = Unit {0}
+Whole (x ∷ xs) = (length x ≡ frame_size) × Whole xs
+
+whole_slots : (log : List ℕ) (lo n : ℕ) → frame_size * (lo + n) ≤ length log → Whole (slots log lo n)
+unfolding Whole slot
+whole_slots log lo zero h = tt
+whole_slots log lo (suc n) h = (rw add-one (simp (length-take, length-drop) (omega arith)), whole_slots log (lo + 1) n (omega arith))
+
+whole_filter : (p : List ℕ → Bool) (xs : List (List ℕ)) → Whole xs → Whole (filter p xs)
+unfolding Whole
+whole_filter p [] w = tt
+whole_filter p (x ∷ xs) w = by (p x) (whole_filter p xs w.1)
+  where
+    by : (b : Bool) → Whole (filter p xs) → Whole (cond b (x ∷ filter p xs) (filter p xs))
+    by true f = (w.0, f)
+    by false f = f
+
+whole_take : (n : ℕ) (xs : List (List ℕ)) → Whole xs → Whole (take n xs)
+unfolding Whole
+whole_take zero xs w = tt
+whole_take (suc n) [] w = tt
+whole_take (suc n) (x ∷ xs) w = (w.0, whole_take n xs w.1)
+
+whole_at : (xs : List (List ℕ)) (x : List ℕ) (ys : List (List ℕ)) → Whole (xs ++ (x ∷ ys)) → length x ≡ frame_size
+unfolding Whole
+whole_at [] x ys w = w.0
+whole_at (z ∷ xs) x ys w = whole_at xs x ys w.1
+
+filter_most : (p : List ℕ → Bool) (xs : List (List ℕ)) → length (filter p xs) ≤ length xs
+filter_most p [] = omega arith
+filter_most p (x ∷ xs) = by (p x) (filter_most p xs)
+  where
+    by : (b : Bool) → length (filter p xs) ≤ length xs → length (cond b (x ∷ filter p xs) (filter p xs)) ≤ suc (length xs)
+    by true f = omega (arith, f)
+    by false f = omega (arith, f)
 
 above_one : (h : ℕ) (x : List ℕ) (b : Bool) → above h (cond b (x ∷ []) []) ≡ cond (b && ltb h (height x)) (x ∷ []) []
 unfolding above
@@ -27,20 +79,9 @@ unfolding flatten
 flatten_append [] ys = refl
 flatten_append (x ∷ xs) ys = rw (flatten_append xs ys) (sym (append_assoc x (flatten xs) (flatten ys)))
 
--- the slot above round r as the code lends it
-abbrev lent : (log : List ℕ) (r : ℕ) → List ℕ
-lent log r = take (frame_size * r + frame_size - frame_size * r) (drop (frame_size * r) log)
-
-lent_slot : (log : List ℕ) (r : ℕ) → lent log r ≡ slot log (suc r)
-unfolding slot
-lent_slot log r = frame_part log (frame_size * r)
-
-lent_size : (log : List ℕ) (r : ℕ) → frame_size * (r + 1) ≤ length log → length (lent log r) ≡ frame_size
-lent_size log r g = simp (length-take, length-drop) (omega arith)
-
 module _ (log : List ℕ) (h : ℕ) where
   -- the frames that fetch copies up to round r
-  abbrev pub up_to : (r : ℕ) → List (List ℕ)
+  abbrev up_to : (r : ℕ) → List (List ℕ)
   up_to r = above h (chain log r)
 
   up_more : (r : ℕ) → up_to (suc r) ≡ up_to r ++ cond (is_tall (slot log (suc r)) h) (slot log (suc r) ∷ []) []
@@ -49,125 +90,104 @@ module _ (log : List ℕ) (h : ℕ) where
       above_append h (chain log r) (cond (filled (slot log (suc r))) (slot log (suc r) ∷ []) [])
       ∙ ap (λ (l : List (List ℕ)). up_to r ++ l) (above_one h (slot log (suc r)) (filled (slot log (suc r))))
 
-  -- none up to the last round before the first
-  low_none : (m lo : ℕ) → up_to lo ≡ [] → (last_low log h lo m ≤ lo + m) × (up_to (last_low log h lo m) ≡ [])
-  unfolding last_low
-  low_none zero lo e = (omega arith, e)
-  low_none (suc m) lo e = by (low_none m (lo + 1)) (is_tall (slot log (lo + 1)) h) refl
-    where
-      by : (up_to (lo + 1) ≡ [] → (last_low log h (lo + 1) m ≤ lo + 1 + m) × (up_to (last_low log h (lo + 1) m) ≡ []))
-          → (b : Bool) → is_tall (slot log (lo + 1)) h ≡ b
-          → (cond b lo (last_low log h (lo + 1) m) ≤ lo + suc m) × (up_to (cond b lo (last_low log h (lo + 1) m)) ≡ [])
-      by ih true t = (omega arith, e)
-      by ih false t =
-          let f : is_tall (slot log (suc lo)) h ≡ false = rw add-one at t in
-          let r : (last_low log h (lo + 1) m ≤ lo + 1 + m) × (up_to (last_low log h (lo + 1) m) ≡ []) =
-          ih (rw add-one (up_more lo ∙ rw (e, f))) in
-          (omega (arith, r.0), r.1)
+  first_or_not : (b : Bool) (x : List ℕ) (xs : List (List ℕ)) → cond b (x ∷ xs) xs ≡ cond b (x ∷ []) [] ++ xs
+  first_or_not true x xs = refl
+  first_or_not false x xs = refl
 
-  pub last_low_lem : (c r : ℕ) → r ≡ last_low log h 0 c → (r ≤ c) × (up_to r ≡ [])
-  last_low_lem c r e =
-      let n : (last_low log h 0 c ≤ 0 + c) × (up_to (last_low log h 0 c) ≡ []) = low_none c 0 (unfold chain above in refl) in
-      rw e (omega (arith, n.0), n.1)
+  tall_slots : (lo n : ℕ) → up_to lo ++ filter (λ x. is_tall x h) (slots log lo n) ≡ up_to (lo + n)
+  tall_slots lo zero =
+      let e : lo + 0 ≡ lo = omega arith in
+      rw e (append-nil (up_to lo))
+  tall_slots lo (suc n) =
+      let e : lo + suc n ≡ suc lo + n = omega arith in
+      let t : List (List ℕ) = filter (λ x. is_tall x h) (slots log (suc lo) n) in
+      let g : List (List ℕ) = cond (is_tall (slot log (suc lo)) h) (slot log (suc lo) ∷ []) [] in
+      let i : up_to (suc lo) ++ t ≡ up_to (suc lo + n) = tall_slots (suc lo) n in
+      rw (e, add-one, first_or_not (is_tall (slot log (suc lo)) h) (slot log (suc lo)) t)
+      (sym (append_assoc (up_to lo) g t) ∙ ap (λ (l : List (List ℕ)). l ++ t) (sym (up_more lo)) ∙ i)
 
-  -- that round found in a walk upwards, at slot lo + 1 of c
-  low_more : (lo c : ℕ) → lo < c → last_low log h lo (c - lo) ≡ cond (is_tall (slot log (lo + 1)) h) lo (last_low log h (lo + 1) (c - (lo + 1)))
-  unfolding last_low
-  low_more lo c g =
-      let q : c - lo ≡ suc (c - (lo + 1)) = omega arith in
-      rw q
+  -- the slots that a walk up to round c takes, of which there is room for n
+  abbrev pub taken : (c n : ℕ) → List (List ℕ)
+  taken c n = take n (filter (λ x. is_tall x h) (slots log 0 c))
 
-  module _ (lo c : ℕ) (x : List ℕ) (is : x ≡ slot log (lo + 1)) (b : Bool) (e : b ≡ is_tall x h) where
-    tall_slot : is_tall (slot log (lo + 1)) h ≡ b
-    tall_slot = sym (rw is at e)
+  taken_is : (c n : ℕ) → taken c n ≡ take n (above h (chain log c))
+  unfolding chain above
+  taken_is c n =
+      let e : 0 + c ≡ c = omega arith in
+      ap (take n) (tall_slots 0 c ∙ ap up_to e)
 
-    pub low_here : lo < c → b ≡ true → lo ≡ last_low log h lo (c - lo)
-    low_here g t = rw (low_more lo c g, tall_slot, t)
+  taken_size : (c n : ℕ) (xs : List (List ℕ)) (x : List ℕ) (ys : List (List ℕ)) → frame_size * c ≤ length log → taken c n ≡ xs ++ (x ∷ ys) → length x ≡ frame_size
+  taken_size c n xs x ys g e =
+      whole_at xs x ys (rw e at (whole_take n _ (whole_filter (λ x. is_tall x h) _ (whole_slots log 0 c (omega arith)))))
 
-    pub low_above : lo < c → b ≡ false → last_low log h (lo + 1) (c - (lo + 1)) ≡ last_low log h lo (c - lo)
-    low_above g t = rw (low_more lo c g, tall_slot, t)
+  taken_most : (c n : ℕ) → length (taken c n) ≤ c
+  taken_most c n =
+      let t : List (List ℕ) = filter (λ x. is_tall x h) (slots log 0 c) in
+      omega (arith, length-take n t, filter_most (λ x. is_tall x h) (slots log 0 c), length_slots log 0 c)
 
-  pub low_all : (lo c : ℕ) → lo ≤ c → c ≤ lo → c ≡ last_low log h lo (c - lo)
-  unfolding last_low
-  low_all lo c f g =
-      let z : c - lo ≡ 0 = omega arith in
-      let e : c ≡ lo = omega arith in
-      rw z e
+  -- the iterator that gives them
+  pub tall_yields : {F : Type 0} {g : Mut F (Bor (Bor (List ℕ)) × Unit {0}) Bool} (c n : ℕ) → frame_size * c ≤ length log
+      → (k : ChunksExact ℕ) (f : Filter (ChunksExact ℕ) F) (w s : Take (Filter (ChunksExact ℕ) F)) → chunks_exact_rest k ≡ take (frame_size * c) log → chunks_exact_size k ≡ frame_size
+      → (p : F) → filter_source f ≡ k → filter_callee f ≡ p → take_source w ≡ f → take_count w ≡ n → s ≡ w
+      → ((x : Bor (List ℕ)) (b : Bool) (q : F) → CalledAt g p x b q → (q ≡ p) × (b ≡ is_tall x.now h))
+      → YieldsList (take_steps (filter_steps chunks_exact_steps g)) (λ x. x.now) s (taken c n)
+  tall_yields {F} {g} c n l k f w s e z p i j a b r d =
+      rw r
+      (YieldsList-from_take {s = w} n
+      (subst (λ o. YieldsList (filter_steps chunks_exact_steps g) (λ x. x.now) o (filter (λ x. is_tall x h) (slots log 0 c))) (sym a)
+      (YieldsList-from_filter {s = f} g (λ x. is_tall x h)
+      (subst (λ o. YieldsList chunks_exact_steps (λ x. x.now) o (slots log 0 c)) (sym i) (YieldsList-from_log log c l e z)) j d)) b)
 
-  -- those up to a lower round come first
-  up_first : (r d : ℕ) → (length (up_to r) ≤ length (up_to (r + d))) × (take (length (up_to r)) (up_to (r + d)) ≡ up_to r)
-  up_first r zero =
-      let e : r + 0 ≡ r = omega arith in
-      rw e (le_refl _, take-length (up_to r))
-  up_first r (suc d) =
-      let e : r + suc d ≡ suc (r + d) = omega arith in
-      let q : List (List ℕ) = cond (is_tall (slot log (suc (r + d))) h) (slot log (suc (r + d)) ∷ []) [] in
-      let ih : (length (up_to r) ≤ length (up_to (r + d))) × (take (length (up_to r)) (up_to (r + d)) ≡ up_to r) = up_first r d in
-      let l : length (up_to (r + d) ++ q) ≡ length (up_to (r + d)) + length q = length-append (up_to (r + d)) q in
-      rw (e, up_more (r + d)) (omega arith, take-append-le (length (up_to r)) (up_to (r + d)) q ih.0 ∙ ih.1)
+  -- an iterator that gives them: the next one, and the end
+  module _ {S : Type 0} {steps : S → Option (Bor (List ℕ)) → S → Type 0} {s : S} (c n : ℕ) (g : frame_size * c ≤ length log)
+      (xs : List (Bor (List ℕ))) (t u : S) (y : Yields steps s xs t) (all : YieldsList steps (λ x. x.now) s (taken c n)) where
+    pub taken_next : (x : Bor (List ℕ)) → steps t (Some x) u → (length x.now ≡ frame_size) × (length xs < c)
+    taken_next x p =
+        let e = next_item xs t u x all y p in
+        let f : List (List ℕ) = map (λ x. x.now) xs in (
+          taken_size c n f x.now e.0 g e.1,
+          omega (arith, ap length e.1, taken_most c n, length-append f (x.now ∷ e.0), length-map xs (λ x. x.now)),
+        )
 
-  -- after round r: k frames copied, all those up to it
-  pub record Copied (o : List ℕ) (r k : ℕ) (out : List ℕ) : Type 0 where
-    pub fits : frame_size * k ≤ length o
-    pub count : k ≡ length (up_to r)
-    pub size : length (flatten (up_to r)) ≡ frame_size * k
-    pub bytes : out ≡ flatten (up_to r) ++ drop (frame_size * k) o
+    pub taken_all : (k : ℕ) → k ≡ length xs → steps t None u → (k ≡ min (length (above h (chain log c))) n) × (map (λ x. x.now) xs ≡ take k (above h (chain log c)))
+    taken_all k q p =
+        let e : take n (above h (chain log c)) ≡ map (λ x. x.now) xs = sym (taken_is c n) ∙ all_items xs t u all y p in
+        let l : k ≡ min n (length (above h (chain log c))) =
+        q ∙ sym (length-map xs (λ x. x.now)) ∙ ap length (sym e) ∙ length-take n (above h (chain log c)) in
+        (omega (arith, l), sym e ∙ sym (take_min n (above h (chain log c))) ∙ ap (λ (j : ℕ). take j (above h (chain log c))) (sym l))
 
-  pub copied_none : (o : List ℕ) (r : ℕ) → up_to r ≡ [] → Copied o r 0 o
-  unfolding flatten
-  copied_none o r e = record { fits = omega arith; count = rw e refl; size = rw e refl; bytes = rw e refl }
+-- the frames xs at the front of o
+abbrev pub Front : (o : List ℕ) (xs : List (List ℕ)) (out : List ℕ) → Type 0
+Front o xs out = (length (flatten xs) ≡ frame_size * length xs) × (out ≡ flatten xs ++ drop (frame_size * length xs) o)
 
-  module _ (o : List ℕ) (r k : ℕ) (out : List ℕ) (c : Copied o r k out) where
-    -- a slot that is not among them, and one that is
-    copied_over : is_tall (slot log (suc r)) h ≡ false → Copied o (suc r) k out
-    copied_over f =
-        let e : up_to (suc r) ≡ up_to r = up_more r ∙ (rw (f, append-nil)) in
-        record {
-          fits = c.fits;
-          count = rw e c.count;
-          size = rw e c.size;
-          bytes = rw e c.bytes;
-        }
+pub front_none : (o : List ℕ) → Front o [] o
+unfolding flatten
+front_none o = (refl, refl)
 
-    copied_one : is_tall (slot log (suc r)) h ≡ true → frame_size * (k + 1) ≤ length o → length (slot log (suc r)) ≡ frame_size
-        → Copied o (suc r) (k + 1) (store out (k + 1) (slot log (suc r)))
-    unfolding store flatten
-    copied_one t g l =
-        let x : List ℕ = slot log (suc r) in
-        let f : List ℕ = flatten (up_to r) in
-        let e : up_to (suc r) ≡ up_to r ++ (x ∷ []) = up_more r ∙ rw t in
-        let w : flatten (up_to (suc r)) ≡ f ++ x = rw e (flatten_append (up_to r) (x ∷ []) ∙ ap (λ (m : List ℕ). f ++ m) (append-nil x)) in
-        let y : frame_size * (k + 1 - 1) ≡ length f = omega (arith, c.size) in
-        let z : frame_size * (k + 1) ≡ length f + frame_size = omega (arith, c.size) in
-        let u : take (frame_size * (k + 1 - 1)) out ≡ f = rw (y, c.bytes) (take_at f (drop (frame_size * k) o) (length f) refl) in
-        let p : frame_size * k + frame_size ≡ length f + frame_size = omega (arith, c.size) in
-        let v : drop (frame_size * (k + 1)) out ≡ drop (frame_size * (k + 1)) o =
-        rw (z, c.bytes) (drop-append-add f (drop (frame_size * k) o) frame_size ∙ (drop-drop frame_size (frame_size * k) o ∙ ap (λ (n : ℕ). drop n o) p)) in
-        record {
-          fits = g;
-          count = rw (e, length-append) (ap (λ (n : ℕ). n + 1) c.count);
-          size = rw (w, length-append, l) (omega (arith, c.size));
-          bytes = rw (u, v, w) (sym (append_assoc f x (drop (frame_size * (k + 1)) o)));
-        }
+front_next : (o : List ℕ) (xs : List (List ℕ)) (out x : List ℕ) → Front o xs out → length x ≡ frame_size
+    → Front o (xs ++ (x ∷ [])) (store out (length xs + 1) x)
+unfolding store flatten
+front_next o xs out x c l =
+    let k : ℕ = length xs in
+    let f : List ℕ = flatten xs in
+    let n : length (xs ++ (x ∷ [])) ≡ k + 1 = length-append xs (x ∷ []) in
+    let w : flatten (xs ++ (x ∷ [])) ≡ f ++ x = flatten_append xs (x ∷ []) ∙ ap (λ (m : List ℕ). f ++ m) (append-nil x) in
+    let y : frame_size * (k + 1 - 1) ≡ length f = omega (arith, c.0) in
+    let z : frame_size * (k + 1) ≡ length f + frame_size = omega (arith, c.0) in
+    let u : take (frame_size * (k + 1 - 1)) out ≡ f = rw (y, c.1) (take_at f (drop (frame_size * k) o) (length f) refl) in
+    let p : frame_size * k + frame_size ≡ length f + frame_size = omega (arith, c.0) in
+    let v : drop (frame_size * (k + 1)) out ≡ drop (frame_size * (k + 1)) o =
+    rw (z, c.1) (drop-append-add f (drop (frame_size * k) o) frame_size ∙ (drop-drop frame_size (frame_size * k) o ∙ ap (λ (n : ℕ). drop n o) p)) in
+    (rw (w, n, length-append, l) (omega (arith, c.0)), rw (u, v, w, n) (sym (append_assoc f x (drop (frame_size * (k + 1)) o))))
 
-    pub copied_more : (k' : ℕ) (out' : List ℕ) → frame_size * (k + 1) ≤ length o → frame_size * (r + 1) ≤ length log
-        → k' ≡ cond (is_tall (lent log r) h) (k + 1) k → out' ≡ cond (is_tall (lent log r) h) (store out (k + 1) (lent log r)) out
-        → Copied o (r + 1) k' out'
-    copied_more k' out' g l d e =
-        let s : length (slot log (suc r)) ≡ frame_size = rw (lent_slot log r) at (lent_size log r l) in
-        rw add-one (by s (is_tall (slot log (suc r)) h) refl (rw (lent_slot log r) at d) (rw (lent_slot log r) at e))
-      where
-        by : length (slot log (suc r)) ≡ frame_size → (b : Bool) → is_tall (slot log (suc r)) h ≡ b → k' ≡ cond b (k + 1) k
-            → out' ≡ cond b (store out (k + 1) (slot log (suc r))) out → Copied o (suc r) k' out'
-        by s true t p q = rw (p, q) (copied_one t g s)
-        by s false t p q = rw (p, q) (copied_over t)
+module _ (o : List ℕ) (xs : List (Bor (List ℕ))) (k : ℕ) (e : k ≡ length xs) (out : List ℕ) (c : Front o (map (λ x. x.now) xs) out) where
+  long : k ≡ length (map (λ x. x.now) xs)
+  long = e ∙ sym (length-map xs (λ x. x.now))
 
-    -- all that fit are copied
-    pub copied_full : (t : ℕ) → r ≤ t → length o / frame_size ≤ k
-        → (k ≡ min (length (up_to t)) (length o / frame_size)) × (out ≡ flatten (take k (up_to t)) ++ drop (frame_size * k) o)
-    copied_full t g f =
-        let e : r + (t - r) ≡ t = omega arith in
-        let p : (length (up_to r) ≤ length (up_to t)) × (take (length (up_to r)) (up_to t) ≡ up_to r) = rw e at (up_first r (t - r)) in
-        let z : k ≡ length (up_to r) = c.count in
-        let y : take k (up_to t) ≡ up_to r = ap (λ (m : ℕ). take m (up_to t)) z ∙ p.1 in
-        (omega (arith, c.fits, p.0), rw y c.bytes)
+  pub front_more : (x : Bor (List ℕ)) (y : List ℕ) → length x.now ≡ frame_size → y ≡ store out (k + 1) x.now → Front o (map (λ x. x.now) (xs ++ (x ∷ []))) y
+  front_more x y l f =
+      let s : store out (k + 1) x.now ≡ store out (length (map (λ x. x.now) xs) + 1) x.now = ap (λ (n : ℕ). store out (n + 1) x.now) long in
+      rw (map-append (λ x. x.now) xs (x ∷ []), f, s) (front_next o (map (λ x. x.now) xs) out x.now c l)
+
+  pub front_all : (ys : List (List ℕ)) → map (λ x. x.now) xs ≡ ys → out ≡ flatten ys ++ drop (frame_size * k) o
+  front_all ys f = rw (← f, long) c.1

@@ -1,62 +1,90 @@
--- A walk upward over the slots of a log, and the search for the lowest readable one. Assumes nothing.
-use mathlib.Core.Path.{◌≡◌, sym, ap, ◌∙◌}
-use mathlib.Core.Bool.{true, false, cond}
-use mathlib.Core.List.{List, ◌++◌}
-use Prim.Native.Nat.{ℕ, suc, ◌+◌, ◌-◌, ◌*◌, ◌≤◌, ◌<◌}
+-- The slots of a log as a walk upward gives them, and the search for the lowest readable one. Assumes nothing.
+use mathlib.Core.Path.{◌≡◌, refl, sym, ap, ◌∙◌}
+use mathlib.Core.Bool.{true, false}
+use mathlib.Core.List.{List, [], ◌∷◌, ◌++◌}
+use Prim.Native.Nat.{ℕ, zero, suc, ◌+◌, ◌*◌, ◌≤◌, ◌<◌}
 use native.Mathlib.Numerals.{add-one}
 use native.Mathlib.Omega.{arith}
-use lib.ListN.{length, take, drop, length-take, length-drop}
-use lib.Seq.{take-take}
-use Rattle.std.proofs.lemmas.List.{drop-take}
-use Rattle.std.specs.Prelude.{Some, None}
+use lib.ListN.{length, take, drop, length-take, length-drop, length-append}
+use lib.Seq.{take-take, drop-drop}
+use Rattle.std.proofs.lemmas.List.{drop-take, take_at, drop_at}
+use Rattle.std.proofs.lemmas.Iterator.{YieldsList}
+use Rattle.std.specs.Prelude.{Option, Some, None}
+use Rattle.std.specs.Option.{MatchOption}
+use Rattle.std.specs.List.{AllWithin, HoldsAt}
+use Rattle.std.specs.Iterator.{AlwaysYields}
+use Rattle.std.specs.Slice.Iter.{chunks_exact_rest, chunks_exact_size, chunks_exact_steps}
+use Rattle.std.specs.declared.slice.ChunksExact.{ChunksExact}
 use Rattle.apollo.specs.Size.{frame_size}
 use Rattle.apollo.specs.Log.{slot}
 use Rattle.apollo.specs.Read.{readable, lowest}
-use Rattle.apollo.specs.Found.{found}
-use Rattle.apollo.proofs.Found.{found_none, found_some}
-use Rattle.frame.proofs.Walk.{frame_there, frame_is}
 
--- in the log up to round c: the frame x behind the first i, and none
-pub slot_is : (log s x t : List ℕ) (c i : ℕ) → frame_size * c ≤ length log → s ≡ drop (frame_size * i) (take (frame_size * c) log)
-    → s ≡ x ++ t → length x ≡ frame_size → (i < c) × (x ≡ slot log (i + 1))
-unfolding slot
-slot_is log s x t c i g a e h =
-    let f : frame_size * i + frame_size ≤ length (take (frame_size * c) log) = frame_there (take (frame_size * c) log) s x t i a e h in
-    let l : i < c = omega (arith, f, length-take (frame_size * c) log) in
-    let p : frame_size * c ≡ frame_size * i + (frame_size * c - frame_size * i) = omega arith in (
-      l,
+-- the n slots above round lo
+abbrev pub slots : (log : List ℕ) (lo n : ℕ) → List (List ℕ)
+slots log lo zero = []
+slots log lo (suc n) = slot log (lo + 1) ∷ slots log (lo + 1) n
+
+pub length_slots : (log : List ℕ) (lo n : ℕ) → length (slots log lo n) ≡ n
+length_slots log lo zero = refl
+length_slots log lo (suc n) = ap suc (length_slots log (lo + 1) n)
+
+module _ (log : List ℕ) where
+  -- the bytes of those slots, the first of which is x
+  bytes : (lo n : ℕ) → List ℕ
+  bytes lo n = take (frame_size * n) (drop (frame_size * lo) log)
+
+  bytes_length : (lo n : ℕ) → frame_size * (lo + n) ≤ length log → length (bytes lo n) ≡ frame_size * n
+  unfolding bytes
+  bytes_length lo n h = simp (length-take, length-drop) (omega arith)
+
+  first_slot : (lo n : ℕ) (x t : List ℕ) → bytes lo (suc n) ≡ x ++ t → length x ≡ frame_size → x ≡ slot log (lo + 1)
+  unfolding bytes slot
+  first_slot lo n x t e h =
       rw add-one
-          (frame_is (take (frame_size * c) log) s x t i a e h
-          ∙ ap (λ (n : ℕ). take frame_size (drop (frame_size * i) (take n log))) p
-          ∙ ap (take frame_size) (drop-take (frame_size * i) (frame_size * c - frame_size * i) log)
-          ∙ take-take frame_size (frame_size * c - frame_size * i) (drop (frame_size * i) log) (omega arith)),
-    )
+      (sym (take_at x t _ h) ∙ ap (take frame_size) (sym e) ∙ take-take frame_size (frame_size * suc n) (drop (frame_size * lo) log) (omega arith))
 
-pub slots_done : (log s : List ℕ) (i c : ℕ) → frame_size * c ≤ length log → s ≡ drop (frame_size * i) (take (frame_size * c) log)
-    → length s < frame_size → c ≤ i
-slots_done log s i c g a h = omega (arith, rw a at h, length-drop (frame_size * i) (take (frame_size * c) log), length-take (frame_size * c) log)
+  other_slots : (lo n : ℕ) (x t : List ℕ) → bytes lo (suc n) ≡ x ++ t → length x ≡ frame_size → t ≡ bytes (lo + 1) n
+  unfolding bytes
+  other_slots lo n x t e h =
+      let p : frame_size * suc n ≡ frame_size + frame_size * n = omega arith in
+      let q : frame_size * lo + frame_size ≡ frame_size * (lo + 1) = omega arith in
+      sym (drop_at x t _ h)
+      ∙ ap (drop frame_size) (sym e ∙ ap (λ (k : ℕ). take k (drop (frame_size * lo) log)) p)
+      ∙ drop-take frame_size (frame_size * n) (drop (frame_size * lo) log)
+      ∙ ap (take (frame_size * n)) (drop-drop frame_size (frame_size * lo) log ∙ ap (λ (k : ℕ). drop k log) q)
 
--- lowest, from slot lo + 1 upwards to c
-module _ (log : List ℕ) (h lo c : ℕ) where
-  lowest_more : lo < c → lowest log h lo (c - lo)
-      ≡ cond (readable (slot log (lo + 1)) h) (lo + 1) (lowest log h (lo + 1) (c - (lo + 1)))
+  gives_slots : (lo n : ℕ) (s : ChunksExact ℕ) → frame_size * (lo + n) ≤ length log → chunks_exact_size s ≡ frame_size → chunks_exact_rest s ≡ bytes lo n
+      → AlwaysYields chunks_exact_steps (λ x. x.now) s (slots log lo n)
+  gives_slots lo zero s g h e = λ x j p.
+      omega (arith, h, ap length e, bytes_length lo 0 g, p.1.0, p.1.1, ap length p.1.0, length-append x.now (chunks_exact_rest j))
+  gives_slots lo (suc n) s g h e = (
+    (λ j p. omega (arith, h, ap length e, bytes_length lo (suc n) g, p.1.0)),
+    λ x j p. (
+      first_slot lo n x.now (chunks_exact_rest j) (sym e ∙ p.1.0) (p.1.1 ∙ h),
+      gives_slots (lo + 1) n j (omega arith) (p.0 ∙ h) (other_slots lo n x.now (chunks_exact_rest j) (sym e ∙ p.1.0) (p.1.1 ∙ h)),
+    ),
+  )
+
+-- those up to round c
+pub YieldsList-from_log : {s : ChunksExact ℕ} (log : List ℕ) (c : ℕ) → frame_size * c ≤ length log → chunks_exact_rest s ≡ take (frame_size * c) log
+    → chunks_exact_size s ≡ frame_size → YieldsList chunks_exact_steps (λ x. x.now) s (slots log 0 c)
+unfolding bytes
+YieldsList-from_log {s} log c g e h = record { runs = gives_slots log 0 c s (omega arith) h e }
+
+-- what `position` gives
+abbrev pub First : {X : Type 0} (Yes No : X → Type 0) (xs : List X) → Option ℕ → Type 0
+First Yes No xs r = MatchOption r (AllWithin No xs 0 (length xs)) (λ i. (i < length xs) × HoldsAt Yes xs i × AllWithin No xs 0 i)
+
+module _ (log : List ℕ) (h : ℕ) where
+  pub lowest_first : (lo n : ℕ) (r : Option ℕ) → First (λ x. readable x h ≡ true) (λ x. readable x h ≡ false) (slots log lo n) r
+      → MatchOption r (lowest log h lo n ≡ 0) (λ i. (i < n) × (lowest log h lo n ≡ lo + i + 1))
   unfolding lowest
-  lowest_more g =
-      let q : c - lo ≡ suc (c - (lo + 1)) = omega arith in
-      rw q
-
-  module _ (x : List ℕ) (is : x ≡ slot log (lo + 1)) (g : lo < c) where
-    pub lowest_here : (goal : ℕ) → true ≡ readable x h → lowest log h lo (c - lo) ≡ goal → Some (lo + 1) ≡ found goal
-    lowest_here goal e f =
-        let q : lowest log h lo (c - lo) ≡ lo + 1 = rw (lowest_more g, ← is, ← e) in
-        let r : goal ≡ lo + 1 = sym f ∙ q in
-        rw r (found_some (lo + 1) (λ z. omega arith))
-
-    pub lowest_above : false ≡ readable x h → lowest log h (lo + 1) (c - (lo + 1)) ≡ lowest log h lo (c - lo)
-    lowest_above e = rw (lowest_more g, ← is, ← e)
-
-  pub lowest_none : (goal : ℕ) → c ≤ lo → lowest log h lo (c - lo) ≡ goal → None ≡ found goal
-  unfolding lowest
-  lowest_none goal g f =
-      let z : c - lo ≡ 0 = omega arith in
-      found_none goal (sym (rw z at f))
+  lowest_first lo zero None e = refl
+  lowest_first lo (suc n) None e =
+      rw (e 0 [] (omega arith) (omega arith)) (lowest_first (lo + 1) n None (λ k d a b. e (suc k) d (omega arith) (omega arith)))
+  lowest_first lo zero (Some i) e = absurd (omega (arith, e.0))
+  lowest_first lo (suc n) (Some zero) e = (omega arith, rw (e.1 []) (omega arith))
+  lowest_first lo (suc n) (Some (suc i)) e =
+      let f : (i < n) × (lowest log h (lo + 1) n ≡ lo + 1 + i + 1) =
+      lowest_first (lo + 1) n (Some i) (omega (arith, e.0), e.1, λ k d a b. e.2 (suc k) d (omega arith) (omega arith)) in
+      (omega (arith, f.0), rw (e.2 0 [] (omega arith) (omega arith)) (omega (arith, f.1)))

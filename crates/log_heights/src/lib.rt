@@ -1,14 +1,14 @@
 // Slots of a log by height: the lowest readable, and the chain frames above a height.
 #![tactic(auto)]
 
-ghost use Rattle.std.specs.Prelude.{◌≡◌, ◌+◌, ◌*◌, ◌/◌, ◌≤◌, ◌<◌, min, cond, length, take, drop};
+ghost use Rattle.std.specs.Prelude.{◌≡◌, ◌*◌, ◌/◌, ◌≤◌, min, length, take, drop};
 ghost use mathlib.Core.List.{◌++◌, flatten};
 ghost use Rattle.apollo.specs.Size.{frame_size};
 ghost use Rattle.apollo.specs.Log as Log;
 ghost use Rattle.apollo.specs.Read as Read;
 ghost use Rattle.apollo.specs.Fetch.{above};
 ghost use Rattle.apollo.specs.Found.{found};
-ghost use Rattle.log_heights.specs.Fetch.{is_tall, last_low};
+ghost use Rattle.log_heights.specs.Fetch.{is_tall};
 
 use apollo::Kind;
 use apollo::size::{ENTRY, FRAME};
@@ -27,12 +27,10 @@ pub fn lowest(log: &[u8], h: u32, committed: u32) -> Option<u32>
     ensures { result ≡ found (Read.lowest log.now h 0 committed) }
 {
     let end = FRAME * (committed as usize);
-    for (i, x) in log[..end].chunks_exact(FRAME).enumerate() {
-        if is_readable(x, h) {
-            return Some(i as u32 + 1);
-        }
-    }
-    None
+    let i = log[..end]
+        .chunks_exact(FRAME)
+        .position(|x| is_readable(x, h))?;
+    Some(i as u32 + 1)
 }
 
 // Slot x is filled, with a height above h.
@@ -43,49 +41,22 @@ fn is_tall(x: &[u8], h: u32) -> bool
     frame::is_kind(x, Kind::Block) && h < frame::height(x)
 }
 
-// Slot x is copied after the first k frames of out if its height is above h; how many frames out has then.
-fn fetch_slot(x: &[u8], h: u32, out: &mut [u8], k: u32) -> u32
-    requires { (length x.now ≡ frame_size) × (k < 4294967295) × (frame_size * (k + 1) ≤ length out.old) }
-    ensures count { (result ≡ cond (is_tall x.now h) (k + 1) k) × (result ≤ k + 1) }
-    ensures frames { out.new
-        ≡ cond (is_tall x.now h) (Log.store out.old (k + 1) x.now) out.old }
-{
-    if !is_tall(x, h) {
-        return k;
-    }
-    slots::store(out, k + 1, x);
-    k + 1
-}
-
-// The last round before the first frame that fetch copies. A loop of its own, with one test a slot, is quicker than the one that copies.
-fn last_low(log: &[u8], h: u32, last_round: u32) -> u32
-    requires { frame_size * last_round ≤ length log.now }
-    ensures { result ≡ last_low log.now h 0 last_round }
-{
-    let end = FRAME * (last_round as usize);
-    for (r, x) in log[..end].chunks_exact(FRAME).enumerate() {
-        if is_tall(x, h) {
-            return r as u32;
-        }
-    }
-    last_round
-}
-
-// The chain frames of height above h are copied to out, in rising round, as many as fit; how many. A slot is cut out in 512
-// bytes, and not by `slots::slot`, so that the compiler knows how long the copy is.
+// The chain frames of height above h are copied to out, in rising round, as many as fit; how many.
 pub fn fetch_frames(log: &[u8], h: u32, last_round: u32, out: &mut [u8]) -> usize
     requires { frame_size * last_round ≤ length log.now }
     ensures count { result ≡ min (length (above h (Log.chain log.now last_round))) (length out.old / frame_size) }
     ensures frames { out.new ≡ flatten (take result (above h (Log.chain log.now last_round))) ++ drop (frame_size * result) out.old }
 {
+    let end = FRAME * (last_round as usize);
     let room = out.len() / FRAME;
-    let mut k = 0;
-    for r in last_low(log, h, last_round)..last_round {
-        if room <= k as usize {
-            return k as usize;
-        }
-        let a = FRAME * (r as usize);
-        k = fetch_slot(&log[a..a + FRAME], h, out, k);
+    let mut count = 0;
+    for x in log[..end]
+        .chunks_exact(FRAME)
+        .filter(|x| is_tall(x, h))
+        .take(room)
+    {
+        count += 1;
+        slots::store(out, count, x);
     }
-    k as usize
+    count as usize
 }

@@ -12,7 +12,7 @@ ghost use Rattle.slots.specs.Slots.{Slotted};
 use apollo::Kind;
 use apollo::size::FRAME;
 
-// What a search of the log gives, laid out as in C.
+// What a search of the log gives. C reads it, and has no Option.
 #[repr(C)]
 #[derive(Clone, Copy)]
 pub struct Found {
@@ -69,18 +69,18 @@ pub fn take_branch(log: &mut [u8], a: u32, frames: &[u8])
     store_each(log, frames);
 }
 
-// The bytes of slot r, fewer where the log ends before.
+// The bytes of slot r, fewer where the log ends before; the genesis for round 0.
 pub fn slot<'a>(log: &'a [u8], r: u32) -> &'a [u8]
-    requires { 0 < r }
     ensures { result.now ≡ Log.slot log.now r }
 {
-    let i = (r - 1) as usize;
-    slices::part(log, FRAME * i, FRAME)
+    match r.checked_sub(1) {
+        Some(i) => slices::part(log, FRAME * (i as usize), FRAME),
+        None => &[0; FRAME],
+    }
 }
 
 // Slot r is filled.
 fn is_filled(log: &[u8], r: u32) -> bool
-    requires { 0 < r }
     ensures { result ≡ Log.filled (Log.slot log.now r) }
 {
     frame::is_kind(slot(log, r), Kind::Block)
@@ -90,24 +90,21 @@ fn is_filled(log: &[u8], r: u32) -> bool
 pub fn slot_height(log: &[u8], r: u32) -> u32
     ensures { result ≡ Frame.height (Log.slot log.now r) }
 {
-    if r == 0 {
-        return 0;
-    }
     frame::height(slot(log, r))
 }
 
-// The highest filled slot up to the limit, from there downwards, and how many slots were read.
+// The highest filled slot up to the limit, from there downwards, and how many slots were read: those passed over, and the one found.
 pub fn highest(log: &[u8], limit: u32) -> Found
     ensures { (result.round ≡ Log.highest log.now limit) × (result.slots_read ≡ Log.slots_read log.now limit) }
 {
-    for round in (1..=limit).rev() {
-        if is_filled(log, round) {
-            let slots_read = limit - round + 1;
-            return Found { round, slots_read };
-        }
-    }
-    Found {
-        round: 0,
-        slots_read: limit,
+    match (0..limit).find(|&passed| is_filled(log, limit - passed)) {
+        Some(passed) => Found {
+            round: limit - passed,
+            slots_read: passed + 1,
+        },
+        None => Found {
+            round: 0,
+            slots_read: limit,
+        },
     }
 }

@@ -1,5 +1,5 @@
 -- `blame_set::judge_frames` meets its contract. By 7 and 8, and what follows them.
-use Rattle.std.proofs.Common.{◌≡◌, refl, ap, sym, ℕ}
+use Rattle.std.proofs.Common.{refl, ap, sym}
 use Rattle.std.proofs.lemmas.Result.{err_from_is_err_and}
 use Rattle.apollo.specs.Judging.{Verdict}
 use Rattle.apollo.proofs.Numbers.{number_some, refused_number, taken_none, refused_verdict, taken_verdict}

@@ -1,6 +1,5 @@
 -- `call_read::read` meets its contract: the part that is told, which lies in the log.
-use Rattle.std.proofs.Common.{◌≡◌, refl, ap, sym, ◌∙◌}
-use Rattle.std.proofs.lemmas.Result.{err_from_is_err_and}
+use Rattle.std.proofs.Common.{ap, sym, ◌∙◌}
 use Rattle.apollo.specs.declared.Part.{Part}
 use Rattle.apollo.specs.Bytes.{part}
 use Rattle.apollo.specs.Refused.{refusal_of}

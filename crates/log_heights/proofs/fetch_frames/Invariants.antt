@@ -1,15 +1,13 @@
--- The frames up to round `r` are copied, all of them.
-use Rattle.std.proofs.Common.{◌≤◌, ◌-◌}
-use Rattle.log_heights.proofs.Fetched.{Copied}
+-- The frames so far are at the front of `out`.
+use Rattle.std.proofs.Common.{◌≡◌, length, ◌+◌, map}
+use Rattle.std.specs.Iterator.Adapters.{take_count}
+use Rattle.log_heights.proofs.Fetched.{Front}
 use Rattle.log_heights.proofs.fetch_frames.Given as goal
 
-abbrev pub invariant-loop-r : goal.invariant-loop-r
-invariant-loop-r l =
+abbrev pub invariant-loop-x : goal.invariant-loop-x
+invariant-loop-x l =
     record {
-      in_range : l.r ≤ l.last_round;
-      not_more : l.k ≤ l.r;
-      copied : Copied l.log l.h l.fn.out l.r l.k l.out;
+      count : l.count ≡ length l.yielded;
+      room : l.count + take_count l.x-iterator ≡ l.room;
+      front : Front l.fn.out (map (λ x. x.now) l.yielded) l.out;
     }
-
-abbrev pub decreases-loop-r : goal.decreases-loop-r
-decreases-loop-r l = l.last_round - l.r

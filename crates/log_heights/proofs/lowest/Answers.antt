@@ -1,44 +1,27 @@
--- `log_heights::lowest` meets its contract. By the next slot, readable or not.
-use Rattle.std.proofs.Common.{◌∙◌, ◌*◌, take, refl, arith}
-use native.Mathlib.Nat.{sub-zero}
-use Rattle.apollo.specs.Size.{frame_size}
-use Rattle.frame.proofs.Walk.{frame_next}
-use Rattle.log_heights.proofs.Search.{slot_is, slots_done, lowest_here, lowest_above, lowest_none}
+-- `log_heights::lowest` meets its contract. By the law of `position`, over the slots.
+use Rattle.std.proofs.Common.{rules, ◌≡◌, ◌∙◌, ◌+◌, true, false, arith}
+use Rattle.std.proofs.lemmas.Iterator.{IsFirst-from_position}
+use Rattle.apollo.specs.Read as Read
+use Rattle.apollo.proofs.Found.{found_none, found_some}
+use Rattle.log_heights.proofs.Search.{YieldsList-from_log, lowest_first}
 use Rattle.log_heights.proofs.lowest.Goals as goal
 
-pub loop-i-init : goal.loop-i-init
-loop-i-init c =
-    rw (
-      c.into_iter-i-iterator.ensures.into_iter_gives,
-      c.enumerate-i-items.ensures.source,
-      c.enumerate-i-items.ensures.count,
-      c.chunks_exact.ensures.rest,
-    )
-    record { size = c.chunks_exact.ensures.size; at = refl; from_here = rw sub-zero refl }
-
-pub returns-then-is_readable : goal.returns-then-is_readable
-returns-then-is_readable c =
-    let k = c.in-Some.ensures.steps in
-    let v = c.loop-i.invariant in
-    let q = slot_is c.args.log.now _ _ _ c.args.committed _ c.requires v.at k.0.1.0 (k.0.1.1 ∙ v.size) in
-    rw (k.1) (lowest_here _ _ _ _ _ q.1 q.0 _ c.if-is_readable.ensures v.from_here)
-
-pub loop-i-preserved : goal.loop-i-preserved
-loop-i-preserved c =
-    let k = c.in-Some.ensures.steps in
-    let v = c.loop-i.invariant in
-    let q = slot_is c.args.log.now _ _ _ c.args.committed _ c.requires v.at k.0.1.0 (k.0.1.1 ∙ v.size) in
-    rw (k.2)
-    record {
-      size = k.0.0 ∙ v.size;
-      at =
-          frame_next (take (frame_size * c.args.committed) c.args.log.now) _ _ _ c.loop-i.i-iterator.count v.at k.0.1.0 (k.0.1.1 ∙ v.size);
-      from_here = lowest_above _ _ _ _ _ q.1 q.0 c.if-is_readable.ensures ∙ v.from_here;
-    }
+pub returns-in_err-i : goal.returns-in_err-i
+returns-in_err-i c =
+    let f =
+    lowest_first _ _ _ _ _
+    (IsFirst-from_position _ _ c.position.result (λ x. Read.readable x c.args.h ≡ true) (λ x. Read.readable x c.args.h ≡ false)
+    c.position.ensures.ran (YieldsList-from_log c.args.log.now c.args.committed c.requires c.chunks_exact.ensures.rest c.chunks_exact.ensures.size)
+    (λ x q e. search rules) (λ x q e. search rules)) in
+    c.from_residual.ensures ∙ found_none _ (rw c.in_err-i.was at f)
 
 pub returns : goal.returns
 returns c =
-    let v = c.loop-i.invariant in
-    lowest_none _ _ _ _ _
-    (slots_done c.args.log.now _ _ _ c.requires v.at (omega (arith, c.in-None.ensures.steps.0.1.0, v.size)))
-    v.from_here
+    let f =
+    lowest_first _ _ _ _ _
+    (IsFirst-from_position _ _ c.position.result (λ x. Read.readable x c.args.h ≡ true) (λ x. Read.readable x c.args.h ≡ false)
+    c.position.ensures.ran (YieldsList-from_log c.args.log.now c.args.committed c.requires c.chunks_exact.ensures.rest c.chunks_exact.ensures.size)
+    (λ x q e. search rules) (λ x q e. search rules)) in
+    let i = rw c.in_ok-i.was at f in
+    let e : Read.lowest c.args.log.now c.args.h 0 c.args.committed ≡ c.in_ok-i.i + 1 = omega (arith, i.1) in
+    rw e (found_some _ (λ z. omega arith))
