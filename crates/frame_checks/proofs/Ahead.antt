@@ -1,5 +1,5 @@
 -- Checks that are made ahead of their frames' turn. Assumes nothing.
-use Rattle.std.proofs.Common.{◌≡◌, refl, sym, ap, ◌∙◌, Bool, false, true, List, [], ◌∷◌, ℕ, zero, suc, ◌+◌, ◌-◌, ◌<◌, ◌≤◌, length, get_or, map, take, drop, arith}
+use Rattle.std.proofs.Common.{◌≡◌, refl, sym, ap, ◌∙◌, Bool, false, List, [], ◌∷◌, ℕ, zero, suc, ◌-◌, ◌<◌, ◌≤◌, length, get_or, map, take, drop, arith}
 use borrow.Author.Tests.{lt-ltb, le-ltb}
 use Rattle.std.specs.Simd.{first_chunks}
 use Rattle.std.specs.Borrow.{Bor}
@@ -39,13 +39,18 @@ known_four xs (suc (suc zero)) h l = there xs 2 l
 known_four xs (suc (suc (suc zero))) h l = there xs 3 l
 known_four xs (suc (suc (suc (suc k)))) h l = absurd (omega arith)
 
--- behind the first frame's turn
-pub known_next : (n : ℕ) (a : List Bool) (x : List ℕ) (xs : List (List ℕ)) → n ≤ 4 → Known n a (x ∷ xs)
-    → Known (n - 1) (get_or a 1 false ∷ get_or a 2 false ∷ get_or a 3 false ∷ false ∷ []) xs
-known_next n a x xs e h zero l m = h 1 (omega arith) (omega arith)
-known_next n a x xs e h (suc zero) l m = h 2 (omega arith) (omega arith)
-known_next n a x xs e h (suc (suc zero)) l m = h 3 (omega arith) (omega arith)
-known_next n a x xs e h (suc (suc (suc k))) l m = absurd (omega arith)
+-- the frame x has its turn: its check is known, and the others' are known as before
+module _ (n : ℕ) (a : List Bool) (fs : List (List ℕ)) (x : List ℕ) (xs : List (List ℕ)) (right : Known n a fs) (e : fs ≡ x ∷ xs) where
+  pub turn : 0 < n → map with_check fs ≡ (x, get_or a 0 false) ∷ map with_check xs
+  turn some =
+      let q : get_or a 0 false ≡ checked sha256 x = rw e at (right 0 some (rw e (omega arith))) in
+      rw (e, q)
+
+  pub known_next : n ≤ 4 → Known (n - 1) (get_or a 1 false ∷ get_or a 2 false ∷ get_or a 3 false ∷ false ∷ []) xs
+  known_next few zero l m = (rw e at right) 1 (omega arith) (omega arith)
+  known_next few (suc zero) l m = (rw e at right) 2 (omega arith) (omega arith)
+  known_next few (suc (suc zero)) l m = (rw e at right) 3 (omega arith) (omega arith)
+  known_next few (suc (suc (suc k))) l m = absurd (omega arith)
 
 -- frame k of x, as the code reads it
 abbrev pub frame_at : List (Bor (List ℕ)) → ℕ → List ℕ
@@ -61,18 +66,6 @@ four_checks (a ∷ []) l e0 e1 e2 e3 = absurd (omega arith)
 four_checks (a ∷ b ∷ []) l e0 e1 e2 e3 = absurd (omega arith)
 four_checks (a ∷ b ∷ c ∷ []) l e0 e1 e2 e3 = absurd (omega arith)
 four_checks (a ∷ b ∷ c ∷ d ∷ e ∷ x) l e0 e1 e2 e3 = absurd (omega arith)
-
--- the first frame's check is known
-pub record Ready (n : ℕ) (a : List Bool) (xs : List (List ℕ)) : Type 0 where
-  pub some : 0 < n
-  pub few : n ≤ 4
-  pub right : Known n a xs
-
-pub ready_first : {n : ℕ} {a : List Bool} {xs : List (List ℕ)} (x : List ℕ) (ys : List (List ℕ)) → Ready n a xs → xs ≡ x ∷ ys
-    → map with_check xs ≡ (x, get_or a 0 false) ∷ map with_check ys
-ready_first {n} {a} {xs} x ys r e =
-    let q : get_or a 0 false ≡ checked sha256 x = rw e at (r.right 0 r.some (rw e (omega arith))) in
-    rw (e, q)
 
 -- for callers: what a frame that is given says of those that were left, and that none is given
 pub given_first : (xs ys : List (List ℕ)) (x : List ℕ) (b : Bool) → map with_check xs ≡ (x, b) ∷ map with_check ys

@@ -2,7 +2,7 @@
 // where three frames or more are left, one by one where one or two are.
 #![tactic(auto)]
 
-ghost use Rattle.std.specs.Prelude.{◌≡◌, ◌≤◌, map};
+ghost use Rattle.std.specs.Prelude.{◌≡◌, ◌<◌, ◌≤◌, map};
 ghost use Rattle.std.specs.Iterator.{YieldsFirstBy, item_count};
 ghost use Rattle.sha256.specs.Fips.{sha256};
 ghost use Rattle.apollo.specs.Frame as Frame;
@@ -72,21 +72,28 @@ impl<'a> Checked<'a> {
             known: 0,
         }
     }
+
+    // The first frame's check is made where it is not known, with those of the three behind it.
+    fn look_ahead(&mut self)
+        ensures { (self.new.frames.now ≡ self.old.frames.now) × (0 < self.new.known) }
+    {
+        if self.known == 0 {
+            self.ahead = check_ahead(self.frames);
+            self.known = 4;
+        }
+    }
 }
 
 impl<'a> Iterator for Checked<'a> {
-    type Item = (&'a [u8], bool);
+    type Item = (&'a [u8; FRAME], bool);
 
     ghost next_gives = { YieldsFirstBy given (λ s. map with_check s.frames.now) };
 
     ghost remaining = { item_count (λ s. map with_check s.frames.now) };
 
-    fn next(&mut self) -> Option<(&'a [u8], bool)> {
+    fn next(&mut self) -> Option<(&'a [u8; FRAME], bool)> {
         let (x, rest) = self.frames.split_first()?;
-        if self.known == 0 {
-            self.ahead = check_ahead(self.frames);
-            self.known = 4;
-        }
+        self.look_ahead();
         let [checked, second, third, fourth] = self.ahead;
         self.ahead = [second, third, fourth, false];
         self.known -= 1;

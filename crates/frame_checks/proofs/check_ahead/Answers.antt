@@ -1,5 +1,5 @@
 -- `frame_checks::check_ahead` meets its contract: by how many frames there are.
-use Rattle.std.proofs.Common.{refl, arith, ◌∙◌, sym}
+use Rattle.std.proofs.Common.{arith, ◌∙◌, sym}
 use Rattle.frame_checks.proofs.Ahead.{there, missing, four}
 use Rattle.frame_checks.proofs.check_ahead.Goals as goal
 
