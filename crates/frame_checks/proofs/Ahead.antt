@@ -1,5 +1,5 @@
 -- Checks that are made ahead of their frames' turn. Assumes nothing.
-use Rattle.std.proofs.Common.{◌≡◌, refl, sym, ap, ◌∙◌, Bool, false, List, [], ◌∷◌, ℕ, zero, suc, ◌-◌, ◌<◌, ◌≤◌, length, get_or, map, take, drop, arith}
+use Rattle.std.proofs.Common.{◌≡◌, refl, sym, ap, ◌∙◌, Bool, false, List, [], ◌∷◌, ℕ, zero, suc, ◌<◌, ◌≤◌, length, get_or, map, take, drop, arith}
 use borrow.Author.Tests.{lt-ltb, le-ltb}
 use Rattle.std.specs.Simd.{first_chunks}
 use Rattle.std.specs.Borrow.{Bor}
@@ -31,26 +31,26 @@ unfolding checks_of
 four xs e0 e1 e2 e3 = rw (e0, e1, e2, e3)
 
 -- are known of as many as are there
-pub known_four : (xs : List (List ℕ)) → Known 4 (checks_of xs) xs
+pub known_four : (a : List Bool) (xs : List (List ℕ)) → a ≡ checks_of xs → Known a xs
 unfolding checks_of
-known_four xs zero h l = there xs 0 l
-known_four xs (suc zero) h l = there xs 1 l
-known_four xs (suc (suc zero)) h l = there xs 2 l
-known_four xs (suc (suc (suc zero))) h l = there xs 3 l
-known_four xs (suc (suc (suc (suc k)))) h l = absurd (omega arith)
+known_four a xs e k h l = rw e (at k (rw e at h) l)
+  where
+    at : (k : ℕ) → k < 4 → k < length xs → get_or (checks_of xs) k false ≡ checked sha256 (get_or xs k [])
+    at zero h l = there xs 0 l
+    at (suc zero) h l = there xs 1 l
+    at (suc (suc zero)) h l = there xs 2 l
+    at (suc (suc (suc zero))) h l = there xs 3 l
+    at (suc (suc (suc (suc k)))) h l = absurd (omega arith)
 
--- the frame x has its turn: its check is known, and the others' are known as before
-module _ (n : ℕ) (a : List Bool) (fs : List (List ℕ)) (x : List ℕ) (xs : List (List ℕ)) (right : Known n a fs) (e : fs ≡ x ∷ xs) where
-  pub turn : 0 < n → map with_check fs ≡ (x, get_or a 0 false) ∷ map with_check xs
-  turn some =
-      let q : get_or a 0 false ≡ checked sha256 x = rw e at (right 0 some (rw e (omega arith))) in
+-- the frame x has its turn: b is its check, and the others' are known as before
+module _ (a : List Bool) (fs : List (List ℕ)) (b : Bool) (bs : List Bool) (x : List ℕ) (xs : List (List ℕ)) (right : Known a fs) (d : a ≡ b ∷ bs) (e : fs ≡ x ∷ xs) where
+  pub turn : map with_check fs ≡ (x, b) ∷ map with_check xs
+  turn =
+      let q : b ≡ checked sha256 x = (rw (d, e) at right) 0 (omega arith) (omega arith) in
       rw (e, q)
 
-  pub known_next : n ≤ 4 → Known (n - 1) (get_or a 1 false ∷ get_or a 2 false ∷ get_or a 3 false ∷ false ∷ []) xs
-  known_next few zero l m = (rw e at right) 1 (omega arith) (omega arith)
-  known_next few (suc zero) l m = (rw e at right) 2 (omega arith) (omega arith)
-  known_next few (suc (suc zero)) l m = (rw e at right) 3 (omega arith) (omega arith)
-  known_next few (suc (suc (suc k))) l m = absurd (omega arith)
+  pub known_next : Known bs xs
+  known_next k l m = (rw (d, e) at right) (suc k) (omega arith) (omega arith)
 
 -- frame k of x, as the code reads it
 abbrev pub frame_at : List (Bor (List ℕ)) → ℕ → List ℕ

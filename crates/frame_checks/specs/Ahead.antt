@@ -12,9 +12,9 @@ checked_at xs k = ltb k (length xs) && checked sha256 (get_or xs k [])
 unfoldable pub checks_of : (xs : List (List ℕ)) → List Bool
 checks_of xs = checked_at xs 0 ∷ checked_at xs 1 ∷ checked_at xs 2 ∷ checked_at xs 3 ∷ []
 
--- the first n of the flags are the checks of the first frames, of those that are there
-abbrev pub Known : (n : ℕ) (ahead : List Bool) (xs : List (List ℕ)) → Type 0
-Known n ahead xs = (k : ℕ) → k < n → k < length xs → get_or ahead k false ≡ checked sha256 (get_or xs k [])
+-- the flags are the checks of the first frames, of those that are there
+abbrev pub Known : (ahead : List Bool) (xs : List (List ℕ)) → Type 0
+Known ahead xs = (k : ℕ) → k < length ahead → k < length xs → get_or ahead k false ≡ checked sha256 (get_or xs k [])
 
 -- a frame and whether its check is right; the same as it is given
 abbrev pub with_check : (x : List ℕ) → List ℕ × Bool

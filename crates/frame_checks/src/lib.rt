@@ -2,7 +2,8 @@
 // where three frames or more are left, one by one where one or two are.
 #![tactic(auto)]
 
-ghost use Rattle.std.specs.Prelude.{◌≡◌, ◌<◌, ◌≤◌, map};
+ghost use Rattle.std.specs.Prelude.{◌≡◌, ◌<◌, length, map};
+ghost use Rattle.std.specs.Array.Iter.{array_into_iter_items};
 ghost use Rattle.std.specs.Iterator.{YieldsFirstBy, item_count};
 ghost use Rattle.sha256.specs.Fips.{sha256};
 ghost use Rattle.apollo.specs.Frame as Frame;
@@ -10,6 +11,7 @@ ghost use Rattle.apollo.specs.Frame.{frames_of};
 ghost use Rattle.frame_checks.specs.Ahead.{checks_of, Known, with_check, given};
 
 use apollo::size::{CHECK, FRAME};
+use std::array::IntoIter;
 
 // Whether the checks of four frames are right.
 fn check_four(x: [&[u8; FRAME]; 4]) -> [bool; 4]
@@ -51,35 +53,32 @@ fn check_ahead(frames: &[[u8; FRAME]]) -> [bool; 4]
     }
 }
 
-// The frames that are left, and the checks of the first of them, as many as are known.
+// The frames that are left, and the checks of the first of them that are made.
 #[derive(Drop)]
 pub struct Checked<'a> {
     frames: &'a [[u8; FRAME]],
-    ahead: [bool; 4],
-    known: usize,
-    ghost few: { known ≤ 4 },
-    ghost right: { Known known ahead frames.now },
+    ahead: IntoIter<bool, 4>,
+    ghost right: { Known (array_into_iter_items ahead) frames.now },
 }
 
 impl<'a> Checked<'a> {
     // All whole frames.
-    pub fn new(frames: &'a [u8]) -> Self
-        ensures { result.frames.now ≡ frames_of frames.now }
+    pub fn new(bytes: &'a [u8]) -> Self
+        ensures { result.frames.now ≡ frames_of bytes.now }
     {
+        let frames = bytes.as_chunks::<FRAME>().0;
         Checked {
-            frames: frames.as_chunks::<FRAME>().0,
-            ahead: [false; 4],
-            known: 0,
+            frames,
+            ahead: check_ahead(frames).into_iter(),
         }
     }
 
-    // The first frame's check is made where it is not known, with those of the three behind it.
+    // The check of the first frame is made where it is not yet, with those of the three behind it.
     fn look_ahead(&mut self)
-        ensures { (self.new.frames.now ≡ self.old.frames.now) × (0 < self.new.known) }
+        ensures { (self.new.frames.now ≡ self.old.frames.now) × (0 < length (array_into_iter_items self.new.ahead)) }
     {
-        if self.known == 0 {
-            self.ahead = check_ahead(self.frames);
-            self.known = 4;
+        if self.ahead.len() == 0 {
+            self.ahead = check_ahead(self.frames).into_iter();
         }
     }
 }
@@ -94,9 +93,7 @@ impl<'a> Iterator for Checked<'a> {
     fn next(&mut self) -> Option<(&'a [u8; FRAME], bool)> {
         let (x, rest) = self.frames.split_first()?;
         self.look_ahead();
-        let [checked, second, third, fourth] = self.ahead;
-        self.ahead = [second, third, fourth, false];
-        self.known -= 1;
+        let checked = self.ahead.next().unwrap();
         self.frames = rest;
         Some((x, checked))
     }

@@ -1,12 +1,12 @@
 -- Frames judged one by one. Assumes nothing.
-use Rattle.std.proofs.Common.{◌≡◌, refl, ap, ◌∙◌, Bool, true, false, List, [], ◌∷◌, ℕ, zero, suc, ◌+◌, ◌/◌, length, drop, Result, Ok, Err}
-use Rattle.std.proofs.Math.Option.{Option, none, some}
+use Rattle.std.proofs.Common.{◌≡◌, refl, ap, Bool, List, [], ◌∷◌, ℕ, zero, suc, ◌+◌, ◌/◌, length, drop, Result, Ok, Err}
+use Rattle.std.proofs.Math.Option.{Option, some}
 use Rattle.apollo.specs.Size.{frame_size}
 use Rattle.apollo.specs.Frame.{frames, frames_of}
 use borrow.Author.Tests.{eq-eqb, ne_eqb}
 use Rattle.sha256.specs.Fips.{sha256}
 use Rattle.apollo.specs.declared.Setup.{Setup}
-use Rattle.apollo.specs.Judging.{Verdict, verdict, no_refusal, fault, judged_each}
+use Rattle.apollo.specs.Judging.{verdict, no_refusal, fault, judged_each}
 use Rattle.apollo.specs.BlockRun.{judged_next, judged_run}
 use Rattle.apollo.specs.declared.refusal.Refusal.{Refusal}
 use Rattle.apollo.specs.Refused.{number, refusal_of}

@@ -1,5 +1,5 @@
 -- `judging::judge_by` meets its contract. By a law for each way that a frame's judging goes.
-use Rattle.std.proofs.Common.{◌∙◌, ◌≡◌, ◌<◌, ◌^◌, sym, ap, arith, rules, length}
+use Rattle.std.proofs.Common.{◌∙◌, ◌<◌, ◌^◌, sym, ap, arith, rules, length}
 use Rattle.frame_checks.proofs.Ahead.{given_first, given_none}
 use Rattle.judging.specs.Walk.{parent_of, judged_by}
 use Rattle.judging.proofs.Walk.{stop, more, done, frames_count}

@@ -1,5 +1,5 @@
 -- `judging::judge_each` meets its contract: the frame before a frame doesn't count.
-use Rattle.std.proofs.Common.{rules, ◌∙◌, List, ℕ}
+use Rattle.std.proofs.Common.{rules, ◌∙◌}
 use Rattle.sha256.specs.Fips.{sha256}
 use Rattle.apollo.specs.Judging.{fault}
 use Rattle.frame_forms.specs.Forms.{form_of}
