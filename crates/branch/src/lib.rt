@@ -10,7 +10,6 @@ ghost use Rattle.branch.specs.Judge.{judged_of};
 
 use apollo::size::FRAME;
 use apollo::{Refusal, Refused, Replica};
-use judging::Start;
 
 // The last round of the branch is below R.
 fn is_stale(round: u32, frames: &[u8]) -> bool
@@ -53,7 +52,7 @@ fn judge_whole(r: Replica, log: &[u8], masks: &[u16], frames: &[u8]) -> Result<u
     requires { length frames.now ≤ frame_size * r.last_round.0 }
     ensures { judged_of result ≡ Judge.judged_whole r log.now masks.now frames.now }
 {
-    judging::judge_run(r.into(), Start::AnyParent, frames)?;
+    judging::judge_run(r.into(), None, frames)?;
     if is_stale(r.round.0, frames) {
         return Err(Refusal::Stale.into());
     }

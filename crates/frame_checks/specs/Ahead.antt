@@ -1,18 +1,24 @@
 -- Checks that are made ahead of their frames' turn, four at a time.
-use Rattle.std.specs.Prelude.{◌≡◌, List, [], ◌∷◌, Bool, ◌&&◌, ℕ, ◌+◌, ◌-◌, ◌*◌, ◌%◌, length, leb}
+use Rattle.std.specs.Prelude.{◌≡◌, List, [], ◌∷◌, Bool, false, ◌&&◌, ℕ, ◌<◌, length, get_or, ltb}
+use Rattle.std.specs.Borrow.{Bor}
 use Rattle.sha256.specs.Fips.{sha256}
-use Rattle.apollo.specs.Size.{frame_size}
-use Rattle.apollo.specs.Bytes.{part}
 use Rattle.apollo.specs.Frame.{checked}
 
--- frame i of the bytes b is there, and its check is right
-unfoldable pub checked_at : (b : List ℕ) (i : ℕ) → Bool
-checked_at b i = leb (frame_size * i + frame_size) (length b) && checked sha256 (part b (frame_size * i) frame_size)
+-- frame k of the frames xs is there, and its check is right
+unfoldable pub checked_at : (xs : List (List ℕ)) (k : ℕ) → Bool
+checked_at xs k = ltb k (length xs) && checked sha256 (get_or xs k [])
 
--- the same of frame i and the three behind it
-unfoldable pub checks_from : (b : List ℕ) (i : ℕ) → List Bool
-checks_from b i = checked_at b i ∷ checked_at b (i + 1) ∷ checked_at b (i + 2) ∷ checked_at b (i + 3) ∷ []
+-- the same of the first four
+unfoldable pub checks_of : (xs : List (List ℕ)) → List Bool
+checks_of xs = checked_at xs 0 ∷ checked_at xs 1 ∷ checked_at xs 2 ∷ checked_at xs 3 ∷ []
 
--- the checks of frame i's group are known, unless it begins one
-pub record Held (b : List ℕ) (i : ℕ) (known : List Bool) : Type 0 where
-  pub group : (i % 4 ≡ 0 → ⊥) → known ≡ checks_from b (i - i % 4)
+-- the flags are the checks of the first frames, of those that are there
+abbrev pub Known : (ahead : List Bool) (xs : List (List ℕ)) → Type 0
+Known ahead xs = (k : ℕ) → k < length ahead → k < length xs → get_or ahead k false ≡ checked sha256 (get_or xs k [])
+
+-- a frame and whether its check is right; the same as it is given
+abbrev pub with_check : (x : List ℕ) → List ℕ × Bool
+with_check x = (x, checked sha256 x)
+
+abbrev pub given : Bor (List ℕ) × Bool → List ℕ × Bool
+given p = (p.0.now, p.1)

@@ -1,73 +1,100 @@
-// The checks of frames, made ahead of their turn: in four lanes where three frames or more are left, one by one where one or two are.
+// The frames of some bytes, lowest first, each with whether its check is right. Checks are made ahead of their frames' turn, in four lanes
+// where three frames or more are left, one by one where one or two are.
 #![tactic(auto)]
 
-ghost use Rattle.std.specs.Prelude.{◌≡◌, [], ◌∷◌, ◌+◌, ◌-◌, ◌*◌, ◌%◌, ◌≤◌, length};
+ghost use Rattle.std.specs.Prelude.{◌≡◌, ◌<◌, length, map};
+ghost use Rattle.std.specs.Array.Iter.{array_into_iter_items};
+ghost use Rattle.std.specs.Iterator.{YieldsFirstBy, item_count};
 ghost use Rattle.sha256.specs.Fips.{sha256};
-ghost use Rattle.apollo.specs.Size.{frame_size};
 ghost use Rattle.apollo.specs.Frame as Frame;
-ghost use Rattle.frame_checks.specs.Ahead.{checked_at, checks_from, Held};
+ghost use Rattle.apollo.specs.Frame.{frames_of};
+ghost use Rattle.frame_checks.specs.Ahead.{checks_of, Known, with_check, given};
 
-use apollo::size::FRAME;
-
-// Frame i is there, and its check is right.
-fn checked_at(frames: &[u8], i: usize) -> bool
-    requires { frame_size * i ≤ length frames.now }
-    ensures { result ≡ checked_at frames.now i }
-{
-    let a = FRAME * i;
-    if frames.len() - a < FRAME {
-        return false;
-    }
-    let e = a + FRAME;
-    frame_forms::checked(&frames[a..e])
-}
+use apollo::size::{CHECK, FRAME};
+use std::array::IntoIter;
 
 // Whether the checks of four frames are right.
-fn check_four(x0: &[u8], x1: &[u8], x2: &[u8], x3: &[u8]) -> [bool; 4]
-    requires { (length x0.now ≡ frame_size) × (length x1.now ≡ frame_size)
-        × (length x2.now ≡ frame_size) × (length x3.now ≡ frame_size) }
-    ensures { result ≡ Frame.checked sha256 x0.now ∷ Frame.checked sha256 x1.now
-        ∷ Frame.checked sha256 x2.now ∷ Frame.checked sha256 x3.now ∷ [] }
+fn check_four(x: [&[u8; FRAME]; 4]) -> [bool; 4]
+    ensures { result ≡ map (λ x. Frame.checked sha256 x.now) x.entry }
 {
-    let d = lanes::digest4([&x0[..480], &x1[..480], &x2[..480], &x3[..480]]).0;
+    let d = lanes::digest4([
+        &x[0][..CHECK],
+        &x[1][..CHECK],
+        &x[2][..CHECK],
+        &x[3][..CHECK],
+    ])
+    .0;
     [
-        frame_forms::has_check(x0, d[0]),
-        frame_forms::has_check(x1, d[1]),
-        frame_forms::has_check(x2, d[2]),
-        frame_forms::has_check(x3, d[3]),
+        frame_forms::has_check(x[0], d[0]),
+        frame_forms::has_check(x[1], d[1]),
+        frame_forms::has_check(x[2], d[2]),
+        frame_forms::has_check(x[3], d[3]),
     ]
 }
 
-// Frame i and the three behind it: whether each is there and its check is right. Of three frames the first stands in the fourth lane too.
-fn check_ahead(frames: &[u8], i: usize) -> [bool; 4]
-    requires { frame_size * i + frame_size ≤ length frames.now }
-    ensures { result ≡ checks_from frames.now i }
+// The first four frames: whether each is there and its check is right. Of three frames the first stands in the fourth lane too.
+fn check_ahead(frames: &[[u8; FRAME]]) -> [bool; 4]
+    ensures { result ≡ checks_of frames.now }
 {
-    let n = frames.len() / FRAME - i;
-    if n < 3 {
-        let first = checked_at(frames, i);
-        let second = checked_at(frames, i + 1);
-        return [first, second, false, false];
+    match frames {
+        [] => [false; 4],
+        [a] => [frame_forms::checked(a), false, false, false],
+        [a, b] => [
+            frame_forms::checked(a),
+            frame_forms::checked(b),
+            false,
+            false,
+        ],
+        [a, b, c] => {
+            let [first, second, third, _] = check_four([a, b, c, a]);
+            [first, second, third, false]
+        }
+        [a, b, c, d, ..] => check_four([a, b, c, d]),
     }
-    let a = FRAME * i;
-    let b = a + FRAME;
-    let c = b + FRAME;
-    let d = c + FRAME;
-    if n == 3 {
-        let r = check_four(&frames[a..b], &frames[b..c], &frames[c..d], &frames[a..b]);
-        return [r[0], r[1], r[2], false];
-    }
-    let e = d + FRAME;
-    check_four(&frames[a..b], &frames[b..c], &frames[c..d], &frames[d..e])
 }
 
-// The checks of the group of four that frame i is in: made where it begins one, else those that are known.
-pub fn renew(known: [bool; 4], frames: &[u8], i: usize) -> [bool; 4]
-    requires { (frame_size * i + frame_size ≤ length frames.now) × Held frames.now i known }
-    ensures { result ≡ checks_from frames.now (i - i % 4) }
-{
-    if i % 4 == 0 {
-        return check_ahead(frames, i);
+// The frames that are left, and the checks of the first of them that are made.
+#[derive(Drop)]
+pub struct Checked<'a> {
+    frames: &'a [[u8; FRAME]],
+    ahead: IntoIter<bool, 4>,
+    ghost right: { Known (array_into_iter_items ahead) frames.now },
+}
+
+impl<'a> Checked<'a> {
+    // All whole frames.
+    pub fn new(bytes: &'a [u8]) -> Self
+        ensures { result.frames.now ≡ frames_of bytes.now }
+    {
+        let frames = bytes.as_chunks::<FRAME>().0;
+        Checked {
+            frames,
+            ahead: check_ahead(frames).into_iter(),
+        }
     }
-    known
+
+    // The check of the first frame is made where it is not yet, with those of the three behind it.
+    fn look_ahead(&mut self)
+        ensures { (self.new.frames.now ≡ self.old.frames.now) × (0 < length (array_into_iter_items self.new.ahead)) }
+    {
+        if self.ahead.len() == 0 {
+            self.ahead = check_ahead(self.frames).into_iter();
+        }
+    }
+}
+
+impl<'a> Iterator for Checked<'a> {
+    type Item = (&'a [u8; FRAME], bool);
+
+    ghost next_gives = { YieldsFirstBy given (λ s. map with_check s.frames.now) };
+
+    ghost remaining = { item_count (λ s. map with_check s.frames.now) };
+
+    fn next(&mut self) -> Option<(&'a [u8; FRAME], bool)> {
+        let (x, rest) = self.frames.split_first()?;
+        self.look_ahead();
+        let checked = self.ahead.next().unwrap();
+        self.frames = rest;
+        Some((x, checked))
+    }
 }

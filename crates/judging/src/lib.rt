@@ -12,16 +12,32 @@ ghost use Rattle.apollo.specs.BlockRun as BlockRun;
 ghost use Rattle.apollo.specs.BlockRun.{judged_next, judged_run};
 ghost use Rattle.apollo.specs.Refused.{refusal_of, verdict_of};
 ghost use Rattle.frame_forms.specs.Forms.{form_of};
-ghost use Rattle.judging.specs.Starts.{start_of, parent_of};
+ghost use Rattle.judging.specs.Walk.{parent_of, judged_by, Tells};
 
-use apollo::size::FRAME;
 use apollo::{Kind, Refusal, Refused, Setup};
+use frame_checks::Checked;
 
-// What the first frame of a run must follow.
-#[derive(Clone, Copy, Debug, PartialEq, Eq)]
-pub enum Start {
-    AnyParent,
-    Genesis,
+// The frames judged one by one, each by itself, its check and the frame before it; the first is behind that frame, if any. A place is a
+// u32, as in C, which is why frames are to be so few.
+fn judge_by<F: Fn(Option<&[u8]>, &[u8], bool) -> Result<(), Refusal>>(
+    parent: Option<&[u8]>,
+    frames: &[u8],
+    judge: F,
+) -> Result<(), Refused>
+    requires places { length frames.now ≤ frame_size * 4294967295 }
+    requires judges { (p : _) (x : _) → F.pre judge p x (Frame.checked sha256 x.now) }
+    ensures { (number : _) → Tells F.post judge number
+        → verdict_of result ≡ judged_by number 0 (parent_of parent.entry) (frames_of frames.now) }
+{
+    let mut p = parent;
+    for (i, (x, checked)) in Checked::new(frames).enumerate() {
+        if let Err(refusal) = judge(p, x, checked) {
+            let place = i as u32;
+            return Err(Refused { refusal, place });
+        }
+        p = Some(x);
+    }
+    Ok(())
 }
 
 // 7 and 8 of the frames, each of which is to have the form of that kind.
@@ -29,15 +45,9 @@ pub fn judge_each(kind: Kind, s: Setup, frames: &[u8]) -> Result<(), Refused>
     requires { length frames.now ≤ frame_size * 4294967295 }
     ensures { verdict_of result ≡ judged_each sha256 (form_of kind s) 0 (frames_of frames.now) }
 {
-    let mut known = [false; 4];
-    for (i, x) in frames.chunks_exact(FRAME).enumerate() {
-        known = frame_checks::renew(known, frames, i);
-        if let Err(refusal) = frame_forms::fault_known(kind, s, x, known[i % 4]) {
-            let place = i as u32;
-            return Err(Refused { refusal, place });
-        }
-    }
-    Ok(())
+    judge_by(None, frames, |_, x, checked| {
+        frame_forms::fault_known(kind, s, x, checked)
+    })
 }
 
 // Frame x is the child of frame p.
@@ -64,35 +74,10 @@ fn judge_next(s: Setup, p: Option<&[u8]>, x: &[u8], checked: bool) -> Result<(),
     }
 }
 
-// 7, 8 and 9 of the frames, each behind the one before it, the first behind p.
-fn judge_behind(s: Setup, p: Option<&[u8]>, frames: &[u8]) -> Result<(), Refused>
+// 7, 8 and 9 of the frames, each behind the one before it, the first behind that parent, or with any.
+pub fn judge_run(s: Setup, parent: Option<&[u8]>, frames: &[u8]) -> Result<(), Refused>
     requires { length frames.now ≤ frame_size * 4294967295 }
-    ensures { verdict_of result ≡ judged_run sha256 s 0 (parent_of p.entry) (frames_of frames.now) }
+    ensures { verdict_of result ≡ judged_run sha256 s 0 (parent_of parent.entry) (frames_of frames.now) }
 {
-    let mut known = [false; 4];
-    let mut parent = p;
-    for (i, x) in frames.chunks_exact(FRAME).enumerate() {
-        known = frame_checks::renew(known, frames, i);
-        if let Err(refusal) = judge_next(s, parent, x, known[i % 4]) {
-            let place = i as u32;
-            return Err(Refused { refusal, place });
-        }
-        parent = Some(x);
-    }
-    Ok(())
-}
-
-// 7, 8 and 9 of the frames, each behind the one before it.
-#[tactic(auto, unfolding(apollo::specs::Log::genesis, apollo::specs::Bytes::zeros))]
-pub fn judge_run(s: Setup, start: Start, frames: &[u8]) -> Result<(), Refused>
-    requires { length frames.now ≤ frame_size * 4294967295 }
-    ensures { verdict_of result ≡ judged_run sha256 s 0 (start_of start) (frames_of frames.now) }
-{
-    match start {
-        Start::AnyParent => judge_behind(s, None, frames),
-        Start::Genesis => {
-            let genesis = [0u8; FRAME];
-            judge_behind(s, Some(&genesis), frames)
-        }
-    }
+    judge_by(parent, frames, |p, x, checked| judge_next(s, p, x, checked))
 }
