@@ -11,15 +11,18 @@ use mixed_lines::input::Bytes;
 use std::io::Input;
 use std::process::ExitCode;
 use table::Table;
-use text::Stop;
+use text::{Reader, Stop};
 
 // Carries out the lines of the input.
 fn run(rt: &(impl Input + AllocGlobal + Print + Eprint)) -> Result<(), Stop> {
     let mut table = Table::blank(rt.alloc())?;
     let mut bytes = Bytes::default();
-    text::run(rt, |line| {
-        Some(table.obey(rt, input::parse(line, &mut bytes)?))
-    })
+    let mut reader = Reader::new(rt.reader());
+    text::run(
+        rt,
+        &mut reader,
+        &mut |line| { Some(table.obey(rt, input::parse(line, &mut bytes)?)) },
+    )
 }
 
 fn main(rt: HostRuntime) -> ExitCode {

@@ -5,18 +5,22 @@
 
 mod bench;
 mod command;
-mod sent;
 
 use bench::Bench;
 use command::Command;
 use std::io::Input;
 use std::process::ExitCode;
-use text::Stop;
+use text::{Reader, Stop};
 
 // Carries out the lines of the input.
 fn run(rt: &(impl Input + AllocGlobal + Print + Eprint)) -> Result<(), Stop> {
     let mut bench = Bench::open(rt.alloc())?;
-    text::run(rt, |line| Some(bench.obey(rt, Command::parse(line)?)))
+    let mut reader = Reader::new(rt.reader());
+    text::run(
+        rt,
+        &mut reader,
+        &mut |line| { Some(bench.obey(rt, Command::parse(line)?)) },
+    )
 }
 
 fn main(rt: HostRuntime) -> ExitCode {
