@@ -15,7 +15,7 @@ use text::{Reader, Stop};
 
 // Carries out the lines of the input.
 fn run(rt: &(impl Input + AllocGlobal + Print + Eprint)) -> Result<(), Stop> {
-    let mut table = Table::blank(rt.alloc())?;
+    let mut table = Table::blank();
     let mut bytes = Bytes::default();
     let mut reader = Reader::new(rt.reader());
     text::run(

@@ -2,19 +2,18 @@
 use apollo::{Answer, Height, Replica};
 use mixed_lines::input::{Call, Change, Place, Seat, Size, Sizes, Task};
 use mixed_lines::print;
-use std::alloc::{AllocError, Global};
+use std::array;
 use text::Stop;
 
 // A replica, with its log of 9 slots and its masks. That of rehearse lends its whole log and masks to calls of its own record alone.
 #[derive(Drop)]
 struct Card {
     record: Replica,
-    log: Box<[u8; 4608]>,
+    log: [u8; 4608],
     masks: [u16; 9],
 }
 
 // What a call is lent: parts of a replica's log and masks, and of the out buffer.
-#[derive(Drop)]
 struct Lent<'a> {
     log: &'a mut [u8],
     masks: &'a mut [u16],
@@ -51,24 +50,17 @@ fn blank() -> [u8; 6144] {
 }
 
 impl Card {
-    // A record, a log and masks of zeros.
-    fn blank(alloc: Global) -> Result<Self, AllocError> {
-        Ok(Card {
-            record: record::zero_replica(),
-            log: Box::new(alloc, [0; 4608])?,
+    // A replica of a record, with a log and masks of zeros.
+    fn of(record: Replica) -> Self {
+        Card {
+            record,
+            log: [0; 4608],
             masks: [0; 9],
-        })
-    }
-
-    // Another record, and a log and masks of zeros.
-    fn begin(&mut self, record: Replica) {
-        self.record = record;
-        *self.log = [0; 4608];
-        self.masks = [0; 9];
+        }
     }
 
     fn store(&mut self, place: Place, slot: &[u8; 512]) {
-        slots::store(&mut *self.log, place.index as u32 + 1, slot);
+        slots::store(&mut self.log, place.index as u32 + 1, slot);
     }
 
     // The record of an answer is kept, if it takes the call.
@@ -87,9 +79,10 @@ impl Card {
         change: Change<'_>,
     ) -> Result<(), Stop> {
         let mut out = blank();
+        let log = &mut self.log[..];
         let masks = &mut self.masks[..];
         let lent = Lent {
-            log: &mut self.log[..sizes.log.n],
+            log: &mut log[..sizes.log.n],
             masks: &mut masks[..sizes.masks.n],
             out: &mut out[..sizes.out.n],
         };
@@ -159,25 +152,11 @@ pub struct Table {
 
 impl Table {
     // Records, logs and masks of zeros.
-    pub fn blank(alloc: Global) -> Result<Self, AllocError> {
-        Ok(Table {
-            cards: [
-                Card::blank(alloc)?,
-                Card::blank(alloc)?,
-                Card::blank(alloc)?,
-                Card::blank(alloc)?,
-                Card::blank(alloc)?,
-            ],
+    pub fn blank() -> Self {
+        Table {
+            cards: array::from_fn(|_| Card::of(record::zero_replica())),
             given: None,
-        })
-    }
-
-    // The same again.
-    fn clear(&mut self) {
-        for card in self.cards.iter_mut() {
-            card.begin(record::zero_replica());
         }
-        self.given = None;
     }
 
     fn call(&mut self, rt: &impl Print, seat: Seat, call: Call<'_>) -> Result<(), Stop> {
@@ -189,8 +168,8 @@ impl Table {
     // Carries out the task of a line.
     pub fn obey(&mut self, rt: &impl Print, task: Task<'_>) -> Result<(), Stop> {
         match task {
-            Task::Clear => self.clear(),
-            Task::Begin(seat, record) => self.cards[seat.index].begin(record),
+            Task::Clear => *self = Table::blank(),
+            Task::Begin(seat, record) => self.cards[seat.index] = Card::of(record),
             Task::Store(seat, place, slot) => self.cards[seat.index].store(place, slot),
             Task::Mask(seat, place, mask) => self.cards[seat.index].masks[place.index] = mask,
             Task::Give(record) => self.given = Some(record),

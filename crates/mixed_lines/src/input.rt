@@ -146,7 +146,7 @@ impl<'a> Opening<'a> {
 }
 
 impl<'a> Call<'a> {
-    // The words after the letter and the replica.
+    // The words after the letter and the replica. A letter stands in one place, here or in `parse`, so no type names it.
     fn of(letter: &str, words: &mut Words<'_>, bytes: &'a mut Bytes) -> Option<Self> {
         let Bytes { frames, others } = bytes;
         Some(match letter {

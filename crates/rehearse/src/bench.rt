@@ -15,21 +15,21 @@ use text::{Line, Stop};
 struct Card {
     id: u8,
     record: Replica,
-    log: Vec<u8>,
+    log: [u8; 3072],
     masks: [u16; 6],
     queue: VecDeque<[u8; FRAME]>,
 }
 
 impl Card {
     // A record of zeros: the replica is not opened yet.
-    fn closed(alloc: Global, id: u8) -> Result<Self, AllocError> {
-        Ok(Card {
+    fn closed(alloc: Global, id: u8) -> Self {
+        Card {
             id,
             record: record::zero_replica(),
-            log: vec![in alloc; 0; 3072]?,
+            log: [0; 3072],
             masks: [0; 6],
             queue: VecDeque::new(alloc),
-        })
+        }
     }
 
     fn open(&mut self, out: &mut [u8; OUT]) -> Answer {
@@ -106,11 +106,7 @@ impl Bench {
     // The replicas are opened in their order.
     pub fn open(alloc: Global) -> Result<Self, AllocError> {
         let mut bench = Bench {
-            cards: [
-                Card::closed(alloc, 0)?,
-                Card::closed(alloc, 1)?,
-                Card::closed(alloc, 2)?,
-            ],
+            cards: [0, 1, 2].map(|id| Card::closed(alloc, id)),
         };
         for replica in 0..3 {
             let card = &mut bench.cards[replica];
