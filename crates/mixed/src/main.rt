@@ -13,40 +13,16 @@ use std::process::ExitCode;
 use table::Table;
 use text::{Reader, Stop};
 
-// A line is carried out, or told as none.
-fn obey(
-    rt: &(impl Print + Eprint),
-    table: &mut Table,
-    bytes: &mut Bytes,
-    number: u64,
-    line: &[u8],
-) -> Result<(), Stop> {
-    match input::parse(line, bytes) {
-        Some(task) => table.obey(rt, task),
-        None => {
-            text::no_command(rt, number);
-            Ok(())
-        }
-    }
-}
-
-// Carries out the lines of the input, as `run` of rehearse does: a function of both would need a closure over what each keeps. Nothing says
-// that the input ends, so the lines are counted, up to a number that no run uses up.
+// Carries out the lines of the input.
 fn run(rt: &(impl Input + AllocGlobal + Print + Eprint)) -> Result<(), Stop> {
-    let mut table = Table::blank(rt.alloc())?;
+    let mut table = Table::blank();
     let mut bytes = Bytes::default();
     let mut reader = Reader::new(rt.reader());
-    let mut line = Vec::new(rt.alloc());
-    for number in 1..u64::MAX {
-        let is_line = reader.read_line(rt, &mut line)?;
-        if is_line || !line.is_empty() {
-            obey(rt, &mut table, &mut bytes, number, &line)?;
-        }
-        if !is_line {
-            break;
-        }
-    }
-    Ok(())
+    text::run(
+        rt,
+        &mut reader,
+        &mut |line| { Some(table.obey(rt, input::parse(line, &mut bytes)?)) },
+    )
 }
 
 fn main(rt: HostRuntime) -> ExitCode {

@@ -1,60 +1,47 @@
 // The replicas, and the calls that they get.
 use apollo::{Answer, Height, Replica};
-use mixed_lines::input::{Call, Change, Place, Seat, Sizes, Slot, Task};
+use mixed_lines::input::{Call, Change, Place, Seat, Size, Sizes, Task};
 use mixed_lines::print;
-use std::alloc::{AllocError, Global};
+use std::array;
 use text::Stop;
 
-// A replica, with its log of 9 slots and its masks.
+// A replica, with its log of 9 slots and its masks. That of rehearse lends its whole log and masks to calls of its own record alone.
 #[derive(Drop)]
 struct Card {
     record: Replica,
-    log: Box<[u8; 4608]>,
+    log: [u8; 4608],
     masks: [u16; 9],
 }
 
-// The answer of a call.
-fn answer(
-    change: Change<'_>,
-    r: Replica,
-    log: &mut [u8],
-    masks: &mut [u16],
-    entry: &[u8],
-    out: &mut [u8],
-) -> Answer {
-    match change {
-        Change::Open(o) => call_open::open(
-            o.id,
-            o.f,
-            o.timeout,
-            o.last_round,
-            o.rotation,
-            log,
-            masks,
-            entry,
-            out,
-        ),
-        Change::Branch(frames) => call_branch::branch(r, log, masks, frames, entry, out),
-        Change::Blame(frame) => call_blame::blame(r, log, masks, frame, entry, out),
-        Change::Blames(frames) => call_blame::blames(r, log, masks, frames, entry, out),
-        Change::Tick => call_tick::tick(r, log, masks, entry, out),
-    }
+// What a call is lent: parts of a replica's log and masks, and of the out buffer.
+struct Lent<'a> {
+    log: &'a mut [u8],
+    masks: &'a mut [u16],
+    out: &'a mut [u8],
 }
 
-// The same with the parts that the call is lent.
-fn lend(
-    change: Change<'_>,
-    r: Replica,
-    sizes: Sizes,
-    log: &mut [u8; 4608],
-    masks: &mut [u16; 9],
-    entry: &[u8],
-    out: &mut [u8; 6144],
-) -> Answer {
-    let log = &mut log[..sizes.log];
-    let masks = &mut masks[..sizes.masks];
-    let out = &mut out[..sizes.out];
-    answer(change, r, log, masks, entry, out)
+impl Lent<'_> {
+    // The answer of a call.
+    fn answer(self, change: Change<'_>, r: Replica, entry: &[u8]) -> Answer {
+        let Lent { log, masks, out } = self;
+        match change {
+            Change::Open(o) => call_open::open(
+                o.id,
+                o.f,
+                o.timeout,
+                o.last_round,
+                o.rotation,
+                log,
+                masks,
+                entry,
+                out,
+            ),
+            Change::Branch(frames) => call_branch::branch(r, log, masks, frames, entry, out),
+            Change::Blame(frame) => call_blame::blame(r, log, masks, frame, entry, out),
+            Change::Blames(frames) => call_blame::blames(r, log, masks, frames, entry, out),
+            Change::Tick => call_tick::tick(r, log, masks, entry, out),
+        }
+    }
 }
 
 // What a call finds in its out buffer.
@@ -63,24 +50,17 @@ fn blank() -> [u8; 6144] {
 }
 
 impl Card {
-    // A record, a log and masks of zeros.
-    fn blank(alloc: Global) -> Result<Self, AllocError> {
-        Ok(Card {
-            record: record::zero_replica(),
-            log: Box::new(alloc, [0; 4608])?,
+    // A replica of a record, with a log and masks of zeros.
+    fn of(record: Replica) -> Self {
+        Card {
+            record,
+            log: [0; 4608],
             masks: [0; 9],
-        })
+        }
     }
 
-    // Another record, and a log and masks of zeros.
-    fn begin(&mut self, record: Replica) {
-        self.record = record;
-        *self.log = [0; 4608];
-        self.masks = [0; 9];
-    }
-
-    fn store(&mut self, place: Place, slot: Slot<'_>) {
-        slots::store(&mut *self.log, place.index as u32 + 1, slot.bytes);
+    fn store(&mut self, place: Place, slot: &[u8; 512]) {
+        slots::store(&mut self.log, place.index as u32 + 1, slot);
     }
 
     // The record of an answer is kept, if it takes the call.
@@ -99,21 +79,20 @@ impl Card {
         change: Change<'_>,
     ) -> Result<(), Stop> {
         let mut out = blank();
-        let x = lend(
-            change,
-            r,
-            sizes,
-            &mut *self.log,
-            &mut self.masks,
-            entry,
-            &mut out,
-        );
+        let log = &mut self.log[..];
+        let masks = &mut self.masks[..];
+        let lent = Lent {
+            log: &mut log[..sizes.log.n],
+            masks: &mut masks[..sizes.masks.n],
+            out: &mut out[..sizes.out.n],
+        };
+        let x = lent.answer(change, r, entry);
         print::answer(
             rt,
             x,
-            &self.log[..sizes.log],
-            &self.masks[..sizes.masks],
-            &out[..sizes.out],
+            &self.log[..sizes.log.n],
+            &self.masks[..sizes.masks.n],
+            &out[..sizes.out.n],
         )?;
         self.keep(x.number, x.replica);
         Ok(())
@@ -126,20 +105,29 @@ impl Card {
     }
 
     // Both forms of read, which have to agree.
-    fn read(&self, rt: &impl Print, r: Replica, sizes: Sizes, height: Height) -> Result<(), Stop> {
-        let log = &self.log[..sizes.log];
+    fn read(
+        &self,
+        rt: &impl Print,
+        r: Replica,
+        log: Size<4608>,
+        height: Height,
+    ) -> Result<(), Stop> {
+        let log = &self.log[..log.n];
         let part = call_read::read_part(r, log, height);
-        let (number, size) = match call_read::read(r, log, height) {
-            Ok(entry) => (0, entry.len()),
-            Err(e) => (e.into(), 0),
-        };
-        print::entry(rt, number, part.start, size, log)
+        print::entry(rt, part.start, call_read::read(r, log, height), log)
     }
 
-    fn fetch(&self, rt: &impl Print, r: Replica, sizes: Sizes, height: Height) -> Result<(), Stop> {
-        let log = &self.log[..sizes.log];
-        let mut out = blank();
-        let out = &mut out[..sizes.out];
+    fn fetch(
+        &self,
+        rt: &impl Print,
+        r: Replica,
+        log: Size<4608>,
+        out: Size<6144>,
+        height: Height,
+    ) -> Result<(), Stop> {
+        let log = &self.log[..log.n];
+        let mut buffer = blank();
+        let out = &mut buffer[..out.n];
         let x = call_fetch::fetch(r, log, height, out);
         print::fetched(rt, x, log, out)
     }
@@ -149,8 +137,8 @@ impl Card {
         match call {
             Call::Change(sizes, entry, change) => self.change(rt, r, sizes, entry, change),
             Call::Equivocation(frames) => self.accuse(rt, r, frames),
-            Call::Read(sizes, height) => self.read(rt, r, sizes, height),
-            Call::Fetch(sizes, height) => self.fetch(rt, r, sizes, height),
+            Call::Read(log, height) => self.read(rt, r, log, height),
+            Call::Fetch(log, out, height) => self.fetch(rt, r, log, out, height),
         }
     }
 }
@@ -164,25 +152,11 @@ pub struct Table {
 
 impl Table {
     // Records, logs and masks of zeros.
-    pub fn blank(alloc: Global) -> Result<Self, AllocError> {
-        Ok(Table {
-            cards: [
-                Card::blank(alloc)?,
-                Card::blank(alloc)?,
-                Card::blank(alloc)?,
-                Card::blank(alloc)?,
-                Card::blank(alloc)?,
-            ],
+    pub fn blank() -> Self {
+        Table {
+            cards: array::from_fn(|_| Card::of(record::zero_replica())),
             given: None,
-        })
-    }
-
-    // The same again.
-    fn clear(&mut self) {
-        for card in self.cards.iter_mut() {
-            card.begin(record::zero_replica());
         }
-        self.given = None;
     }
 
     fn call(&mut self, rt: &impl Print, seat: Seat, call: Call<'_>) -> Result<(), Stop> {
@@ -194,8 +168,8 @@ impl Table {
     // Carries out the task of a line.
     pub fn obey(&mut self, rt: &impl Print, task: Task<'_>) -> Result<(), Stop> {
         match task {
-            Task::Clear => self.clear(),
-            Task::Begin(seat, record) => self.cards[seat.index].begin(record),
+            Task::Clear => *self = Table::blank(),
+            Task::Begin(seat, record) => self.cards[seat.index] = Card::of(record),
             Task::Store(seat, place, slot) => self.cards[seat.index].store(place, slot),
             Task::Mask(seat, place, mask) => self.cards[seat.index].masks[place.index] = mask,
             Task::Give(record) => self.given = Some(record),

@@ -1,5 +1,5 @@
 // A line of the input.
-ghost use Rattle.std.specs.Prelude.{◌≡◌, ◌≤◌, ◌<◌, length};
+ghost use Rattle.std.specs.Prelude.{◌≤◌, ◌<◌};
 
 use crate::words::Words;
 use apollo::{Height, Replica, Round, Ticks};
@@ -19,31 +19,28 @@ pub struct Place {
     ghost in_the_log: { index < 9 },
 }
 
-// The bytes for a slot.
+// How much a call is lent of a buffer that has so much.
 #[derive(Clone, Copy)]
-pub struct Slot<'a> {
-    pub bytes: &'a [u8],
-    ghost is_whole: { length bytes.now ≡ 512 },
+pub struct Size<const MOST: usize> {
+    pub n: usize,
+    ghost fits: { n ≤ MOST },
 }
 
 // How many bytes of the log, masks and bytes of the out buffer a call is lent.
 #[derive(Clone, Copy)]
 pub struct Sizes {
-    pub log: usize,
-    pub masks: usize,
-    pub out: usize,
-    ghost log_fits: { log ≤ 4608 },
-    ghost masks_fit: { masks ≤ 9 },
-    ghost out_fits: { out ≤ 6144 },
+    pub log: Size<4608>,
+    pub masks: Size<9>,
+    pub out: Size<6144>,
 }
 
-// A call of a replica.
+// A call of a replica, with what it is lent.
 #[derive(Clone, Copy)]
 pub enum Call<'a> {
     Change(Sizes, &'a [u8], Change<'a>), // with an entry
     Equivocation(&'a [u8]),
-    Read(Sizes, Height),
-    Fetch(Sizes, Height),
+    Read(Size<4608>, Height),
+    Fetch(Size<4608>, Size<6144>, Height),
 }
 
 // A call that may change the log and the masks, with the frames that are handed in.
@@ -71,7 +68,7 @@ pub struct Opening<'a> {
 pub enum Task<'a> {
     Clear, // all records, logs and masks
     Begin(Seat, Replica), // a record, and a log and masks of zeros
-    Store(Seat, Place, Slot<'a>),
+    Store(Seat, Place, &'a [u8; 512]), // the bytes of a slot
     Mask(Seat, Place, u16),
     Give(Replica), // the record that the next call gets
     Digest(&'a [u8]),
@@ -100,36 +97,20 @@ impl Place {
     }
 }
 
-impl<'a> Slot<'a> {
-    fn of(words: &mut Words<'_>, others: &'a mut ArrayVec<u8, 512>) -> Option<Self> {
-        let bytes = words.bytes(others)?;
-        if bytes.len() == 512 {
-            Some(Slot { bytes })
-        } else {
-            None
-        }
+impl<const MOST: usize> Size<MOST> {
+    fn of(words: &mut Words<'_>) -> Option<Self> {
+        let n = words.size(MOST)?;
+        Some(Size { n })
     }
 }
 
 impl Sizes {
     fn of(words: &mut Words<'_>) -> Option<Self> {
-        let log = words.size(4608)?;
-        let masks = words.size(9)?;
-        let out = words.size(6144)?;
-        Some(Sizes { log, masks, out })
-    }
-
-    fn of_read(words: &mut Words<'_>) -> Option<Self> {
-        let log = words.size(4608)?;
-        let (masks, out) = (0, 0);
-        Some(Sizes { log, masks, out })
-    }
-
-    fn of_fetch(words: &mut Words<'_>) -> Option<Self> {
-        let log = words.size(4608)?;
-        let masks = 0;
-        let out = words.size(6144)?;
-        Some(Sizes { log, masks, out })
+        Some(Sizes {
+            log: Size::of(words)?,
+            masks: Size::of(words)?,
+            out: Size::of(words)?,
+        })
     }
 }
 
@@ -165,7 +146,7 @@ impl<'a> Opening<'a> {
 }
 
 impl<'a> Call<'a> {
-    // The words after the letter and the replica.
+    // The words after the letter and the replica. A letter stands in one place, here or in `parse`, so no type names it.
     fn of(letter: &str, words: &mut Words<'_>, bytes: &'a mut Bytes) -> Option<Self> {
         let Bytes { frames, others } = bytes;
         Some(match letter {
@@ -194,8 +175,8 @@ impl<'a> Call<'a> {
             ),
             "t" => Call::Change(Sizes::of(words)?, words.bytes(others)?, Change::Tick),
             "e" => Call::Equivocation(words.bytes(frames)?),
-            "q" => Call::Read(Sizes::of_read(words)?, Height(words.number()?)),
-            "f" => Call::Fetch(Sizes::of_fetch(words)?, Height(words.number()?)),
+            "q" => Call::Read(Size::of(words)?, Height(words.number()?)),
+            "f" => Call::Fetch(Size::of(words)?, Size::of(words)?, Height(words.number()?)),
             _ => return None,
         })
     }
@@ -210,7 +191,7 @@ pub fn parse<'a>(line: &[u8], bytes: &'a mut Bytes) -> Option<Task<'a>> {
         "s" => Task::Store(
             Seat::of(&mut words)?,
             Place::of(&mut words)?,
-            Slot::of(&mut words, &mut bytes.others)?,
+            words.bytes(&mut bytes.others)?.as_array()?,
         ),
         "m" => Task::Mask(
             Seat::of(&mut words)?,

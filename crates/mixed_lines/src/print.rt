@@ -1,8 +1,8 @@
 // The lines of the results.
-use apollo::{Answer, Fetched, Marked, Replica};
+use apollo::{Answer, Fetched, Marked, Refusal, Replica};
 use text::{Line, Stop};
 
-// Puts bytes in hex.
+// Puts bytes in hex, one by one: for all at once, `hex` wants room of just twice their number, which is not known here.
 fn put_hex<const N: usize>(line: &mut Line<N>, bytes: &[u8]) {
     for b in bytes {
         let mut digits = [0; 2];
@@ -91,14 +91,17 @@ pub fn marked(rt: &impl Print, x: Marked) -> Result<(), Stop> {
     line.print(rt)
 }
 
-// Prints the answer of a read and the digest of the lent log.
+// Prints the answer of a read, which has no byte where it is refused, and the digest of the lent log.
 pub fn entry(
     rt: &impl Print,
-    number: u8,
     start: usize,
-    size: usize,
+    entry: Result<&[u8], Refusal>,
     log: &[u8],
 ) -> Result<(), Stop> {
+    let (number, size) = match entry {
+        Ok(bytes) => (0, bytes.len()),
+        Err(e) => (e.into(), 0),
+    };
     row(
         rt,
         &[u64::from(number), start as u64, size as u64],

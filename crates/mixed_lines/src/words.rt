@@ -34,8 +34,7 @@ impl<'a> Words<'a> {
     pub fn size(&mut self, most: usize) -> Option<usize>
         ensures { IfSome result (λ n. n ≤ most) }
     {
-        let n = self.number()?;
-        if most < n { None } else { Some(n) }
+        self.number().filter(|n| *n <= most)
     }
 
     // A word of bytes, which are put into a buffer that they have to fit: `-` for none, else pieces.
@@ -97,6 +96,7 @@ fn byte(pair: &[u8]) -> Option<u8> {
     }
 }
 
+// By hand, since `hex` decodes capital letters too, which no line may have.
 fn hex_digit(b: u8) -> Option<u8>
     ensures { IfSome result (λ d. d < 16) }
 {

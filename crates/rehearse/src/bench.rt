@@ -3,32 +3,33 @@ ghost use Rattle.std.specs.Prelude.{◌≡◌};
 ghost use Rattle.apollo.specs.Rotation.{in_turn};
 
 use crate::command::{Command, Step};
-use crate::sent::{Queue, Sent};
-use apollo::size::OUT;
+use apollo::size::{FRAME, OUT};
 use apollo::{Answer, Replica, Round, Ticks};
 use std::alloc::{AllocError, Global};
+use std::collections::VecDeque;
 use text::{Line, Stop};
 
-// A replica, with its log of 6 slots and its masks.
+// A replica, with its log of 6 slots, its masks and the frames that others sent it, the oldest first. That of mixed has no queue, and
+// lends calls parts of its log and masks.
 #[derive(Drop)]
 struct Card {
     id: u8,
     record: Replica,
-    log: Vec<u8>,
+    log: [u8; 3072],
     masks: [u16; 6],
-    queue: Queue,
+    queue: VecDeque<[u8; FRAME]>,
 }
 
 impl Card {
     // A record of zeros: the replica is not opened yet.
-    fn closed(alloc: Global, id: u8) -> Result<Self, AllocError> {
-        Ok(Card {
+    fn closed(alloc: Global, id: u8) -> Self {
+        Card {
             id,
             record: record::zero_replica(),
-            log: vec![in alloc; 0; 3072]?,
+            log: [0; 3072],
             masks: [0; 6],
-            queue: Queue::new(id),
-        })
+            queue: VecDeque::new(alloc),
+        }
     }
 
     fn open(&mut self, out: &mut [u8; OUT]) -> Answer {
@@ -61,20 +62,14 @@ impl Card {
     }
 
     // The answer to a step; none where there is nothing to hand the replica.
-    fn answer(&mut self, step: Step, sent: &Sent, out: &mut [u8; OUT]) -> Option<Answer> {
+    fn answer(&mut self, step: Step, out: &mut [u8; OUT]) -> Option<Answer> {
         match step {
             Step::Tick => Some(self.tick(out)),
             Step::Deliver => {
-                let x = self.queue.take(sent)?;
-                Some(self.hear(x, out))
+                let x = self.queue.pop_front()?;
+                Some(self.hear(&x, out))
             }
         }
-    }
-
-    // The record of an answer is kept, and the frames put out are sent.
-    fn keep(&mut self, x: Answer, out: &[u8; OUT], sent: &mut Sent) -> Result<(), AllocError> {
-        self.record = x.replica;
-        sent.put(out, x.frames)
     }
 
     // Prints replica, the answer's number, R, tip round, committed round: 39 bytes at most.
@@ -101,38 +96,49 @@ fn in_turn() -> [u8; 3]
     [0, 1, 2]
 }
 
-// The three replicas, and what they sent.
+// The three replicas.
 #[derive(Drop)]
 pub struct Bench {
     cards: [Card; 3],
-    sent: Sent,
 }
 
 impl Bench {
     // The replicas are opened in their order.
     pub fn open(alloc: Global) -> Result<Self, AllocError> {
-        let mut cards = [
-            Card::closed(alloc, 0)?,
-            Card::closed(alloc, 1)?,
-            Card::closed(alloc, 2)?,
-        ];
-        let mut sent = Sent::nothing(alloc);
-        for card in cards.iter_mut() {
+        let mut bench = Bench {
+            cards: [0, 1, 2].map(|id| Card::closed(alloc, id)),
+        };
+        for replica in 0..3 {
+            let card = &mut bench.cards[replica];
             let mut out = [0; OUT];
             let x = card.open(&mut out);
-            card.keep(x, &out, &mut sent)?;
+            card.record = x.replica;
+            bench.send(&out, x.frames)?;
         }
-        Ok(Bench { cards, sent })
+        Ok(bench)
+    }
+
+    // The first frames of an out buffer are sent: each goes to all but its signer.
+    fn send(&mut self, out: &[u8; OUT], count: u8) -> Result<(), AllocError> {
+        for x in out.as_chunks::<FRAME>().0.iter().take(usize::from(count)) {
+            for card in self.cards.iter_mut() {
+                if frame::signer(x) != card.id {
+                    card.queue.push_back(*x)?;
+                }
+            }
+        }
+        Ok(())
     }
 
     // A step of a replica is carried out, and its answer printed.
     pub fn obey(&mut self, rt: &impl Print, command: Command) -> Result<(), Stop> {
         let card = &mut self.cards[command.replica];
         let mut out = [0; OUT];
-        let Some(x) = card.answer(command.step, &self.sent, &mut out) else {
+        let Some(x) = card.answer(command.step, &mut out) else {
             return Ok(());
         };
-        card.keep(x, &out, &mut self.sent)?;
-        card.show(rt, x.number)
+        card.record = x.replica;
+        self.send(&out, x.frames)?;
+        self.cards[command.replica].show(rt, x.number)
     }
 }

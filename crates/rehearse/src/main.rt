@@ -5,7 +5,6 @@
 
 mod bench;
 mod command;
-mod sent;
 
 use bench::Bench;
 use command::Command;
@@ -13,38 +12,15 @@ use std::io::Input;
 use std::process::ExitCode;
 use text::{Reader, Stop};
 
-// A line is carried out, or told as none.
-fn obey(
-    rt: &(impl Print + Eprint),
-    bench: &mut Bench,
-    number: u64,
-    line: &[u8],
-) -> Result<(), Stop> {
-    match Command::parse(line) {
-        Some(command) => bench.obey(rt, command),
-        None => {
-            text::no_command(rt, number);
-            Ok(())
-        }
-    }
-}
-
-// Carries out the lines of the input, as `run` of mixed does: a function of both would need a closure over what each keeps. Nothing says
-// that the input ends, so the lines are counted, up to a number that no run uses up.
+// Carries out the lines of the input.
 fn run(rt: &(impl Input + AllocGlobal + Print + Eprint)) -> Result<(), Stop> {
     let mut bench = Bench::open(rt.alloc())?;
     let mut reader = Reader::new(rt.reader());
-    let mut line = Vec::new(rt.alloc());
-    for number in 1..u64::MAX {
-        let is_line = reader.read_line(rt, &mut line)?;
-        if is_line || !line.is_empty() {
-            obey(rt, &mut bench, number, &line)?;
-        }
-        if !is_line {
-            break;
-        }
-    }
-    Ok(())
+    text::run(
+        rt,
+        &mut reader,
+        &mut |line| { Some(bench.obey(rt, Command::parse(line)?)) },
+    )
 }
 
 fn main(rt: HostRuntime) -> ExitCode {

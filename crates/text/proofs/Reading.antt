@@ -46,6 +46,10 @@ read_consumes p ys n (Some a) (Some b) h f =
     rw (drop_all p.at (take p.end p.bytes) (omega (arith, length-take p.end p.bytes)))
     (f ∙ ap (λ u. u ++ b) (taken_unread m) ∙ append_assoc (option_to_list (taken m)) (unread (behind m)) b)
 
+-- a piece that is taken from its front on
+pub at_front : (m : Piece) → m.at ≡ 0 → m ≡ fresh m.bytes m.end
+at_front m e = ap (λ a. record { bytes = m.bytes; at = a; end = m.end }) e
+
 -- the byte comes from the piece
 pub next_left : (p q : Piece) (o : Option ℕ) → p.at < p.end → o ≡ taken p → q ≡ behind p → Next p q o
 next_left p q o h e f =

@@ -1,8 +1,10 @@
 -- The bytes of an input, one by one, from the piece that was read last.
-use Rattle.std.specs.Prelude.{◌≡◌, cond, List, Option, None, ℕ, ◌+◌, ◌<◌, ltb, length, slice_get, take, drop}
+use Rattle.std.specs.Prelude.{◌≡◌, cond, List, [], ◌∷◌, Option, None, Some, ℕ, ◌+◌, ◌<◌, ltb, length, slice_get, take, drop}
 use Rattle.std.specs.Option.{option_to_list}
 use Rattle.std.specs.Io.KnownBytes.{prepend_known}
 use Rattle.text.specs.declared.stdin.Piece.{Piece}
+use Rattle.text.specs.declared.stdin.End.{End}
+use Rattle.text.specs.declared.stdin.End.TheVariants.{Newline, Input}
 
 -- the next byte of the piece, if one is left
 unfoldable pub taken : Piece → Option ℕ
@@ -34,3 +36,9 @@ unread p = drop p.at (take p.end p.bytes)
 -- the bytes still to come: what is left of the piece, and then what reads will give, where that is known
 abbrev pub to_come : Piece → Option (List ℕ) → Option (List ℕ)
 to_come p left = prepend_known (unread p) left
+
+-- the byte that ended a line, if one did
+abbrev pub ending : Option End → List ℕ
+ending (Some Newline) = 10 ∷ []
+ending (Some Input) = []
+ending None = []

@@ -1,8 +1,10 @@
 // Text: rows of numbers put into a line, which is written at once, and the lines of standard input.
 #![tactic(auto)]
 
+mod program;
 mod stdin;
 mod stdout;
 
-pub use stdin::{Piece, Reader, no_command};
+pub use program::run;
+pub use stdin::{End, Piece, Reader, no_command};
 pub use stdout::{Line, Stop, ended};

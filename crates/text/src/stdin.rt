@@ -1,11 +1,11 @@
 // The lines of standard input.
-ghost use Rattle.std.specs.Prelude.{◌≡◌, ◌≢◌, [], ◌∷◌, ◌++◌, take, cond, All, IfOk};
+ghost use Rattle.std.specs.Prelude.{◌≡◌, ◌≢◌, [], ◌∷◌, ◌++◌, take, All, IfOk};
 ghost use Rattle.std.specs.Option.{option_to_list};
 ghost use Rattle.std.specs.Io.KnownBytes.{Consumes};
-ghost use Rattle.text.specs.Reading.{taken, behind, unread, Next, to_come};
+ghost use Rattle.text.specs.Reading.{taken, behind, unread, Next, to_come, ending};
 
 use std::alloc::AllocError;
-use std::io::Read;
+use std::io::{Error, Read};
 
 // What was read last: of these bytes, those from `at` up to `end` are still to come. A piece of its own, since std's BufReader
 // promises nothing of a reader whose bytes are not known, as `Next` does.
@@ -32,6 +32,13 @@ impl Piece {
     }
 }
 
+// What ended a line.
+#[derive(Clone, Copy)]
+pub enum End {
+    Newline,
+    Input, // the input ended
+}
+
 // A reader of standard input, which `from` reads.
 #[derive(Drop)]
 pub struct Reader<R> {
@@ -55,19 +62,15 @@ impl<R: Read> Reader<R> {
         }
     }
 
-    // Reads once into the whole piece, and answers how many bytes came. A read that fails is told, and none came.
-    fn fill(&mut self, rt: &impl Eprint) -> usize
+    // Reads once into the whole piece, which ends where the bytes that came do. None came where the read fails.
+    fn fill(&mut self) -> Result<(), Error>
         ensures at { self.new.piece.at ≡ self.old.piece.at }
-        ensures end { self.new.piece.end ≡ self.old.piece.end }
-        ensures bytes { Consumes (R.remaining self.old.from) (R.remaining self.new.from) (take result self.new.piece.bytes) }
+        ensures bytes { Consumes (R.remaining self.old.from) (R.remaining self.new.from)
+            (take self.new.piece.end self.new.piece.bytes) }
     {
-        match self.from.read(&mut self.piece.bytes) {
-            Ok(n) => n,
-            Err(e) => {
-                let _ = eprintln!(rt; "standard input: {e}");
-                0
-            }
-        }
+        self.piece.end = 0;
+        self.piece.end = self.from.read(&mut self.piece.bytes)?;
+        Ok(())
     }
 
     // The next byte, unless the input has ended. Reads where none is left of the piece; a read that fails is told, and ends
@@ -78,28 +81,36 @@ impl<R: Read> Reader<R> {
             (option_to_list result) }
     {
         if self.piece.end <= self.piece.at {
-            self.piece.end = self.fill(rt);
             self.piece.at = 0;
+            self.fill().unwrap_or_else(|e| {
+                let _ = eprintln!(rt; "standard input: {e}");
+            });
         }
         self.piece.take()
     }
 
-    // Reads the next line, without its end. Answers whether the line ended; if not, the input did. Nothing says that either does,
-    // so the bytes are counted, up to a number that no run uses up.
-    pub fn read_line(&mut self, rt: &impl Eprint, line: &mut Vec<u8>) -> Result<bool, AllocError>
-        ensures bytes { IfOk result (λ is_line. Consumes (to_come self.old.piece (R.remaining self.old.from))
-            (to_come self.new.piece (R.remaining self.new.from)) (line.new.items ++ cond is_line (10 ∷ []) [])) }
+    // Reads the next line, without its end, and answers what ended it, or None where the input had no byte left for a line. Nothing
+    // says that the input or a line ends, so the bytes are counted, up to a number that no run uses up.
+    pub fn read_line(
+        &mut self,
+        rt: &impl Eprint,
+        line: &mut Vec<u8>,
+    ) -> Result<Option<End>, AllocError>
+        ensures bytes { IfOk result (λ end. Consumes (to_come self.old.piece (R.remaining self.old.from))
+            (to_come self.new.piece (R.remaining self.new.from)) (line.new.items ++ ending end)) }
         ensures one { All (λ b. b ≢ 10) line.new.items }
+        ensures none { result ≡ Ok None → line.new.items ≡ [] }
+        ensures last { result ≡ Ok (Some End.Input) → line.new.items ≢ [] }
     {
         line.clear();
         for _ in 0..u64::MAX {
             match self.next(rt) {
-                None => return Ok(false),
-                Some(b'\n') => return Ok(true),
+                None => break,
+                Some(b'\n') => return Ok(Some(End::Newline)),
                 Some(b) => line.push(b)?,
             }
         }
-        Ok(false)
+        Ok((!line.is_empty()).then_some(End::Input))
     }
 }
 
