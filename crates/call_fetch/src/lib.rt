@@ -45,6 +45,8 @@ fn copy_above(
 pub fn fetch(replica: Replica, log: &[u8], height: Height, out: &mut [u8]) -> Fetched
     ensures { fetched result out.new ≡ fetch_call replica log.now height.0 out.old }
 {
-    copy_above(replica, log, height, out)
-        .map_or_else(no_frames, |count| Fetched { number: 0, count })
+    copy_above(replica, log, height, out).map_or_else(
+        no_frames,
+        |count| Fetched { number: 0, count },
+    )
 }

@@ -4,7 +4,7 @@ ghost use Rattle.apollo.specs.Rotation.{in_turn};
 
 use crate::command::{Command, Step};
 use apollo::size::{FRAME, OUT};
-use apollo::{Answer, Replica, Round, Ticks};
+use apollo::{Answer, Kind, Replica, Round, Ticks};
 use std::alloc::{AllocError, Global};
 use std::collections::VecDeque;
 use text::{Line, Stop};
@@ -56,7 +56,14 @@ impl Card {
     // The replica is handed frame x.
     fn hear(&mut self, x: &[u8], out: &mut [u8; OUT]) -> Answer {
         match frame::kind(x) {
-            1 => call_branch::branch(self.record, &mut self.log, &self.masks, x, b"", out),
+            Ok(Kind::Block) => call_branch::branch(
+                self.record,
+                &mut self.log,
+                &self.masks,
+                x,
+                b"",
+                out,
+            ),
             _ => call_blame::blame(self.record, &mut self.log, &mut self.masks, x, b"", out),
         }
     }

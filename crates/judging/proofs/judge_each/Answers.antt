@@ -8,5 +8,5 @@ use Rattle.judging.proofs.judge_each.Goals as goal
 
 pub returns : goal.returns
 returns c =
-    c.judge_by.ensures (λ q. fault sha256 (form_of c.args.form c.args.s)) (λ p x r e. search rules)
-    ∙ each_by (form_of c.args.form c.args.s) 0 _ _
+    c.judge_by.ensures (λ q. fault sha256 (form_of c.args.kind c.args.s)) (λ p x r e. search rules)
+    ∙ each_by (form_of c.args.kind c.args.s) 0 _ _
