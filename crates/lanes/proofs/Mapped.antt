@@ -20,7 +20,8 @@ serves_list {A} {P} R Q K m p a stays can = record { at = λ xs t q x u y c z. a
 
 -- each element of the one is made of that of the other
 pub maps_each : {F A B : Type 0} (g : Mut F (A × Unit {0}) B) (f : F) (K : A → Type 0) (V : A → B → Type 0)
-    (m : List A) (ys : List B) (n : ℕ) → length m ≡ n → All K m → IsMapOf g f m ys n → ((x : A) (y : B) (q : F) → K x → Called g f (x, tt) y q → (q ≡ f) × V x y)
+    (m : List A) (ys : List B) (n : ℕ) → length m ≡ n → All K m → IsMapOf g f m ys n
+    → ((x : A) (y : B) (q : F) → K x → Called g f (x, tt) y q → (q ≡ f) × V x y)
     → (k : ℕ) (d : A) (e : B) → k < n → V (get_or m k d) (get_or ys k e)
 maps_each {F} {A} {B} g f K V m ys n l a r h k d e b = from 0 n r.each (omega arith) k (omega arith) (omega arith)
   where
