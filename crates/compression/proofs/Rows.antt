@@ -72,7 +72,8 @@ upto_put P Q l g f u =
 pub loaded_more : {L : ℕ} {b : ℕ → List ℕ} {w : List (List ℕ)} (r : List ℕ) {t : ℕ} → t < 16
     → ((m : ℕ) → m < L → get_or r m 0 ≡ word_at (b m) (4 * t)) → Loaded L b t w → Loaded L b (t + 1) (set w t r)
 loaded_more {b = b} {w} r {t} h e o =
-    record { at = λ m q. rw (words_put w r t m (get_or r m 0) refl) (load_step (b m) (words_at w m) t (get_or r m 0) h (e m q) (o.at m q)).1 }
+    let p = λ (m : ℕ). words_put w r t m (get_or r m 0) refl in
+    record { at = λ m q. rw (p m) (load_step (b m) (words_at w m) t (get_or r m 0) h (e m q) (o.at m q)).1 }
 
 -- the bytes of a lane are what its reference points to
 pub bytes_are : (b : List (Bor (List ℕ))) (m : ℕ) → bytes_at b m ≡ (get_or b m (record { ref_ptr = (0, 0); now = [] })).now
@@ -81,7 +82,8 @@ bytes_are b m = get_or-map (λ (block : Bor (List ℕ)). block.now) b m (record 
 -- one word more of a row
 pub word_put : (r : List ℕ) {f : ℕ → ℕ} (x l : ℕ) → l < length r → ((m : ℕ) → m < l → get_or r m 0 ≡ f m) → x ≡ f l
     → (m : ℕ) → m < l + 1 → get_or (set r l x) m 0 ≡ f m
-word_put r {f} x l h o e m q = ⊎_elim (λ d. here m (omega arith)) (λ b. get_or-set_other r l m x 0 (omega arith) ∙ o m (omega arith)) (eq-or-lt_of_le q)
+word_put r {f} x l h o e m q =
+    ⊎_elim (λ d. here m (omega arith)) (λ b. get_or-set_other r l m x 0 (omega arith) ∙ o m (omega arith)) (eq-or-lt_of_le q)
   where
     here : (m : ℕ) → m ≡ l → get_or (set r l x) m 0 ≡ f m
     here m d = rw d (get_or-set_same r l x 0 h ∙ e)

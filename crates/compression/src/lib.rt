@@ -140,7 +140,7 @@ fn extended(w14: u32, w9: u32, w1: u32, w0: u32) -> u32
         .wrapping_add(w0)
 }
 
-// By `u32::from_be_bytes` the loop of load_rows would be unrolled, and four digests take 2 % longer.
+// By `u32::from_be_bytes` four digests take 1 % longer.
 fn word_at(b: &[u8; 64], i: usize) -> u32
     requires { i + 4 ≤ 64 }
     ensures { result ≡ Fips.word_at b.now i }
@@ -230,7 +230,7 @@ impl<const L: usize> Lanes<L> {
         }
     }
 
-    // The words of lane l. Each contract that reads or writes a lane asks `l < L`: a type in its place would be made and opened at each call.
+    // The words of lane l. Who reads or writes a lane asks `l < L`: a type in its place would be made and opened at each call.
     pub fn lane(&self, l: usize) -> State
         requires { l < L }
         ensures { result ≡ state_at self.now l }
@@ -274,7 +274,7 @@ fn each_lane<const L: usize, F: Fn(State, usize) -> State>(v: &mut Lanes<L>, ste
     }
 }
 
-// Word l of a row is x.
+// Word l of a row is x. The row is handed over, since of `w[i][l] = x` it was not proved that row i has L words.
 fn put_word<const L: usize>(row: &mut [u32; L], l: usize, x: u32)
     requires { l < L }
     ensures here { slice_index row.new l ≡ x }
@@ -301,7 +301,7 @@ fn extend<const L: usize>(w: &mut [[u32; L]; 16], i: usize, l: usize) -> u32
     x
 }
 
-// Round 16 n + i of lane l, for n from 1 on. Three contracts ask `1 ≤ n < 4`, which only the loop of compress meets: a type says it no shorter.
+// Round 16 n + i of lane l, for n from 1 on. Three contracts ask `1 ≤ n < 4` for the one loop of compress: a type says it no shorter.
 fn extend_round<const L: usize>(
     s: State,
     w: &mut [[u32; L]; 16],

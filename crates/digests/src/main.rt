@@ -4,7 +4,7 @@
 
 use std::fmt;
 
-// A digest, in hex.
+// A digest, in hex. The library's `hex` would want an allocator, or a buffer that is then read as text.
 #[derive(Clone, Copy)]
 struct Hex([u8; 32]);
 

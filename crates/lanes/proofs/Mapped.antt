@@ -10,7 +10,8 @@ pub serves_list : {A P : Type 0} (R : P → A → P → Type 0) (Q : P → A →
     → ((x : A) (q : P) → R p x q → q ≡ p) → ((x : A) → K x → Q p x) → CallableAtEachTurn list_steps R Q m p
 serves_list {A} {P} R Q K m p a stays can = record { at = λ xs t q x u y c z. at m xs t q x u a y c z }
   where
-    at : (m xs t : List A) (q : P) (x : A) (u : List A) → All K m → Yields list_steps m xs t → FoldsTo R p xs q → list_steps t (Some x) u → Q q x
+    at : (m xs t : List A) (q : P) (x : A) (u : List A) → All K m → Yields list_steps m xs t → FoldsTo R p xs q
+        → list_steps t (Some x) u → Q q x
     at m [] t q x u a y c z = let e : m ≡ x ∷ u = y ∙ z in rw (← c) (can x ((rw e at a) 0 x (omega arith)))
     at m (w ∷ xs) t q x u a y c z =
         let s : c.0 ≡ p = stays w c.0 c.1 in
@@ -18,8 +19,9 @@ serves_list {A} {P} R Q K m p a stays can = record { at = λ xs t q x u y c z. a
         at y.0 xs t q x u (λ k d h. b (suc k) d (omega arith)) y.2 (rw s at c.2) z
 
 -- each element of the one is made of that of the other
-pub maps_each : {F A B : Type 0} (g : Mut F (A × Unit {0}) B) (f : F) (K : A → Type 0) (V : A → B → Type 0) (m : List A) (ys : List B) (n : ℕ)
-    → length m ≡ n → All K m → IsMapOf g f m ys n → ((x : A) (y : B) (q : F) → K x → Called g f (x, tt) y q → (q ≡ f) × V x y)
+pub maps_each : {F A B : Type 0} (g : Mut F (A × Unit {0}) B) (f : F) (K : A → Type 0) (V : A → B → Type 0)
+    (m : List A) (ys : List B) (n : ℕ) → length m ≡ n → All K m → IsMapOf g f m ys n
+    → ((x : A) (y : B) (q : F) → K x → Called g f (x, tt) y q → (q ≡ f) × V x y)
     → (k : ℕ) (d : A) (e : B) → k < n → V (get_or m k d) (get_or ys k e)
 maps_each {F} {A} {B} g f K V m ys n l a r h k d e b = from 0 n r.each (omega arith) k (omega arith) (omega arith)
   where

@@ -4,9 +4,11 @@ use denote.Param.Members.{Mut, Called}
 use Rattle.std.specs.Array.{IsFromFnResult, IsFromFnResultFrom}
 use Rattle.std.proofs.lemmas.List.{same_lists}
 
-module _ {F B : Type 0} (g : Mut F (ℕ × Unit {0}) B) (f : F) (v : ℕ → B) (m : ℕ) (h : (i : ℕ) (y : B) (q : F) → i < m → Called g f (i, tt) y q → (q ≡ f) × (y ≡ v i)) where
+module _ {F B : Type 0} (g : Mut F (ℕ × Unit {0}) B) (f : F) (v : ℕ → B) (m : ℕ)
+    (h : (i : ℕ) (y : B) (q : F) → i < m → Called g f (i, tt) y q → (q ≡ f) × (y ≡ v i)) where
   -- each call leaves f as it is, and gives v of its index
-  from_each : (ys : List B) (i n : ℕ) → IsFromFnResultFrom g f ys i n → i + n ≤ m → (k : ℕ) (d : B) → i ≤ k → k < i + n → get_or ys k d ≡ v k
+  from_each : (ys : List B) (i n : ℕ) → IsFromFnResultFrom g f ys i n → i + n ≤ m → (k : ℕ) (d : B) → i ≤ k → k < i + n
+      → get_or ys k d ≡ v k
   from_each ys i zero r l k d a b = absurd (omega arith)
   from_each ys i (suc n) r l k d a b =
       let p : (r.0 ≡ f) × (r.1 ≡ v i) = h i r.1 r.0 (omega arith) r.3 in

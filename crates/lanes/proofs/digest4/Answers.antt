@@ -20,11 +20,13 @@ loop-i-preserved c =
     hashed_step i c.loop-i.invariant
     (λ k q. rw (bytes_are c.map.result k)
     (block_in _ _ i (c.requires k _ (omega arith)) h
-    (maps_each _ _ Long (λ x y. y.now ≡ block x.now i) c.args.m c.map.result 4 n c.requires c.map.ensures.items (λ x y q l h. search rules) k _ _ q)))
+    (maps_each _ _ Long (λ x y. y.now ≡ block x.now i) c.args.m c.map.result 4 n c.requires c.map.ensures.items
+    (λ x y q l h. search rules) k _ _ q)))
     c.compress.ensures
 
 pub map-last-requires : goal.map-last-requires
-map-last-requires c = (lit< tt, (lit< tt, (lit< tt, serves_list _ _ Long c.args.m _ c.requires (λ x q h. search rules) (λ x h. search rules))))
+map-last-requires c =
+    (lit< tt, (lit< tt, (lit< tt, serves_list _ _ Long c.args.m _ c.requires (λ x q h. search rules) (λ x h. search rules))))
 
 pub returns : goal.returns
 returns c =
@@ -34,7 +36,8 @@ returns c =
     let o =
     hashed_step 7 (rw q at c.loop-i.invariant)
     (λ k q. ap (λ (bs : List _). get_or bs k []) c.each_ref.ensures.items
-    ∙ maps_each _ _ Long (λ x y. y ≡ block (padded x.now) 7) c.args.m c.map-last.result 4 n long c.map-last.ensures.items (λ x y q l h. search rules) k _ _ q)
+    ∙ maps_each _ _ Long (λ x y. y ≡ block (padded x.now) 7) c.args.m c.map-last.result 4 n long c.map-last.ensures.items
+    (λ x y q l h. search rules) k _ _ q)
     c.compress-2.ensures in
     four_digests c.args.m _ _ _ _ n
     (lane_digest _ _ _ _ (long 0 _ (omega arith)) (o.at 0 (omega arith)) c.lane.ensures c.bytes_of.ensures)

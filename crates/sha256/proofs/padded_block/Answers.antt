@@ -11,5 +11,7 @@ from_fn-requires c = let l = length_padded c.args.s.now in grind (serving, l)
 
 pub returns : goal.returns
 returns c =
-    from_fn_is _ _ (λ i. get_or (padded c.args.s.now) (64 * c.args.k + i) 0) 64 (λ i y q b h. search rules) _ (block (padded c.args.s.now) c.args.k)
-    (simp (length-take, length-drop) (omega arith)) (λ i d. block_byte (padded c.args.s.now) c.args.k i d c.requires) c.from_fn.ensures.items
+    from_fn_is _ _ (λ i. get_or (padded c.args.s.now) (64 * c.args.k + i) 0) 64 (λ i y q b h. search rules) _
+    (block (padded c.args.s.now) c.args.k)
+    (simp (length-take, length-drop) (omega arith))
+    (λ i d. block_byte (padded c.args.s.now) c.args.k i d c.requires) c.from_fn.ensures.items
