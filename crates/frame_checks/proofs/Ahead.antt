@@ -25,8 +25,8 @@ unfolding checked_at
 missing xs k h = rw (le-ltb k (length xs) h)
 
 -- the checks of the first four
-pub four : (xs : List (List ℕ)) {p q r s : Bool} → p ≡ checked_at xs 0 → q ≡ checked_at xs 1 → r ≡ checked_at xs 2 → s ≡ checked_at xs 3
-    → p ∷ q ∷ r ∷ s ∷ [] ≡ checks_of xs
+pub four : (xs : List (List ℕ)) {p q r s : Bool} → p ≡ checked_at xs 0 → q ≡ checked_at xs 1 → r ≡ checked_at xs 2
+    → s ≡ checked_at xs 3 → p ∷ q ∷ r ∷ s ∷ [] ≡ checks_of xs
 unfolding checks_of
 four xs e0 e1 e2 e3 = rw (e0, e1, e2, e3)
 
@@ -43,7 +43,8 @@ known_four a xs e k h l = rw e (at k (rw e at h) l)
     at (suc (suc (suc (suc k)))) h l = absurd (omega arith)
 
 -- the frame x has its turn: b is its check, and the others' are known as before
-module _ (a : List Bool) (fs : List (List ℕ)) (b : Bool) (bs : List Bool) (x : List ℕ) (xs : List (List ℕ)) (right : Known a fs) (d : a ≡ b ∷ bs) (e : fs ≡ x ∷ xs) where
+module _ (a : List Bool) (fs : List (List ℕ)) (b : Bool) (bs : List Bool) (x : List ℕ) (xs : List (List ℕ))
+    (right : Known a fs) (d : a ≡ b ∷ bs) (e : fs ≡ x ∷ xs) where
   pub turn : map with_check fs ≡ (x, b) ∷ map with_check xs
   turn =
       let q : b ≡ checked sha256 x = (rw (d, e) at right) 0 (omega arith) (omega arith) in
@@ -57,7 +58,8 @@ abbrev pub frame_at : List (Bor (List ℕ)) → ℕ → List ℕ
 frame_at x k = (get_or x k (record { ref_ptr = (0, 0); now = [] })).now
 
 -- the checks of four frames
-pub four_checks : (x : List (Bor (List ℕ))) {p q r s : Bool} → length x ≡ 4 → p ≡ checked sha256 (frame_at x 0) → q ≡ checked sha256 (frame_at x 1)
+pub four_checks : (x : List (Bor (List ℕ))) {p q r s : Bool} → length x ≡ 4 → p ≡ checked sha256 (frame_at x 0)
+    → q ≡ checked sha256 (frame_at x 1)
     → r ≡ checked sha256 (frame_at x 2) → s ≡ checked sha256 (frame_at x 3)
     → p ∷ q ∷ r ∷ s ∷ [] ≡ map (λ (y : Bor (List ℕ)). checked sha256 y.now) x
 four_checks (a ∷ b ∷ c ∷ d ∷ []) l e0 e1 e2 e3 = rw (e0, e1, e2, e3)
@@ -70,7 +72,8 @@ four_checks (a ∷ b ∷ c ∷ d ∷ e ∷ x) l e0 e1 e2 e3 = absurd (omega arit
 -- for callers: what a frame that is given says of those that were left, and that none is given
 pub given_first : (xs ys : List (List ℕ)) (x : List ℕ) (b : Bool) → map with_check xs ≡ (x, b) ∷ map with_check ys
     → (xs ≡ x ∷ ys) × (b ≡ checked sha256 x)
-given_first xs ys x b e = (sym (fronts xs) ∙ ap (map (λ (p : List ℕ × Bool). p.0)) e ∙ ap (λ (zs : List (List ℕ)). x ∷ zs) (fronts ys), check xs e)
+given_first xs ys x b e =
+    (sym (fronts xs) ∙ ap (map (λ (p : List ℕ × Bool). p.0)) e ∙ ap (λ (zs : List (List ℕ)). x ∷ zs) (fronts ys), check xs e)
   where
     fronts : (zs : List (List ℕ)) → map (λ (p : List ℕ × Bool). p.0) (map with_check zs) ≡ zs
     fronts [] = refl

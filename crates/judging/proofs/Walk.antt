@@ -6,26 +6,29 @@ use Rattle.apollo.specs.Frame.{frames, frames_of}
 use borrow.Author.Tests.{eq-eqb, ne_eqb}
 use Rattle.sha256.specs.Fips.{sha256}
 use Rattle.apollo.specs.declared.Setup.{Setup}
-use Rattle.apollo.specs.Judging.{verdict, no_refusal, fault, judged_each}
+use Rattle.apollo.specs.Judging.{Verdict, verdict, no_refusal, fault, judged_each}
 use Rattle.apollo.specs.BlockRun.{judged_next, judged_run}
 use Rattle.apollo.specs.declared.refusal.Refusal.{Refusal}
 use Rattle.apollo.specs.Refused.{number, refusal_of}
 use Rattle.apollo.proofs.Numbers.{refused_number, refused_some, taken_none}
 use Rattle.judging.specs.Walk.{judged_by}
 
--- the frame x, which has index i and stands behind p, has the result r; the frames xs are behind it
-module _ (told : Option (List ℕ) → List ℕ → ℕ) (i : ℕ) (p : Option (List ℕ)) (x : List ℕ) (xs : List (List ℕ)) {T : Type 0} (r : Result T Refusal) (d : refusal_of r ≡ told p x) where
-  pub stop : (f : Refusal) → r ≡ Err f → judged_by told i p (x ∷ xs) ≡ verdict (number f) i
-  unfolding judged_by
-  stop f q = rw (ne_eqb (told p x) 0 (refused_some r _ d f q), refused_number r _ d f q)
+-- the frames fs, the first of which has index i, are to be judged behind p: the frame x, whose result is r, and then xs
+module _ (told : Option (List ℕ) → List ℕ → ℕ) (i : ℕ) (p : Option (List ℕ)) (fs : List (List ℕ)) (goal : Verdict)
+    (e : judged_by told i p fs ≡ goal) where
+  module _ (x : List ℕ) (xs : List (List ℕ)) (q : fs ≡ x ∷ xs) {T : Type 0} (r : Result T Refusal)
+      (d : refusal_of r ≡ told p x) where
+    pub stop : (f : Refusal) → r ≡ Err f → verdict (number f) i ≡ goal
+    unfolding judged_by
+    stop f z = rw (refused_number r _ d f z) (rw (q, ne_eqb (told p x) 0 (refused_some r _ d f z)) at e)
 
-  pub more : (u : T) → r ≡ Ok u → judged_by told i p (x ∷ xs) ≡ judged_by told (i + 1) (some x) xs
-  unfolding judged_by
-  more u q = rw (eq-eqb (told p x) 0 (taken_none r _ d u q))
+    pub more : (u : T) → r ≡ Ok u → judged_by told (i + 1) (some x) xs ≡ goal
+    unfolding judged_by
+    more u z = rw (q, eq-eqb (told p x) 0 (taken_none r _ d u z)) at e
 
-pub done : (told : Option (List ℕ) → List ℕ → ℕ) (i : ℕ) (p : Option (List ℕ)) → judged_by told i p [] ≡ no_refusal
-unfolding judged_by
-done told i p = refl
+  pub done : fs ≡ [] → no_refusal ≡ goal
+  unfolding judged_by
+  done q = rw q at e
 
 -- each by itself, and as a run
 pub each_by : (form : List ℕ → Bool) (k : ℕ) (p : Option (List ℕ)) (xs : List (List ℕ))
@@ -34,7 +37,8 @@ unfolding judged_by judged_each
 each_by form k p [] = refl
 each_by form k p (x ∷ xs) = rw (each_by form (k + 1) (some x) xs)
 
-pub run_by : (s : Setup) (k : ℕ) (p : Option (List ℕ)) (xs : List (List ℕ)) → judged_by (judged_next sha256 s) k p xs ≡ judged_run sha256 s k p xs
+pub run_by : (s : Setup) (k : ℕ) (p : Option (List ℕ)) (xs : List (List ℕ))
+    → judged_by (judged_next sha256 s) k p xs ≡ judged_run sha256 s k p xs
 unfolding judged_by judged_run
 run_by s k p [] = refl
 run_by s k p (x ∷ xs) = rw (run_by s (k + 1) (some x) xs)

@@ -13,8 +13,9 @@ abbrev pub parent_of : Option (Bor (List ℕ)) → Maybe.Option (List ℕ)
 parent_of None = Maybe.none
 parent_of (Some p) = Maybe.some p.now
 
--- the verdict on frames, the first of which has index k and stands behind p, by the refusal's number of each behind the one before it
-unfoldable pub judged_by : (number : Maybe.Option (List ℕ) → List ℕ → ℕ) (k : ℕ) (p : Maybe.Option (List ℕ)) → List (List ℕ) → Verdict
+-- the verdict on frames, the first of which has index k and stands behind p, by the refusal's number of each behind the one before
+unfoldable pub judged_by : (number : Maybe.Option (List ℕ) → List ℕ → ℕ) (k : ℕ) (p : Maybe.Option (List ℕ)) → List (List ℕ)
+    → Verdict
 judged_by number k p [] = no_refusal
 judged_by number k p (x ∷ xs) = cond (eqb (number p x) 0) (judged_by number (k + 1) (Maybe.some x) xs) (verdict (number p x) k)
 

@@ -1,5 +1,5 @@
 -- `judging::judge_by` meets its contract. By a law for each way that a frame's judging goes.
-use Rattle.std.proofs.Common.{◌∙◌, ◌<◌, ◌^◌, sym, ap, arith, rules, length}
+use Rattle.std.proofs.Common.{◌<◌, ◌^◌, ap, arith, rules, length}
 use Rattle.frame_checks.proofs.Ahead.{given_first, given_none}
 use Rattle.judging.specs.Walk.{parent_of, judged_by}
 use Rattle.judging.proofs.Walk.{stop, more, done, frames_count}
@@ -8,7 +8,10 @@ use Rattle.judging.proofs.judge_by.Goals as goal
 pub loop-i-init : goal.loop-i-init
 loop-i-init g c =
     rw (c.into_iter-i-iterator.ensures.into_iter_gives, c.enumerate-i-items.ensures.source, c.enumerate-i-items.ensures.count)
-    record { place = omega (arith, ap length c.new.ensures); answer = λ number t. ap (judged_by number 0 (parent_of c.args.parent)) c.new.ensures }
+    record {
+      place = omega (arith, ap length c.new.ensures);
+      answer = λ number t. ap (judged_by number 0 (parent_of c.args.parent)) c.new.ensures;
+    }
 
 pub judge-requires : goal.judge-requires
 judge-requires g c =
@@ -20,17 +23,15 @@ overflow_cast-place g c =
     let k = c.in-Some.ensures.steps in
     let q = given_first _ _ _ _ k.0 in
     let v = c.loop-i.invariant in
-    let h : c.in-Some.i < 2 ^ 32 = omega (arith, k.1, ap length q.0, v.place, frames_count c.args.frames.now, c.requires.places) in search rules
+    let h : c.in-Some.i < 2 ^ 32 = omega (arith, k.1, ap length q.0, v.place, frames_count c.args.frames.now, c.requires.places) in
+    search rules
 
 pub returns-in-Err : goal.returns-in-Err
 returns-in-Err g c =
     let k = c.in-Some.ensures.steps in
     let q = given_first _ _ _ _ k.0 in
     let v = c.loop-i.invariant in
-    λ number t.
-    rw (k.1)
-    (sym (stop number c.loop-i.i-iterator.count (parent_of c.loop-i.p) c.in-Some.x.now c.next.new.self.iter.frames.now c.judge.result (t _ _ _ (rw q.1 at c.judge.ensures)) c.in-Err.refusal c.in-Err.is)
-    ∙ rw (q.0) at (v.answer number t))
+    λ number t. rw (k.1) (stop number _ _ _ _ (v.answer number t) _ _ q.0 _ (t _ _ _ (rw q.1 at c.judge.ensures)) _ c.in-Err.is)
 
 pub loop-i-preserved : goal.loop-i-preserved
 loop-i-preserved g c =
@@ -39,11 +40,10 @@ loop-i-preserved g c =
     let v = c.loop-i.invariant in
     rw (k.2) record {
       place = omega (arith, ap length q.0, v.place);
-      answer = λ number t. sym (more number c.loop-i.i-iterator.count (parent_of c.loop-i.p) c.in-Some.x.now c.next.new.self.iter.frames.now c.judge.result (t _ _ _ (rw q.1 at c.judge.ensures)) _ c.in_default.is)
-          ∙ rw (q.0) at (v.answer number t);
+      answer = λ number t. more number _ _ _ _ (v.answer number t) _ _ q.0 _ (t _ _ _ (rw q.1 at c.judge.ensures)) _ c.in_default.is;
     }
 
 pub returns : goal.returns
 returns g c =
     let q = given_none _ c.in-None.ensures.steps.0.0 in
-    λ number t. sym (done number _ _) ∙ rw q at (c.loop-i.invariant.answer number t)
+    λ number t. done number _ _ _ _ (c.loop-i.invariant.answer number t) q
