@@ -21,7 +21,7 @@ struct Lent<'a> {
 }
 
 impl Lent<'_> {
-    // The answer of a call.
+    // The answer of a call, which uses up what is lent: handed on through a `&mut Lent` it has no proof.
     fn answer(self, change: Change<'_>, r: Replica, entry: &[u8]) -> Answer {
         let Lent { log, masks, out } = self;
         match change {

@@ -110,7 +110,7 @@ pub struct Bench {
 }
 
 impl Bench {
-    // The replicas are opened in their order.
+    // The replicas are opened in their order, by index, since what one sends goes to the queues of all.
     pub fn open(alloc: Global) -> Result<Self, AllocError> {
         let mut bench = Bench {
             cards: [0, 1, 2].map(|id| Card::closed(alloc, id)),

@@ -1,11 +1,12 @@
 -- Laws of the lines that were carried out. Assumes nothing.
-use Rattle.std.proofs.Common.{◌≡◌, refl, ap, ◌∙◌, sym, inl, inr, ℕ, List, [], ◌∷◌, ◌++◌, Option, None, Some, Result, Ok, append_assoc, append-nil}
+use Rattle.std.proofs.Common.{◌≡◌, ◌≢◌, All, refl, ap, ◌∙◌, sym, inl, inr, ℕ, List, [], ◌∷◌, ◌++◌, Option, None, Some, Result, Ok, append_assoc, append-nil}
 use Rattle.std.specs.Prelude.{⊤}
 use Rattle.std.specs.Fn.{Mut}
 use Rattle.std.specs.List.{FoldsTo}
 use Rattle.std.specs.Io.KnownBytes.{Consumes}
 use Rattle.std.proofs.KnownBytes.{Consumes-nil, Consumes-trans}
 use Rattle.std.proofs.lemmas.Fn.{FoldsTo-push}
+use Rattle.std.proofs.lemmas.List.Elements.{All-push, All-nil}
 use Rattle.text.specs.declared.stdout.Stop.{Stop}
 use Rattle.text.specs.Running.{joined, WasDone, Handed, CarriedOut}
 use denote.Ref.{Bor}
@@ -26,28 +27,31 @@ module _ {F : Type 0} (g : Mut F (Bor (List ℕ) × Unit {0}) (Option (Result �
   -- whole lines were carried out
   pub record Whole (q : F) (after : Option (List ℕ)) : Type 0 where
     pub lines : List (List ℕ)
+    pub no_ends : All (All (λ b. b ≢ 10)) lines
     pub consumed : Consumes before after (joined lines)
     pub handed : FoldsTo (Handed g) p lines q
 
   pub none_yet : (q : F) → p ≡ q → Whole q before
   unfolding joined
-  none_yet q e = record { lines = []; consumed = Consumes-nil before; handed = e }
+  none_yet q e = record { lines = []; no_ends = All-nil (All (λ b. b ≢ 10)); consumed = Consumes-nil before; handed = e }
 
-  pub one_more : (q r : F) (mid after : Option (List ℕ)) (l : List ℕ) → Whole q mid → Consumes mid after (l ++ (10 ∷ [])) → Handed g q l r
-      → Whole r after
-  one_more q r mid after l w f h =
+  pub one_more : (q r : F) (mid after : Option (List ℕ)) (l : List ℕ) → Whole q mid → All (λ b. b ≢ 10) l
+      → Consumes mid after (l ++ (10 ∷ [])) → Handed g q l r → Whole r after
+  one_more q r mid after l w n f h =
       record {
         lines = w.lines ++ (l ∷ []);
+        no_ends = All-push (All (λ b. b ≢ 10)) w.lines l w.no_ends n;
         consumed = rw (joined_push w.lines l) (Consumes-trans before mid after (joined w.lines) (l ++ (10 ∷ [])) w.consumed f);
         handed = FoldsTo-push (Handed g) p w.lines q l r w.handed h;
       }
 
   -- the last line has no end
-  pub with_last : (q r : F) (mid after : Option (List ℕ)) (l : List ℕ) → Whole q mid → Consumes mid after (l ++ []) → Handed g q l r
-      → CarriedOut g p r before after
-  with_last q r mid after l w f h =
+  pub with_last : (q r : F) (mid after : Option (List ℕ)) (l : List ℕ) → Whole q mid → All (λ b. b ≢ 10) l
+      → Consumes mid after (l ++ []) → Handed g q l r → CarriedOut g p r before after
+  with_last q r mid after l w n f h =
       record {
         lines = w.lines ++ (l ∷ []);
+        no_ends = All-push (All (λ b. b ≢ 10)) w.lines l w.no_ends n;
         bytes = joined w.lines ++ (l ++ []);
         are_lines = inr (rw (append-nil l, joined_push w.lines l) (append_assoc (joined w.lines) l (10 ∷ [])));
         consumed = Consumes-trans before mid after (joined w.lines) (l ++ []) w.consumed f;
@@ -58,6 +62,7 @@ module _ {F : Type 0} (g : Mut F (Bor (List ℕ) × Unit {0}) (Option (Result �
   all_whole q mid after w f =
       record {
         lines = w.lines;
+        no_ends = w.no_ends;
         bytes = joined w.lines ++ [];
         are_lines = inl (append-nil (joined w.lines));
         consumed = Consumes-trans before mid after (joined w.lines) [] w.consumed f;

@@ -16,7 +16,7 @@ returns-in_default g c =
 
 pub returns-in-Input : goal.returns-in-Input
 returns-in-Input g c =
-    with_last _ _ _ _ _ _ _ c.read_line.new.line.items c.loop-number.invariant.1
+    with_last _ _ _ _ _ _ _ c.read_line.new.line.items c.loop-number.invariant.1 c.read_line.ensures.one
     (rw (c.in-Some.is, c.in-Input.is) at c.in_ok-end.ensures.bytes) record {
       done = c.obey.result;
       called = record { shown = c.deref.result; shows = c.deref.ensures.value; called = c.obey.ensures };
@@ -30,7 +30,7 @@ returns-in-Input g c =
 pub loop-number-preserved : goal.loop-number-preserved
 loop-number-preserved g c = (
   λ h. mut_next g.F.FnMut _ _ _ _ _ c.obey.ensures refl (c.loop-number.invariant.0 h),
-  one_more _ _ _ _ _ _ _ c.read_line.new.line.items c.loop-number.invariant.1
+  one_more _ _ _ _ _ _ _ c.read_line.new.line.items c.loop-number.invariant.1 c.read_line.ensures.one
       (rw (c.in-Some.is, c.in_default-end.is) at c.in_ok-end.ensures.bytes) record {
         done = c.obey.result;
         called = record { shown = c.deref.result; shows = c.deref.ensures.value; called = c.obey.ensures };
