@@ -8,7 +8,7 @@ ghost use Rattle.apollo.specs.Log as Log;
 ghost use Rattle.apollo.specs.Read as Read;
 ghost use Rattle.apollo.specs.Fetch.{above};
 ghost use Rattle.apollo.specs.Found.{found};
-ghost use Rattle.log_heights.specs.Fetch.{is_tall};
+ghost use Rattle.log_heights.specs.Fetch.{is_tall, last_low};
 
 use apollo::size::{ENTRY, FRAME};
 
@@ -40,16 +40,31 @@ fn is_tall(x: &[u8], h: u32) -> bool
     frame::kind(x) == 1 && h < frame::height(x)
 }
 
-// The chain frames of height above h are copied to out, in rising round, as many as fit; how many.
+// The last round before the first frame that fetch copies. A search of its own, before the walk that copies: in that walk each slot passed
+// over costs more.
+fn last_low(log: &[u8], h: u32, last_round: u32) -> u32
+    requires { frame_size * last_round ≤ length log.now }
+    ensures { result ≡ last_low log.now h 0 last_round }
+{
+    let end = FRAME * (last_round as usize);
+    log[..end]
+        .chunks_exact(FRAME)
+        .position(|x| is_tall(x, h))
+        .map_or(last_round, |r| r as u32)
+}
+
+// The chain frames of height above h are copied to out, in rising round, as many as fit; how many. Not into `out.chunks_exact_mut`: the
+// library says nothing of a slice after it.
 pub fn fetch_frames(log: &[u8], h: u32, last_round: u32, out: &mut [u8]) -> usize
     requires { frame_size * last_round ≤ length log.now }
     ensures count { result ≡ min (length (above h (Log.chain log.now last_round))) (length out.old / frame_size) }
     ensures frames { out.new ≡ flatten (take result (above h (Log.chain log.now last_round))) ++ drop (frame_size * result) out.old }
 {
+    let start = FRAME * (last_low(log, h, last_round) as usize);
     let end = FRAME * (last_round as usize);
     let room = out.len() / FRAME;
     let mut count = 0;
-    for x in log[..end]
+    for x in log[start..end]
         .chunks_exact(FRAME)
         .filter(|x| is_tall(x, h))
         .take(room)
