@@ -36,7 +36,7 @@ fn joined(x: &[u8], before: u16) -> u16
 
 // The frames are of round r, and no signer is there twice. By a loop: `try_fold` would hand the mask on in an Option, of which `is_some`
 // alone is read. That signers have bits is asked here, below and in `add_blames`: a type that
-// holds it would be made once, by `judge_set`, and opened in its one caller.
+// holds it would be made once, by `judge_set`, and opened once, for `add_blames`.
 fn is_one_set(frames: &[u8], r: u32) -> bool
     requires { HaveBits (frames_of frames.now) }
     ensures { result ≡ Blame.one_set r 0 (frames_of frames.now) }

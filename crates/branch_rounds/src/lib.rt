@@ -20,7 +20,8 @@ fn gap(s: Setup, masks: &[u16], lo: u32, to: u32) -> Option<u32>
 }
 
 // The first round that the frames skip, the first of them on round a, and that is not certified. By a loop, here and in `keeps`: each
-// frame asks for the round of the one before, and `try_fold` would say it in an Err or a Some, the other way round than the answer.
+// frame asks for the round of the one before. `try_fold` would hand that on in a Result whose Err is the answer, in `keeps` in an Option
+// that stands for the bool.
 pub fn first_uncertified(s: Setup, masks: &[u16], a: u32, frames: &[u8]) -> Option<u32>
     ensures { result ≡ found (Branch.first_uncertified s masks.now a (frames_of frames.now)) }
 {

@@ -27,8 +27,9 @@ use Rattle.apollo.specs.Frame.{height}
 use Rattle.apollo.specs.Log.{slot, filled, store, chain}
 use Rattle.apollo.specs.Fetch.{above}
 use Rattle.apollo.proofs.Fetch.{above_append}
-use Rattle.log_heights.specs.Fetch.{is_tall}
-use Rattle.log_heights.proofs.Search.{slots, length_slots, YieldsList-from_log}
+use Rattle.std.specs.Option.{MatchOption}
+use Rattle.log_heights.specs.Fetch.{is_tall, last_low}
+use Rattle.log_heights.proofs.Search.{slots, length_slots, YieldsList-from_rest, First}
 use Rattle.log_heights.proofs.Walked.{next_item, all_items}
 
 -- whole frames
@@ -90,6 +91,47 @@ module _ (log : List ℕ) (h : ℕ) where
       above_append h (chain log r) (cond (filled (slot log (suc r))) (slot log (suc r) ∷ []) [])
       ∙ ap (λ (l : List (List ℕ)). up_to r ++ l) (above_one h (slot log (suc r)) (filled (slot log (suc r))))
 
+  -- none up to the last round before the first
+  low_none : (m lo : ℕ) → up_to lo ≡ [] → (last_low log h lo m ≤ lo + m) × (up_to (last_low log h lo m) ≡ [])
+  unfolding last_low
+  low_none zero lo e = (omega arith, e)
+  low_none (suc m) lo e = by (low_none m (lo + 1)) (is_tall (slot log (lo + 1)) h) refl
+    where
+      by : (up_to (lo + 1) ≡ [] → (last_low log h (lo + 1) m ≤ lo + 1 + m) × (up_to (last_low log h (lo + 1) m) ≡ []))
+          → (b : Bool) → is_tall (slot log (lo + 1)) h ≡ b
+          → (cond b lo (last_low log h (lo + 1) m) ≤ lo + suc m) × (up_to (cond b lo (last_low log h (lo + 1) m)) ≡ [])
+      by ih true t = (omega arith, e)
+      by ih false t =
+          let f : is_tall (slot log (suc lo)) h ≡ false = rw add-one at t in
+          let r : (last_low log h (lo + 1) m ≤ lo + 1 + m) × (up_to (last_low log h (lo + 1) m) ≡ []) =
+          ih (rw add-one (up_more lo ∙ rw (e, f))) in
+          (omega (arith, r.0), r.1)
+
+  pub last_low_lem : (c r : ℕ) → r ≡ last_low log h 0 c → (r ≤ c) × (up_to r ≡ [])
+  last_low_lem c r e =
+      let n : (last_low log h 0 c ≤ 0 + c) × (up_to (last_low log h 0 c) ≡ []) = low_none c 0 (unfold chain above in refl) in
+      rw e (omega (arith, n.0), n.1)
+
+  -- that round found among the slots
+  pub low_first : (lo n : ℕ) (r : Option ℕ) → First (λ x. is_tall x h ≡ true) (λ x. is_tall x h ≡ false) (slots log lo n) r
+      → MatchOption r (last_low log h lo n ≡ lo + n) (λ i. (i < n) × (last_low log h lo n ≡ lo + i))
+  unfolding last_low
+  low_first lo zero None e = omega arith
+  low_first lo (suc n) None e =
+      let f : last_low log h (lo + 1) n ≡ lo + 1 + n = low_first (lo + 1) n None (λ k d a b. e (suc k) d (omega arith) (omega arith)) in
+      rw (e 0 [] (omega arith) (omega arith)) (omega (arith, f))
+  low_first lo zero (Some i) e = absurd (omega (arith, e.0))
+  low_first lo (suc n) (Some zero) e = (omega arith, rw (e.1 []) (omega arith))
+  low_first lo (suc n) (Some (suc i)) e =
+      let f : (i < n) × (last_low log h (lo + 1) n ≡ lo + 1 + i) =
+      low_first (lo + 1) n (Some i) (omega (arith, e.0), e.1, λ k d a b. e.2 (suc k) d (omega arith) (omega arith)) in
+      (omega (arith, f.0), rw (e.2 0 [] (omega arith) (omega arith)) (omega (arith, f.1)))
+
+  pub low_told : (n : ℕ) (r : Option ℕ) → MatchOption r (last_low log h 0 n ≡ 0 + n) (λ i. (i < n) × (last_low log h 0 n ≡ 0 + i)) → n < 4294967296
+      → (q : ℕ) (Nothing : Type 0) (Thing : ℕ → Type 0) → MatchOption r Nothing Thing → (Nothing → q ≡ n) → ((i : ℕ) → Thing i → i < 4294967296 → q ≡ i) → q ≡ last_low log h 0 n
+  low_told n None f g q N S e a b = omega (arith, f, a e)
+  low_told n (Some i) f g q N S e a b = omega (arith, f.1, b i e (omega (arith, f.0)))
+
   first_or_not : (b : Bool) (x : List ℕ) (xs : List (List ℕ)) → cond b (x ∷ xs) xs ≡ cond b (x ∷ []) [] ++ xs
   first_or_not true x xs = refl
   first_or_not false x xs = refl
@@ -106,55 +148,57 @@ module _ (log : List ℕ) (h : ℕ) where
       rw (e, add-one, first_or_not (is_tall (slot log (suc lo)) h) (slot log (suc lo)) t)
       (sym (append_assoc (up_to lo) g t) ∙ ap (λ (l : List (List ℕ)). l ++ t) (sym (up_more lo)) ∙ i)
 
-  -- the slots that a walk up to round c takes, of which there is room for n
-  abbrev pub taken : (c n : ℕ) → List (List ℕ)
-  taken c n = take n (filter (λ x. is_tall x h) (slots log 0 c))
+  -- the slots that a walk from above round lo up to round c takes, of which there is room for n
+  abbrev pub taken : (lo c n : ℕ) → List (List ℕ)
+  taken lo c n = take n (filter (λ x. is_tall x h) (slots log lo (c - lo)))
 
-  taken_is : (c n : ℕ) → taken c n ≡ take n (above h (chain log c))
-  unfolding chain above
-  taken_is c n =
-      let e : 0 + c ≡ c = omega arith in
-      ap (take n) (tall_slots 0 c ∙ ap up_to e)
+  taken_is : (lo c n : ℕ) → lo ≤ c → up_to lo ≡ [] → taken lo c n ≡ take n (above h (chain log c))
+  taken_is lo c n l z =
+      let e : lo + (c - lo) ≡ c = omega arith in
+      ap (take n) (rw z at (tall_slots lo (c - lo)) ∙ ap up_to e)
 
-  taken_size : (c n : ℕ) (xs : List (List ℕ)) (x : List ℕ) (ys : List (List ℕ)) → frame_size * c ≤ length log → taken c n ≡ xs ++ (x ∷ ys) → length x ≡ frame_size
-  taken_size c n xs x ys g e =
-      whole_at xs x ys (rw e at (whole_take n _ (whole_filter (λ x. is_tall x h) _ (whole_slots log 0 c (omega arith)))))
+  module _ (lo c n : ℕ) (l : lo ≤ c) (g : frame_size * c ≤ length log) where
+    taken_size : (xs : List (List ℕ)) (x : List ℕ) (ys : List (List ℕ)) → taken lo c n ≡ xs ++ (x ∷ ys) → length x ≡ frame_size
+    taken_size xs x ys e =
+        whole_at xs x ys (rw e at (whole_take n _ (whole_filter (λ x. is_tall x h) _ (whole_slots log lo (c - lo) (omega arith)))))
 
-  taken_most : (c n : ℕ) → length (taken c n) ≤ c
-  taken_most c n =
-      let t : List (List ℕ) = filter (λ x. is_tall x h) (slots log 0 c) in
-      omega (arith, length-take n t, filter_most (λ x. is_tall x h) (slots log 0 c), length_slots log 0 c)
+    taken_most : length (taken lo c n) ≤ c
+    taken_most =
+        let t : List (List ℕ) = filter (λ x. is_tall x h) (slots log lo (c - lo)) in
+        omega (arith, length-take n t, filter_most (λ x. is_tall x h) (slots log lo (c - lo)), length_slots log lo (c - lo))
 
-  -- the iterator that gives them
-  pub tall_yields : {F : Type 0} {g : Mut F (Bor (Bor (List ℕ)) × Unit {0}) Bool} (c n : ℕ) → frame_size * c ≤ length log
-      → (k : ChunksExact ℕ) (f : Filter (ChunksExact ℕ) F) (w s : Take (Filter (ChunksExact ℕ) F)) → chunks_exact_rest k ≡ take (frame_size * c) log → chunks_exact_size k ≡ frame_size
-      → (p : F) → filter_source f ≡ k → filter_callee f ≡ p → take_source w ≡ f → take_count w ≡ n → s ≡ w
-      → ((x : Bor (List ℕ)) (b : Bool) (q : F) → CalledAt g p x b q → (q ≡ p) × (b ≡ is_tall x.now h))
-      → YieldsList (take_steps (filter_steps chunks_exact_steps g)) (λ x. x.now) s (taken c n)
-  tall_yields {F} {g} c n l k f w s e z p i j a b r d =
-      rw r
-      (YieldsList-from_take {s = w} n
-      (subst (λ o. YieldsList (filter_steps chunks_exact_steps g) (λ x. x.now) o (filter (λ x. is_tall x h) (slots log 0 c))) (sym a)
-      (YieldsList-from_filter {s = f} g (λ x. is_tall x h)
-      (subst (λ o. YieldsList chunks_exact_steps (λ x. x.now) o (slots log 0 c)) (sym i) (YieldsList-from_log log c l e z)) j d)) b)
+    -- the iterator that gives them
+    pub tall_yields : {F : Type 0} {g : Mut F (Bor (Bor (List ℕ)) × Unit {0}) Bool}
+        → (k : ChunksExact ℕ) (f : Filter (ChunksExact ℕ) F) (w s : Take (Filter (ChunksExact ℕ) F))
+        → chunks_exact_rest k ≡ take (frame_size * c - frame_size * lo) (drop (frame_size * lo) log) → chunks_exact_size k ≡ frame_size
+        → (p : F) → filter_source f ≡ k → filter_callee f ≡ p → take_source w ≡ f → take_count w ≡ n → s ≡ w
+        → ((x : Bor (List ℕ)) (b : Bool) (q : F) → CalledAt g p x b q → (q ≡ p) × (b ≡ is_tall x.now h))
+        → YieldsList (take_steps (filter_steps chunks_exact_steps g)) (λ x. x.now) s (taken lo c n)
+    tall_yields {F} {g = m} k f w s e z p i j a b r d =
+        rw r
+        (YieldsList-from_take {s = w} n
+        (subst (λ o. YieldsList (filter_steps chunks_exact_steps m) (λ x. x.now) o (filter (λ x. is_tall x h) (slots log lo (c - lo)))) (sym a)
+        (YieldsList-from_filter {s = f} m (λ x. is_tall x h)
+        (subst (λ o. YieldsList chunks_exact_steps (λ x. x.now) o (slots log lo (c - lo))) (sym i) (YieldsList-from_rest log lo c l g e z)) j d)) b)
 
-  -- an iterator that gives them: the next one, and the end
-  module _ {S : Type 0} {steps : S → Option (Bor (List ℕ)) → S → Type 0} {s : S} (c n : ℕ) (g : frame_size * c ≤ length log)
-      (xs : List (Bor (List ℕ))) (t u : S) (y : Yields steps s xs t) (all : YieldsList steps (λ x. x.now) s (taken c n)) where
-    pub taken_next : (x : Bor (List ℕ)) → steps t (Some x) u → (length x.now ≡ frame_size) × (length xs < c)
-    taken_next x p =
-        let e = next_item xs t u x all y p in
-        let f : List (List ℕ) = map (λ x. x.now) xs in (
-          taken_size c n f x.now e.0 g e.1,
-          omega (arith, ap length e.1, taken_most c n, length-append f (x.now ∷ e.0), length-map xs (λ x. x.now)),
-        )
+    -- an iterator that gives them: the next one, and the end
+    module _ {S : Type 0} {steps : S → Option (Bor (List ℕ)) → S → Type 0} {s : S}
+        (xs : List (Bor (List ℕ))) (t u : S) (y : Yields steps s xs t) (all : YieldsList steps (λ x. x.now) s (taken lo c n)) where
+      pub taken_next : (x : Bor (List ℕ)) → steps t (Some x) u → (length x.now ≡ frame_size) × (length xs < c)
+      taken_next x p =
+          let e = next_item xs t u x all y p in
+          let f : List (List ℕ) = map (λ x. x.now) xs in (
+            taken_size f x.now e.0 e.1,
+            omega (arith, ap length e.1, taken_most, length-append f (x.now ∷ e.0), length-map xs (λ x. x.now)),
+          )
 
-    pub taken_all : (k : ℕ) → k ≡ length xs → steps t None u → (k ≡ min (length (above h (chain log c))) n) × (map (λ x. x.now) xs ≡ take k (above h (chain log c)))
-    taken_all k q p =
-        let e : take n (above h (chain log c)) ≡ map (λ x. x.now) xs = sym (taken_is c n) ∙ all_items xs t u all y p in
-        let l : k ≡ min n (length (above h (chain log c))) =
-        q ∙ sym (length-map xs (λ x. x.now)) ∙ ap length (sym e) ∙ length-take n (above h (chain log c)) in
-        (omega (arith, l), sym e ∙ sym (take_min n (above h (chain log c))) ∙ ap (λ (j : ℕ). take j (above h (chain log c))) (sym l))
+      pub taken_all : up_to lo ≡ [] → (k : ℕ) → k ≡ length xs → steps t None u
+          → (k ≡ min (length (above h (chain log c))) n) × (map (λ x. x.now) xs ≡ take k (above h (chain log c)))
+      taken_all z k q p =
+          let e : take n (above h (chain log c)) ≡ map (λ x. x.now) xs = sym (taken_is lo c n l z) ∙ all_items xs t u all y p in
+          let m : k ≡ min n (length (above h (chain log c))) =
+          q ∙ sym (length-map xs (λ x. x.now)) ∙ ap length (sym e) ∙ length-take n (above h (chain log c)) in
+          (omega (arith, m), sym e ∙ sym (take_min n (above h (chain log c))) ∙ ap (λ (j : ℕ). take j (above h (chain log c))) (sym m))
 
 -- the frames xs at the front of o
 abbrev pub Front : (o : List ℕ) (xs : List (List ℕ)) (out : List ℕ) → Type 0

@@ -2,7 +2,7 @@
 use mathlib.Core.Path.{◌≡◌, refl, sym, ap, ◌∙◌}
 use mathlib.Core.Bool.{true, false}
 use mathlib.Core.List.{List, [], ◌∷◌, ◌++◌}
-use Prim.Native.Nat.{ℕ, zero, suc, ◌+◌, ◌*◌, ◌≤◌, ◌<◌}
+use Prim.Native.Nat.{ℕ, zero, suc, ◌+◌, ◌-◌, ◌*◌, ◌≤◌, ◌<◌}
 use native.Mathlib.Numerals.{add-one}
 use native.Mathlib.Omega.{arith}
 use lib.ListN.{length, take, drop, length-take, length-drop, length-append}
@@ -70,6 +70,15 @@ pub YieldsList-from_log : {s : ChunksExact ℕ} (log : List ℕ) (c : ℕ) → f
     → chunks_exact_size s ≡ frame_size → YieldsList chunks_exact_steps (λ x. x.now) s (slots log 0 c)
 unfolding bytes
 YieldsList-from_log {s} log c g e h = record { runs = gives_slots log 0 c s (omega arith) h e }
+
+-- those above round lo
+pub YieldsList-from_rest : {s : ChunksExact ℕ} (log : List ℕ) (lo c : ℕ) → lo ≤ c → frame_size * c ≤ length log
+    → chunks_exact_rest s ≡ take (frame_size * c - frame_size * lo) (drop (frame_size * lo) log) → chunks_exact_size s ≡ frame_size
+    → YieldsList chunks_exact_steps (λ x. x.now) s (slots log lo (c - lo))
+unfolding bytes
+YieldsList-from_rest {s} log lo c l g e h =
+    let q : frame_size * c - frame_size * lo ≡ frame_size * (c - lo) = omega arith in
+    record { runs = gives_slots log lo (c - lo) s (omega arith) h (e ∙ ap (λ (k : ℕ). take k (drop (frame_size * lo) log)) q) }
 
 -- what `position` gives
 abbrev pub First : {X : Type 0} (Yes No : X → Type 0) (xs : List X) → Option ℕ → Type 0

@@ -1,5 +1,5 @@
 -- `call_read::find` meets its contract: 2, 15, and taken.
-use Rattle.std.proofs.Common.{◌∙◌, refl, ap}
+use Rattle.std.proofs.Common.{◌∙◌, refl, ap, arith}
 use Rattle.std.specs.Option.{ok_or}
 use Rattle.std.proofs.lemmas.Result.{err_from_is_err_and}
 use Rattle.apollo.specs.declared.Part.{Part}
@@ -25,6 +25,11 @@ returns-in_err-r c =
     let e =
     read_absent _ _ _ _ (replica_test _ _ c.valid_record.ensures c.valid_log.ensures) c.if-not-valid_record-valid_log.false _ refl q.1 in
     rw (p.1, p.2, q.0) record { part = e; number = ap (λ (p : Part). p.number) e }
+
+pub entry_part-requires : goal.entry_part-requires
+entry_part-requires c =
+    let q = the_round _ _ _ (c.in_ok-r.ensures.value ∙ ap (λ o. ok_or o Absent) c.lowest.ensures) in
+    omega (arith, q.0, q.1)
 
 pub returns : goal.returns
 returns c =
