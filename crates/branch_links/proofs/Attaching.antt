@@ -44,9 +44,11 @@ module _ (log x : List ℕ) where
   genesis_told false = refl
 
   -- by what a search of the rounds below e finds, from there downwards, and what is answered then
-  pub attach_told : (e : ℕ) (r q : Option ℕ) → FirstBack 1 e (Attaches true) (Attaches false) r → (N : Type 0) (S : ℕ → Type 0) → MatchOption r N S
+  pub attach_told : (e : ℕ) (r q : Option ℕ) → FirstBack 1 e (Attaches true) (Attaches false) r
+      → (N : Type 0) (S : ℕ → Type 0) → MatchOption r N S
       → (N → q ≡ cond (linked genesis x) (Some 0) None) → ((i : ℕ) → S i → q ≡ Some i) → attach_of q ≡ attach log x (e - 1)
-  attach_told e None q h N S m a b = ap attach_of (a m) ∙ genesis_told (linked genesis x) ∙ attach_none (e - 1) (λ k c d. h k c (omega arith))
+  attach_told e None q h N S m a b =
+      ap attach_of (a m) ∙ genesis_told (linked genesis x) ∙ attach_none (e - 1) (λ k c d. h k c (omega arith))
   attach_told e (Some i) q h N S m a b =
       ap attach_of (b i m) ∙ attach_some (e - 1) i h.0 (omega (arith, h.1)) h.2 (λ k c d. h.3 k c (omega (arith, h.0, h.1)))
 

@@ -57,18 +57,25 @@ module _ (No : ℕ → Type 0) (a n i : ℕ) (h : AllWithin No (down a n) 0 i) (
 abbrev pub FirstBack : (a e : ℕ) (Yes No : ℕ → Type 0) → Option ℕ → Type 0
 FirstBack a e Yes No o = MatchOption o ((k : ℕ) → a ≤ k → k < e → No k) (λ i. (a ≤ i) × (i < e) × Yes i × ((k : ℕ) → i < k → k < e → No k))
 
-module _ {F : Type 0} {g : Mut F (Bor ℕ × Unit {0}) Bool} (s u : Rev (Range ℕ)) (f : F) (r : Option ℕ) (Yes No : ℕ → Type 0) (q : Range ℕ) (is : rev_source s ≡ q) where
-  pub first_from_back : (xs : List ℕ) × (j : F) × YieldsThen back s xs r u × FoldsTo (λ p x q. CalledAt g p x false q) f xs j × MatchOption r ⊤ (λ x. (h : F) × CalledAt g j x true h)
-      → ((x : ℕ) (q : F) → CalledAt g f x true q → Yes x) → ((x : ℕ) (q : F) → CalledAt g f x false q → (q ≡ f) × No x) → FirstBack q.start q.end Yes No r
-  first_from_back d yes' no' = by r (first_from_find {steps = back} {s = s} u f r Yes No d (record { runs = gives_down q.start n s (ap (λ (k : Range ℕ). k.start) is) (ap (λ (k : Range ℕ). k.end - q.start) is) }) yes' no')
+module _ {F : Type 0} {g : Mut F (Bor ℕ × Unit {0}) Bool} (s u : Rev (Range ℕ)) (f : F) (r : Option ℕ) (Yes No : ℕ → Type 0)
+    (q : Range ℕ) (is : rev_source s ≡ q) where
+  pub first_from_back : (xs : List ℕ) × (j : F) × YieldsThen back s xs r u
+      × FoldsTo (λ p x q. CalledAt g p x false q) f xs j × MatchOption r ⊤ (λ x. (h : F) × CalledAt g j x true h)
+      → ((x : ℕ) (q : F) → CalledAt g f x true q → Yes x)
+      → ((x : ℕ) (q : F) → CalledAt g f x false q → (q ≡ f) × No x) → FirstBack q.start q.end Yes No r
+  first_from_back d yes' no' =
+      let e = gives_down q.start n s (ap (λ (k : Range ℕ). k.start) is) (ap (λ (k : Range ℕ). k.end - q.start) is) in
+      by r (first_from_find {steps = back} {s = s} u f r Yes No d (record { runs = e }) yes' no')
     where
       n : ℕ
       n = q.end - q.start
 
       by : (o : Option ℕ) → MatchOption o (AllWithin No (down q.start n) 0 (length (down q.start n)))
-          (λ x. Yes x × (i : ℕ) × (i < length (down q.start n)) × HoldsAt (λ y. y ≡ x) (down q.start n) i × AllWithin No (down q.start n) 0 i)
+          (λ x. Yes x × (i : ℕ) × (i < length (down q.start n)) × HoldsAt (λ y. y ≡ x) (down q.start n) i
+          × AllWithin No (down q.start n) 0 i)
           → FirstBack q.start q.end Yes No o
-      by None h = λ k a b. none_in No q.start n _ h (omega (arith, length_down q.start n)) k (omega (arith, length_down q.start n)) (omega arith)
+      by None h = λ k a b.
+          none_in No q.start n _ h (omega (arith, length_down q.start n)) k (omega (arith, length_down q.start n)) (omega arith)
       by (Some x) h =
           let l : h.1 < q.end - q.start = omega (arith, h.2, length_down q.start n) in
           let at : x + h.1 + 1 ≡ q.start + (q.end - q.start) = omega (arith, sym (h.3 0), down_at q.start n h.1 0 l) in

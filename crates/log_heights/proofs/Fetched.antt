@@ -127,8 +127,10 @@ module _ (log : List ℕ) (h : ℕ) where
       low_first (lo + 1) n (Some i) (omega (arith, e.0), e.1, λ k d a b. e.2 (suc k) d (omega arith) (omega arith)) in
       (omega (arith, f.0), rw (e.2 0 [] (omega arith) (omega arith)) (omega (arith, f.1)))
 
-  pub low_told : (n : ℕ) (r : Option ℕ) → MatchOption r (last_low log h 0 n ≡ 0 + n) (λ i. (i < n) × (last_low log h 0 n ≡ 0 + i)) → n < 4294967296
-      → (q : ℕ) (Nothing : Type 0) (Thing : ℕ → Type 0) → MatchOption r Nothing Thing → (Nothing → q ≡ n) → ((i : ℕ) → Thing i → i < 4294967296 → q ≡ i) → q ≡ last_low log h 0 n
+  pub low_told : (n : ℕ) (r : Option ℕ)
+      → MatchOption r (last_low log h 0 n ≡ 0 + n) (λ i. (i < n) × (last_low log h 0 n ≡ 0 + i)) → n < 4294967296
+      → (q : ℕ) (Nothing : Type 0) (Thing : ℕ → Type 0) → MatchOption r Nothing Thing
+      → (Nothing → q ≡ n) → ((i : ℕ) → Thing i → i < 4294967296 → q ≡ i) → q ≡ last_low log h 0 n
   low_told n None f g q N S e a b = omega (arith, f, a e)
   low_told n (Some i) f g q N S e a b = omega (arith, f.1, b i e (omega (arith, f.0)))
 
@@ -177,9 +179,11 @@ module _ (log : List ℕ) (h : ℕ) where
     tall_yields {F} {g = m} k f w s e z p i j a b r d =
         rw r
         (YieldsList-from_take {s = w} n
-        (subst (λ o. YieldsList (filter_steps chunks_exact_steps m) (λ x. x.now) o (filter (λ x. is_tall x h) (slots log lo (c - lo)))) (sym a)
+        (subst
+        (λ o. YieldsList (filter_steps chunks_exact_steps m) (λ x. x.now) o (filter (λ x. is_tall x h) (slots log lo (c - lo)))) (sym a)
         (YieldsList-from_filter {s = f} m (λ x. is_tall x h)
-        (subst (λ o. YieldsList chunks_exact_steps (λ x. x.now) o (slots log lo (c - lo))) (sym i) (YieldsList-from_rest log lo c l g e z)) j d)) b)
+        (subst (λ o. YieldsList chunks_exact_steps (λ x. x.now) o (slots log lo (c - lo))) (sym i)
+        (YieldsList-from_rest log lo c l g e z)) j d)) b)
 
     -- an iterator that gives them: the next one, and the end
     module _ {S : Type 0} {steps : S → Option (Bor (List ℕ)) → S → Type 0} {s : S}
@@ -221,14 +225,16 @@ front_next o xs out x c l =
     let u : take (frame_size * (k + 1 - 1)) out ≡ f = rw (y, c.1) (take_at f (drop (frame_size * k) o) (length f) refl) in
     let p : frame_size * k + frame_size ≡ length f + frame_size = omega (arith, c.0) in
     let v : drop (frame_size * (k + 1)) out ≡ drop (frame_size * (k + 1)) o =
-    rw (z, c.1) (drop-append-add f (drop (frame_size * k) o) frame_size ∙ (drop-drop frame_size (frame_size * k) o ∙ ap (λ (n : ℕ). drop n o) p)) in
+    rw (z, c.1)
+    (drop-append-add f (drop (frame_size * k) o) frame_size ∙ (drop-drop frame_size (frame_size * k) o ∙ ap (λ (n : ℕ). drop n o) p)) in
     (rw (w, n, length-append, l) (omega (arith, c.0)), rw (u, v, w, n) (sym (append_assoc f x (drop (frame_size * (k + 1)) o))))
 
 module _ (o : List ℕ) (xs : List (Bor (List ℕ))) (k : ℕ) (e : k ≡ length xs) (out : List ℕ) (c : Front o (map (λ x. x.now) xs) out) where
   long : k ≡ length (map (λ x. x.now) xs)
   long = e ∙ sym (length-map xs (λ x. x.now))
 
-  pub front_more : (x : Bor (List ℕ)) (y : List ℕ) → length x.now ≡ frame_size → y ≡ store out (k + 1) x.now → Front o (map (λ x. x.now) (xs ++ (x ∷ []))) y
+  pub front_more : (x : Bor (List ℕ)) (y : List ℕ) → length x.now ≡ frame_size → y ≡ store out (k + 1) x.now
+      → Front o (map (λ x. x.now) (xs ++ (x ∷ []))) y
   front_more x y l f =
       let s : store out (k + 1) x.now ≡ store out (length (map (λ x. x.now) xs) + 1) x.now = ap (λ (n : ℕ). store out (n + 1) x.now) long in
       rw (map-append (λ x. x.now) xs (x ∷ []), f, s) (front_next o (map (λ x. x.now) xs) out x.now c l)

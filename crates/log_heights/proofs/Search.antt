@@ -41,7 +41,8 @@ module _ (log : List ℕ) where
   unfolding bytes slot
   first_slot lo n x t e h =
       rw add-one
-      (sym (take_at x t _ h) ∙ ap (take frame_size) (sym e) ∙ take-take frame_size (frame_size * suc n) (drop (frame_size * lo) log) (omega arith))
+      (sym (take_at x t _ h) ∙ ap (take frame_size) (sym e)
+      ∙ take-take frame_size (frame_size * suc n) (drop (frame_size * lo) log) (omega arith))
 
   other_slots : (lo n : ℕ) (x t : List ℕ) → bytes lo (suc n) ≡ x ++ t → length x ≡ frame_size → t ≡ bytes (lo + 1) n
   unfolding bytes
@@ -53,10 +54,10 @@ module _ (log : List ℕ) where
       ∙ drop-take frame_size (frame_size * n) (drop (frame_size * lo) log)
       ∙ ap (take (frame_size * n)) (drop-drop frame_size (frame_size * lo) log ∙ ap (λ (k : ℕ). drop k log) q)
 
-  gives_slots : (lo n : ℕ) (s : ChunksExact ℕ) → frame_size * (lo + n) ≤ length log → chunks_exact_size s ≡ frame_size → chunks_exact_rest s ≡ bytes lo n
-      → AlwaysYields chunks_exact_steps (λ x. x.now) s (slots log lo n)
+  gives_slots : (lo n : ℕ) (s : ChunksExact ℕ) → frame_size * (lo + n) ≤ length log → chunks_exact_size s ≡ frame_size
+      → chunks_exact_rest s ≡ bytes lo n → AlwaysYields chunks_exact_steps (λ x. x.now) s (slots log lo n)
   gives_slots lo zero s g h e = λ x j p.
-      omega (arith, h, ap length e, bytes_length lo 0 g, p.1.0, p.1.1, ap length p.1.0, length-append x.now (chunks_exact_rest j))
+      omega (arith, h, ap length e, bytes_length lo 0 g, p.1.1, ap length p.1.0, length-append x.now (chunks_exact_rest j))
   gives_slots lo (suc n) s g h e = (
     (λ j p. omega (arith, h, ap length e, bytes_length lo (suc n) g, p.1.0)),
     λ x j p. (
@@ -66,8 +67,9 @@ module _ (log : List ℕ) where
   )
 
 -- those up to round c
-pub YieldsList-from_log : {s : ChunksExact ℕ} (log : List ℕ) (c : ℕ) → frame_size * c ≤ length log → chunks_exact_rest s ≡ take (frame_size * c) log
-    → chunks_exact_size s ≡ frame_size → YieldsList chunks_exact_steps (λ x. x.now) s (slots log 0 c)
+pub YieldsList-from_log : {s : ChunksExact ℕ} (log : List ℕ) (c : ℕ) → frame_size * c ≤ length log
+    → chunks_exact_rest s ≡ take (frame_size * c) log → chunks_exact_size s ≡ frame_size
+    → YieldsList chunks_exact_steps (λ x. x.now) s (slots log 0 c)
 unfolding bytes
 YieldsList-from_log {s} log c g e h = record { runs = gives_slots log 0 c s (omega arith) h e }
 

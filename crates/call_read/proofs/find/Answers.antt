@@ -35,5 +35,6 @@ pub returns : goal.returns
 returns c =
     let q = the_round _ _ _ (c.in_ok-r.ensures.value ∙ ap (λ o. ok_or o Absent) c.lowest.ensures) in
     let e =
-    read_found _ _ _ _ (replica_test _ _ c.valid_record.ensures c.valid_log.ensures) c.if-not-valid_record-valid_log.false _ q.0 (rw q.0 q.1) in
+    read_found _ _ _ _ (replica_test _ _ c.valid_record.ensures c.valid_log.ensures) c.if-not-valid_record-valid_log.false _ q.0
+    (rw q.0 q.1) in
     record { part = c.entry_part.ensures ∙ e; number = ap (λ (p : Part). p.number) e }

@@ -21,7 +21,8 @@ overflow_add-count c =
     taken_next c.args.log.now c.args.h _ c.args.last_round _ w.0 c.requires c.loop-x.yielded c.loop-x.x-iterator c.next.new.self
     c.loop-x.yielded_by
     (tall_yields c.args.log.now c.args.h _ c.args.last_round _ w.0 c.requires _ _ _ _ c.chunks_exact.ensures.rest
-    c.chunks_exact.ensures.size _ c.filter.ensures.source c.filter.ensures.closure c.take-x-items.ensures.source c.take-x-items.ensures.count
+    c.chunks_exact.ensures.size _ c.filter.ensures.source c.filter.ensures.closure c.take-x-items.ensures.source
+    c.take-x-items.ensures.count
     c.into_iter-x-iterator.ensures.into_iter_gives (λ x b q e. search rules)) c.in-Some.x c.in-Some.ensures.steps in
     omega (arith, e.1, c.loop-x.invariant.count)
 
@@ -32,7 +33,8 @@ store-requires c =
     taken_next c.args.log.now c.args.h _ c.args.last_round _ w.0 c.requires c.loop-x.yielded c.loop-x.x-iterator c.next.new.self
     c.loop-x.yielded_by
     (tall_yields c.args.log.now c.args.h _ c.args.last_round _ w.0 c.requires _ _ _ _ c.chunks_exact.ensures.rest
-    c.chunks_exact.ensures.size _ c.filter.ensures.source c.filter.ensures.closure c.take-x-items.ensures.source c.take-x-items.ensures.count
+    c.chunks_exact.ensures.size _ c.filter.ensures.source c.filter.ensures.closure c.take-x-items.ensures.source
+    c.take-x-items.ensures.count
     c.into_iter-x-iterator.ensures.into_iter_gives (λ x b q e. search rules)) c.in-Some.x c.in-Some.ensures.steps in
     (omega arith, omega (arith, c.loop-x.invariant.room, c.in-Some.ensures.steps.1, c.loop-x.auto.out), e.0)
 
@@ -43,7 +45,8 @@ loop-x-preserved c =
     taken_next c.args.log.now c.args.h _ c.args.last_round _ w.0 c.requires c.loop-x.yielded c.loop-x.x-iterator c.next.new.self
     c.loop-x.yielded_by
     (tall_yields c.args.log.now c.args.h _ c.args.last_round _ w.0 c.requires _ _ _ _ c.chunks_exact.ensures.rest
-    c.chunks_exact.ensures.size _ c.filter.ensures.source c.filter.ensures.closure c.take-x-items.ensures.source c.take-x-items.ensures.count
+    c.chunks_exact.ensures.size _ c.filter.ensures.source c.filter.ensures.closure c.take-x-items.ensures.source
+    c.take-x-items.ensures.count
     c.into_iter-x-iterator.ensures.into_iter_gives (λ x b q e. search rules)) c.in-Some.x c.in-Some.ensures.steps in
     let v = c.loop-x.invariant in
     record {
@@ -59,7 +62,8 @@ returns-clause-count c =
     taken_all c.args.log.now c.args.h _ c.args.last_round _ w.0 c.requires c.loop-x.yielded c.loop-x.x-iterator c.next.new.self
     c.loop-x.yielded_by
     (tall_yields c.args.log.now c.args.h _ c.args.last_round _ w.0 c.requires _ _ _ _ c.chunks_exact.ensures.rest
-    c.chunks_exact.ensures.size _ c.filter.ensures.source c.filter.ensures.closure c.take-x-items.ensures.source c.take-x-items.ensures.count
+    c.chunks_exact.ensures.size _ c.filter.ensures.source c.filter.ensures.closure c.take-x-items.ensures.source
+    c.take-x-items.ensures.count
     c.into_iter-x-iterator.ensures.into_iter_gives (λ x b q e. search rules)) w.1 _ c.loop-x.invariant.count c.in-None.ensures.steps in
     e.0
 
@@ -70,6 +74,7 @@ returns-clause-frames c =
     taken_all c.args.log.now c.args.h _ c.args.last_round _ w.0 c.requires c.loop-x.yielded c.loop-x.x-iterator c.next.new.self
     c.loop-x.yielded_by
     (tall_yields c.args.log.now c.args.h _ c.args.last_round _ w.0 c.requires _ _ _ _ c.chunks_exact.ensures.rest
-    c.chunks_exact.ensures.size _ c.filter.ensures.source c.filter.ensures.closure c.take-x-items.ensures.source c.take-x-items.ensures.count
+    c.chunks_exact.ensures.size _ c.filter.ensures.source c.filter.ensures.closure c.take-x-items.ensures.source
+    c.take-x-items.ensures.count
     c.into_iter-x-iterator.ensures.into_iter_gives (λ x b q e. search rules)) w.1 _ c.loop-x.invariant.count c.in-None.ensures.steps in
     front_all _ _ _ c.loop-x.invariant.count _ c.loop-x.invariant.front _ e.1

@@ -11,6 +11,7 @@ returns c =
     let f =
     low_first _ _ _ _ _
     (IsFirst-from_position _ _ c.position.result (λ x. is_tall x c.args.h ≡ true) (λ x. is_tall x c.args.h ≡ false)
-    c.position.ensures.ran (YieldsList-from_log c.args.log.now c.args.last_round c.requires c.chunks_exact.ensures.rest c.chunks_exact.ensures.size)
+    c.position.ensures.ran
+    (YieldsList-from_log c.args.log.now c.args.last_round c.requires c.chunks_exact.ensures.rest c.chunks_exact.ensures.size)
     (λ x q e. search rules) (λ x q e. search rules)) in
     low_told _ _ _ _ f (omega arith) _ _ _ c.map_or.ensures (λ e. e) (λ i e l. search rules)

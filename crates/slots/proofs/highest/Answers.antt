@@ -12,7 +12,8 @@ find-requires-clause-callable c = serves_from_Range (λ x q e. search rules) (λ
 abbrev Below : (log : List ℕ) (limit : ℕ) → Bool → ℕ → Type 0
 Below log limit b k = Log.filled (Log.slot log (limit - k)) ≡ b
 
-some : (c : goal.In-Some) → (0 ≤ c.in-Some.passed) × (c.in-Some.passed < c.args.limit) × Below c.args.log.now c.args.limit true c.in-Some.passed
+some : (c : goal.In-Some) → (0 ≤ c.in-Some.passed) × (c.in-Some.passed < c.args.limit)
+    × Below c.args.log.now c.args.limit true c.in-Some.passed
     × ((k : ℕ) → 0 ≤ k → k < c.in-Some.passed → Below c.args.log.now c.args.limit false k)
 some c =
     rw c.in-Some.is at
