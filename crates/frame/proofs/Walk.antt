@@ -1,14 +1,16 @@
 -- Whole frames one by one, as `chunks_exact` gives them: x comes off the front of the bytes s, and leaves t. Assumes nothing.
 use mathlib.Core.Path.{◌≡◌, sym, ap, ◌∙◌}
 use mathlib.Core.List.{List, [], ◌∷◌, ◌++◌}
-use Prim.Native.Nat.{ℕ, suc, ◌+◌, ◌*◌, ◌/◌, ◌≤◌, ◌<◌}
+use Prim.Native.Nat.{ℕ, suc, ◌/◌, ◌<◌}
 use native.Mathlib.Omega.{arith}
 use lib.ListN.{length, take, drop}
-use lib.Seq.{drop-drop}
-use Rattle.std.proofs.Common.{length-append, length-drop}
+use Rattle.std.specs.Iterator.{AlwaysYields}
+use Rattle.std.specs.Slice.Iter.{chunks_exact_rest, chunks_exact_size, chunks_exact_steps}
+use Rattle.std.specs.declared.slice.ChunksExact.{ChunksExact}
+use Rattle.std.proofs.Common.{length-append}
+use Rattle.std.proofs.lemmas.Iterator.{YieldsList}
 use Rattle.std.proofs.lemmas.List.{take_at, drop_at}
 use Rattle.apollo.specs.Size.{frame_size}
-use Rattle.apollo.specs.Bytes.{part}
 use Rattle.apollo.specs.Frame.{frames, frames_of}
 
 -- a frame more
@@ -27,15 +29,19 @@ frames_done s h =
     let n : length s / frame_size ≡ 0 = omega arith in
     rw n
 
--- x is frame i of b, where s is what lies from there on
-module _ (b s x t : List ℕ) (i : ℕ) (at : s ≡ drop (frame_size * i) b) (e : s ≡ x ++ t) (h : length x ≡ frame_size) where
-  pub frame_there : frame_size * i + frame_size ≤ length b
-  frame_there = omega (arith, length-append x t, ap length e, ap length at, length-drop (frame_size * i) b)
+-- all of them, as `chunks_exact` gives them
+frames_given : (xs : List (List ℕ)) (s : ChunksExact ℕ) → chunks_exact_size s ≡ frame_size → frames_of (chunks_exact_rest s) ≡ xs
+    → AlwaysYields chunks_exact_steps (λ x. x.now) s xs
+frames_given [] s h e = λ x j p.
+    let m : frames_of (chunks_exact_rest s) ≡ x.now ∷ frames_of (chunks_exact_rest j) = frames_more _ _ _ p.1.0 (p.1.1 ∙ h) in
+    omega (arith, ap length (sym e ∙ m))
+frames_given (y ∷ ys) s h e = (
+  (λ j p. let m : frames_of (chunks_exact_rest s) ≡ [] = frames_done _ (omega (arith, p.1.0, h)) in omega (arith, ap length (sym e ∙ m))),
+  λ x j p.
+      let m : frames_of (chunks_exact_rest s) ≡ x.now ∷ frames_of (chunks_exact_rest j) = frames_more _ _ _ p.1.0 (p.1.1 ∙ h) in
+      (cc, frames_given ys j (p.0 ∙ h) cc),
+)
 
-  pub frame_is : x ≡ part b (frame_size * i) frame_size
-  frame_is = sym (take_at x t _ h) ∙ ap (take frame_size) (sym e ∙ at)
-
-  pub frame_next : t ≡ drop (frame_size * (i + 1)) b
-  frame_next =
-      let p : frame_size * i + frame_size ≡ frame_size * (i + 1) = omega arith in
-      sym (drop_at x t _ h) ∙ ap (drop frame_size) (sym e ∙ at) ∙ drop-drop frame_size (frame_size * i) b ∙ ap (λ (k : ℕ). drop k b) p
+pub YieldsList-from_frames : {s : ChunksExact ℕ} (b : List ℕ) → chunks_exact_rest s ≡ b → chunks_exact_size s ≡ frame_size
+    → YieldsList chunks_exact_steps (λ x. x.now) s (frames_of b)
+YieldsList-from_frames {s} b e h = record { runs = frames_given (frames_of b) s h (ap frames_of e) }

@@ -31,15 +31,8 @@ fn put_own_block(r: Replica, log: &[u8], height: u32, entry: &[u8], out: &mut [u
         (Frame.digest (Log.slot log.now r.tip_round.0)) entry.now
         ++ drop frame_size out.old }
 {
-    let round = r.round.0;
-    let tip = r.tip_round.0;
-    if tip == 0 {
-        let genesis = [0u8; 32];
-        frame_writing::put_block(out, r.id, round, height, &genesis, entry);
-        return;
-    }
-    let parent = slices::part(slots::slot(log, tip), CHECK, 32);
-    frame_writing::put_block(out, r.id, round, height, parent, entry);
+    let parent = slices::part(slots::slot(log, r.tip_round.0), CHECK, 32);
+    frame_writing::put_block(out, r.id, r.round.0, height, parent, entry);
 }
 
 // The block for R is written to the front of out, stored and made the tip.

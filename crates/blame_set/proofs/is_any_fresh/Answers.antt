@@ -1,7 +1,8 @@
 -- `blame_set::is_any_fresh` meets its contract. By the law of `any`, over the frames.
 use Rattle.std.proofs.Common.{rules, ◌∙◌}
 use Rattle.std.proofs.lemmas.Iterator.Search.{any_from_yields_List}
-use Rattle.blame_set.proofs.Each.{YieldsList-from_frames, fresh_any}
+use Rattle.frame.proofs.Walk.{YieldsList-from_frames}
+use Rattle.blame_set.proofs.Each.{fresh_any}
 use Rattle.blame_set.proofs.is_any_fresh.Goals as goal
 
 pub returns : goal.returns
