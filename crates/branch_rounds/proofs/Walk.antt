@@ -2,13 +2,12 @@
 use mathlib.Core.Path.{◌≡◌, refl, sym}
 use mathlib.Core.Bool.{Bool, true, false, cond}
 use mathlib.Core.List.{List, ◌++◌}
-use Prim.Native.Nat.{ℕ, zero, suc, ◌+◌, ◌-◌, ◌≤◌, ◌<◌, min}
+use Prim.Native.Nat.{ℕ, suc, ◌+◌, ◌-◌, ◌≤◌, ◌<◌, min}
 use native.Mathlib.Omega.{arith}
-use lib.Dec.{eqb}
+use lib.Dec.{leb}
 use lib.ListN.{length}
-use borrow.Author.Tests.{eq-eqb, ne_eqb, eqb-true, eqb-false}
-use Rattle.std.specs.Prelude.{Option, Some, None}
-use Rattle.std.specs.Option.{MatchOption}
+use borrow.Author.Tests.{eq-eqb, ne_eqb, leb-true, leb-false}
+use Rattle.std.specs.Prelude.{Some, None}
 use Rattle.apollo.specs.Size.{frame_size}
 use Rattle.apollo.specs.declared.Setup.{Setup}
 use Rattle.apollo.specs.Frame.{round, frames_of}
@@ -19,39 +18,47 @@ use Rattle.apollo.proofs.Found.{found_none, found_some, none_found, some_found}
 use Rattle.frame.proofs.Walk.{frames_more, frames_done}
 
 module _ (s : Setup) (masks : List ℕ) where
-  -- of the k rounds above lo all are certified, and one is the first that is not
-  pub gap_none : (lo k : ℕ) → ((r : ℕ) → lo < r → r < lo + k + 1 → certified s masks r ≡ true) → gap s masks lo k ≡ 0
+  -- the rounds from p on to, not including, `to`, in place of those above lo: at the first of them, behind one that is certified, at one that
+  -- is not, and behind the last
+  pub gap_start : (lo to p : ℕ) → p ≡ min (lo + 1) 4294967295 → to < 4294967296 → gap s masks (p - 1) (to - p) ≡ gap s masks lo (to - lo - 1)
   unfolding gap
-  gap_none lo zero h = refl
-  gap_none lo (suc k) h = rw (h (lo + 1) (omega arith) (omega arith)) (gap_none (lo + 1) k (λ r a b. h r (omega arith) (omega arith)))
-
-  pub gap_some : (lo k n : ℕ) → lo < n → n < lo + k + 1 → certified s masks n ≡ false
-      → ((r : ℕ) → lo < r → r < n → certified s masks r ≡ true)
-      → gap s masks lo k ≡ n
-  unfolding gap
-  gap_some lo zero n a b c h = absurd (omega arith)
-  gap_some lo (suc k) n a b c h =
-      by (eqb n (lo + 1)) refl (λ d. gap_some (lo + 1) k n d (omega arith) c (λ r f g. h r (omega arith) g))
+  gap_start lo to p e f = by (leb (lo + 1) 4294967295) refl
     where
-      by : (e : Bool) → eqb n (lo + 1) ≡ e → (lo + 1 < n → gap s masks (lo + 1) k ≡ n)
-          → cond (certified s masks (lo + 1)) (gap s masks (lo + 1) k) (lo + 1) ≡ n
-      by true e f =
-          let q : n ≡ lo + 1 = eqb-true n (lo + 1) e in
-          rw (rw q at c) (sym q)
-      by false e f =
-          let d : lo + 1 < n = omega (arith, eqb-false n (lo + 1) e) in
-          rw (h (lo + 1) (omega arith) d) (f d)
+      by : (b : Bool) → leb (lo + 1) 4294967295 ≡ b → gap s masks (p - 1) (to - p) ≡ gap s masks lo (to - lo - 1)
+      by true t =
+          let h : lo + 1 ≤ 4294967295 = leb-true (lo + 1) 4294967295 t in
+          let q : p - 1 ≡ lo = omega arith in
+          let k : to - p ≡ to - lo - 1 = omega arith in
+          rw (q, k)
+      by false t =
+          let h : 4294967295 < lo + 1 = leb-false (lo + 1) 4294967295 t in
+          let k : to - p ≡ 0 = omega arith in
+          let j : to - lo - 1 ≡ 0 = omega arith in
+          rw (k, j)
 
-  -- what a search of the rounds from n on to, not including, `to` finds
-  pub first_gap : (lo to n : ℕ) → n ≡ min (lo + 1) 4294967295 → to < 4294967296 → (r : Option ℕ)
-      → MatchOption r ((k : ℕ) → n ≤ k → k < to → certified s masks k ≡ true)
-      (λ (i : ℕ). (n ≤ i) × (i < to) × (certified s masks i ≡ false) × ((k : ℕ) → n ≤ k → k < i → certified s masks k ≡ true))
-      → r ≡ found (gap s masks lo (to - lo - 1))
-  first_gap lo to n e f None h = found_none _ (gap_none lo (to - lo - 1) (λ r a b. h r (omega arith) (omega arith)))
-  first_gap lo to n e f (Some i) h =
-      let q : gap s masks lo (to - lo - 1) ≡ i =
-      gap_some lo (to - lo - 1) i (omega (arith, h.0, h.1)) (omega (arith, h.0, h.1)) h.2 (λ r a b. h.3 r (omega arith) b) in
-      rw q (found_some i (λ z. omega (arith, h.0, h.1)))
+  module _ (p to : ℕ) (l : 1 ≤ p) where
+    gap_here : p < to → gap s masks (p - 1) (to - p) ≡ cond (certified s masks p) (gap s masks (p + 1 - 1) (to - (p + 1))) p
+    unfolding gap
+    gap_here h =
+        let k : to - p ≡ suc (to - (p + 1)) = omega arith in
+        let q : p - 1 + 1 ≡ p = omega arith in
+        let r : p + 1 - 1 ≡ p = omega arith in
+        rw (k, q, r)
+
+    pub gap_passed : p < to → certified s masks p ≡ true → (g : ℕ) → gap s masks (p - 1) (to - p) ≡ g
+        → gap s masks (p + 1 - 1) (to - (p + 1)) ≡ g
+    gap_passed h c g e = rw (gap_here h, c) at e
+
+    pub gap_met : p < to → certified s masks p ≡ false → (g : ℕ) → gap s masks (p - 1) (to - p) ≡ g → Some p ≡ found g
+    gap_met h c g e =
+        let q : p ≡ g = rw (gap_here h, c) at e in
+        rw (← q) (found_some p (λ z. omega arith))
+
+    pub gap_over : to ≤ p → (g : ℕ) → gap s masks (p - 1) (to - p) ≡ g → None ≡ found g
+    unfolding gap
+    gap_over h g e =
+        let k : to - p ≡ 0 = omega arith in
+        found_none g (sym (rw k at e))
 
   -- the frames from s on, behind round lo: the frame x, and then t
   module _ (lo : ℕ) (b : List ℕ) (goal : ℕ) (e : first_uncertified s masks lo (frames_of b) ≡ goal) where

@@ -2,9 +2,8 @@
 // function takes slices of any length and any numbers.
 #![tactic(auto)]
 
-ghost use Rattle.std.specs.Prelude.{◌≡◌, ◌-◌};
+ghost use Rattle.std.specs.Prelude.{◌≡◌};
 ghost use Rattle.apollo.specs.Frame.{frames_of};
-ghost use Rattle.apollo.specs.Masks as Masks;
 ghost use Rattle.apollo.specs.Branch as Branch;
 ghost use Rattle.apollo.specs.Found.{found};
 ghost use Rattle.branch_rounds.specs.Keeps.{keeps_frame, keeps_all};
@@ -12,28 +11,24 @@ ghost use Rattle.branch_rounds.specs.Keeps.{keeps_frame, keeps_all};
 use apollo::Setup;
 use apollo::size::FRAME;
 
-// The first round between lo and `to` that is not certified.
-fn gap(s: Setup, masks: &[u16], lo: u32, to: u32) -> Option<u32>
-    ensures { result ≡ found (Masks.gap s masks.now lo (to - lo - 1)) }
-{
-    (lo.saturating_add(1)..to).find(|&r| !masks::certified(s, masks, r))
-}
-
-// The first round that the frames skip, the first of them on round a, and that is not certified. By a loop, here and in `keeps`: each
-// frame asks for the round of the one before. `try_fold` would hand that on in a Result whose Err is the answer, in `keeps` in an Option
-// that stands for the bool.
+// The first round that the frames skip, the first of them on round a, and that is not certified. It ends both walks, left by a label, as
+// document 01 asks.
 pub fn first_uncertified(s: Setup, masks: &[u16], a: u32, frames: &[u8]) -> Option<u32>
     ensures { result ≡ found (Branch.first_uncertified s masks.now a (frames_of frames.now)) }
 {
     let mut lo = a;
-    for x in frames.chunks_exact(FRAME) {
-        let to = frame::round(x);
-        if let Some(place) = gap(s, masks, lo, to) {
-            return Some(place);
+    'walk: {
+        for x in frames.chunks_exact(FRAME) {
+            let to = frame::round(x);
+            for place in lo.saturating_add(1)..to {
+                if !masks::certified(s, masks, place) {
+                    break 'walk Some(place);
+                }
+            }
+            lo = to;
         }
-        lo = to;
+        None
     }
-    None
 }
 
 // The slots above round lo up to that of frame x and to the committed round would keep their bytes.
@@ -52,7 +47,8 @@ fn keeps_frame(log: &[u8], lo: u32, x: &[u8], committed: u32) -> bool
     slices::is_blank(log, a, FRAME * (below as usize)) && slices::same_bytes(slots::slot(log, r), x)
 }
 
-// The slots up to the committed round would keep their bytes if the frames were taken on round a.
+// The slots up to the committed round would keep their bytes if the frames were taken on round a. By a loop: each frame asks for the round
+// of the one before, which `try_fold` would hand on in an Option that stands for the bool.
 pub fn keeps(log: &[u8], a: u32, frames: &[u8], committed: u32) -> bool
     ensures { result ≡ keeps_all log.now a (frames_of frames.now) committed }
 {

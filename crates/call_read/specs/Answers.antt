@@ -1,5 +1,6 @@
 -- The answers of read.
-use Rattle.std.specs.Prelude.{ℕ, ◌+◌, ◌-◌, ◌*◌, List, Result, Ok, Err}
+use Rattle.std.specs.Prelude.{ℕ, ◌+◌, ◌-◌, ◌*◌, List, [], Result, Ok, Err}
+use Rattle.std.specs.Borrow.{Bor}
 use Rattle.apollo.specs.Size.{frame_size}
 use Rattle.apollo.specs.declared.Part.{Part}
 use Rattle.apollo.specs.declared.refusal.Refusal.{Refusal}
@@ -15,6 +16,11 @@ no_part number = record { number = number; start = 0; length = 0 }
 abbrev pub told : Result Part Refusal → Part
 told (Ok p) = p
 told (Err e) = no_part (number e)
+
+-- the bytes that the code's result shows, "empty" when refused
+abbrev pub shown : Result (Bor (List ℕ)) Refusal → List ℕ
+shown (Ok x) = x.now
+shown (Err e) = []
 
 -- the entry in slot r
 abbrev pub entry_part : (log : List ℕ) (r : ℕ) → Part

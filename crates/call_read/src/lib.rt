@@ -5,7 +5,7 @@ ghost use Rattle.std.specs.Prelude.{◌≡◌, ◌+◌, ◌≤◌, ◌<◌, leng
 ghost use Rattle.apollo.specs.Bytes as Bytes;
 ghost use Rattle.apollo.specs.Calls.{read_call};
 ghost use Rattle.apollo.specs.Refused.{number, refusal_of};
-ghost use Rattle.call_read.specs.Answers.{no_part, entry_part, told};
+ghost use Rattle.call_read.specs.Answers.{no_part, entry_part, told, shown};
 ghost use Rattle.apollo.specs.Read.{place_in};
 
 use apollo::size::FRAME;
@@ -69,7 +69,7 @@ fn cut<'a>(log: &'a [u8], p: Part) -> &'a [u8]
 
 // The entry at a committed height, as the part of the lent log that `read_part` tells.
 pub fn read<'a>(replica: Replica, log: &'a [u8], height: Height) -> Result<&'a [u8], Refusal>
-    ensures bytes { IfOk result (λ x. x.now ≡ (read_call replica log.now height.0).bytes) }
+    ensures bytes { shown result ≡ (read_call replica log.now height.0).bytes }
     ensures place { IfOk result (λ x. x.ref_ptr ≡ place_in log.entry (read_call replica log.now height.0).answer.start) }
     ensures number { refusal_of result ≡ (read_call replica log.now height.0).answer.number }
 {

@@ -1,5 +1,6 @@
 -- `call_read::read` meets its contract: the part that is told, which lies in the log.
 use Rattle.std.proofs.Common.{ap, sym, ◌∙◌}
+use Rattle.std.proofs.lemmas.Result.{err_from_is_err_and}
 use Rattle.apollo.specs.declared.Part.{Part}
 use Rattle.apollo.specs.Bytes.{part}
 use Rattle.apollo.specs.Refused.{refusal_of}
@@ -23,3 +24,9 @@ returns-clause-place c =
 pub returns-clause-number : goal.returns-clause-number
 returns-clause-number c =
     sym (ap refusal_of c.in_ok-p.was) ∙ c.find.ensures.number
+
+pub returns-in_err-p-clause-bytes : goal.returns-in_err-p-clause-bytes
+returns-in_err-p-clause-bytes c =
+    let p = err_from_is_err_and c.from_residual.result c.from_residual.ensures.1 in
+    let e = sym (ap told c.in_err-p.was) ∙ c.find.ensures.part in
+    rw p.1 (ap (λ (p : Part). part c.args.log.now p.start p.length) e ∙ read_bytes _ _ _)
