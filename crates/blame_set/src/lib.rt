@@ -1,5 +1,5 @@
 // A set of blames that is handed in: its judgement, 6, 7, 8, 16, 14 and 10, each frame judged in place, and its bits set. A blame is
-// a set of one.
+// a set of one. Record, masks and frames come one by one: a struct of them would be made by `judge_set` and opened below.
 #![tactic(auto)]
 
 ghost use Rattle.std.specs.Prelude.{◌≡◌, ◌&&◌, not, ◌*◌, ◌≤◌, ◌<◌, eqb, length};
@@ -35,8 +35,8 @@ fn joined(x: &[u8], before: u16) -> u16
 }
 
 // The frames are of round r, and no signer is there twice. By a loop: `try_fold` would hand the mask on in an Option, of which `is_some`
-// alone is read. That signers have bits is asked here, below and in `add_blames`: a type that
-// holds it would be made once, by `judge_set`, and opened once, for `add_blames`.
+// alone is read. That signers have bits is asked here, below and in `add_blames`: a type that holds it would come out of `judge_set` and of
+// `refusals::of_blames` in place of (), and both would have to say whose frames it holds.
 fn is_one_set(frames: &[u8], r: u32) -> bool
     requires { HaveBits (frames_of frames.now) }
     ensures { result ≡ Blame.one_set r 0 (frames_of frames.now) }

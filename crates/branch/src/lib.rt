@@ -1,5 +1,6 @@
 // The judgement of a branch that is handed in: refusals 6 to 13, each with its place. Every public function takes any
-// record and slices of any length and content.
+// record and slices of any length and content. Record, log, masks and frames come one by one: a struct of them would be made by
+// `judge_branch` and opened in each function below it.
 #![tactic(auto)]
 
 ghost use Rattle.std.specs.Prelude.{◌≡◌, ◌*◌, ◌≤◌, length, ltb};

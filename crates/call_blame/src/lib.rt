@@ -10,8 +10,8 @@ ghost use Rattle.apollo.specs.Calls.{state, outcome, blame_call, blames_call};
 use apollo::size::FRAME;
 use apollo::{Answer, Replica};
 
-// Hands in 1 to `most` blames, 1 or 15. Nothing is set before the last is judged. That it is 15 at most is handed on to where a set is
-// judged: the number stands in two calls below, and a type would be made there to be opened there.
+// Hands in 1 to `most` blames. Nothing is set before the last is judged. That `most` is 15 at most is asked here, by `refusals::of_blames`
+// and by `blame_set::judge_set`: a type would be made in the two calls below and opened in the last.
 fn hand_in(
     most: u32,
     replica: Replica,

@@ -1,4 +1,5 @@
-// What the calls share: the answer of a refusal, and in proofs/ the laws that every call is proved by.
+// What the calls share: the answer of a refusal, and in proofs/ the laws that every call is proved by. Each call takes what C lends it one
+// by one, as the function of host that calls it.
 #![tactic(auto)]
 
 ghost use Rattle.std.specs.Prelude.{◌≡◌};

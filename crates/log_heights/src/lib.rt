@@ -21,8 +21,8 @@ fn is_readable(x: &[u8], h: u32) -> bool
     frame::is_kind(x, Kind::Block) && frame::height(x) == h && frame::entry_length(x) <= ENTRY
 }
 
-// The round of the lowest such slot up to the committed round. That the log has the slots up to a round is asked here, by what fetch calls
-// and by `tip`, each time of another round: a type of a log and a round would be made and opened in each.
+// The round of the lowest such slot up to the committed round. That the log has the slots up to a round is asked here of the committed one,
+// twice for fetch of T, and by `tip` and `slots::store` of theirs: a type of a log and a round would be made and opened in each.
 pub fn lowest(log: &[u8], h: u32, committed: u32) -> Option<u32>
     requires { frame_size * committed ≤ length log.now }
     ensures { result ≡ found (Read.lowest log.now h 0 committed) }

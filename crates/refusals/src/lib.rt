@@ -1,6 +1,6 @@
 // What refuses a call: the first refusal, and for a branch and for blames its place. Of the entry and the out buffer the length is
 // enough. Every public function takes any record, and slices of any length and content; `guard` is told whether the record, by
-// itself, is valid. Log, masks, entry and out come one by one, as in rounds: of two the length is enough, and open has no valid record.
+// itself, is valid. Log and masks come one by one, as C lends them; of entry and out the length is enough.
 #![tactic(auto)]
 
 ghost use Rattle.std.specs.Prelude.{◌≡◌, ◌≤◌};
@@ -26,7 +26,7 @@ fn judge_room(entry: usize, out: usize) -> Result<(), Refusal>
     Ok(())
 }
 
-// Open: 1, 17, 4 and 5. The record has the rotation, padded; `length` is how long that was.
+// Open: 1, 17, 4 and 5. The record has the rotation, as C lays it out: 15 seats, which no longer tell how many came. `length` does.
 pub fn of_open(
     r: Replica,
     length: usize,
@@ -47,7 +47,7 @@ pub fn of_open(
     judge_room(entry, out)
 }
 
-// Tick, branch, blame and blames: 2 to 5. The caller tests the record by itself, from its own copy: the compiler then makes no other.
+// Tick, branch, blame and blames: 2 to 5. The caller tests the record by itself: with the test here, of a copy, a tick took 38 ns, not 28.
 pub fn guard(
     is_valid: bool,
     r: Replica,

@@ -1,7 +1,7 @@
 // What a replica does without being refused: it enters a round, hears its own blame, settles a round after blames, or counts a tick
-// down. Log, masks, entry and out buffer come one by one, as C lends them, and in three forms: open, blame and tick change the masks, a
-// branch reads them, and a tick hands on what lies behind its blame in out. One struct would have to be three. So `Ready` is asked four times
-// of the same buffers, and three times that R is T at most: a type that holds these would hold them lent, in the same three forms.
+// down. Log, masks, entry and out buffer come one by one, as C lends them: a struct that held them would be changed through the `&mut` in
+// it, and each clause would name what it left of each; and masks are not there, read or changed. So `Ready` is asked four times, and three
+// times that R is T at most, of what is lent: a type for these would be such a struct.
 #![tactic(auto)]
 
 ghost use Rattle.std.specs.Prelude.{◌≡◌, ◌&&◌, List, ℕ, ◌-◌, ◌≤◌, ◌<◌, eqb};

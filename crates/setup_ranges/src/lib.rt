@@ -15,7 +15,7 @@ pub fn valid_limits(f: u8, last_round: u32) -> bool
     (1..=7).contains(&f) & (1..=4096).contains(&last_round)
 }
 
-// 1 and 17 of a set-up that has the rotation padded; `length` is how long that was.
+// 1 and 17 of a set-up that has the rotation padded to 15 seats, which no longer tell how many came; `length` does.
 pub fn refusal(s: Setup, length: usize) -> Result<(), Refusal>
     ensures { refusal_of result ≡ lent_number s length }
 {

@@ -30,8 +30,8 @@ fn clear_above(log: &mut [u8], r: u32)
     }
 }
 
-// Frame x is stored in slot r. Its length is asked, here and of the callers: an array of 512 bytes would be made of each lent frame, by a test
-// that asks for the same.
+// Frame x is stored in slot r. Its length is asked, here and of the callers: an array of 512 bytes would be made of each lent frame, by a
+// test that asks for the same.
 pub fn store(log: &mut [u8], r: u32, x: &[u8])
     requires { (1 ≤ r) × (frame_size * r ≤ length log.old) × (length x.now ≡ frame_size) }
     ensures { log.new ≡ Log.store log.old r x.now }

@@ -1,4 +1,4 @@
-// A new tip: the own block or a branch goes into the log, and the record follows.
+// A new tip: the own block or a branch goes into the log, and the record follows. Log, entry and out come one by one, as in rounds.
 #![tactic(auto)]
 
 ghost use Rattle.std.specs.Prelude.{◌≡◌, List, ◌++◌, ℕ, ◌+◌, ◌*◌, ◌≤◌, length, drop};
