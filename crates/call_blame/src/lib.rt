@@ -27,7 +27,7 @@ fn hand_in(
         out.old }
 {
     if let Err(e) = refusals::of_blames(most, replica, log, masks, frames, entry.len(), out.len()) {
-        return calls::refused(replica, e);
+        return calls::refused(replica, e.refusal.into(), e.place);
     }
     blame_set::add_blames(masks, frames);
     let round = frame::round(slices::part(frames, 0, FRAME));

@@ -24,6 +24,6 @@ pub fn branch(
             let q = tip::adopt(replica, log, attach, frames);
             rounds::enter_round(q, log, entry, out)
         }
-        Err(e) => calls::refused(replica, e),
+        Err(e) => calls::refused(replica, e.refusal.into(), e.place),
     }
 }

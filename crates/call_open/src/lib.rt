@@ -24,7 +24,7 @@ pub fn open(
 {
     let r = record::fresh(id, f, timeout, last_round, rotation);
     if let Err(e) = refusals::of_open(r, rotation.len(), log, masks, entry.len(), out.len()) {
-        return calls::refused(record::zero_replica(), e.into());
+        return calls::refused(record::zero_replica(), e.into(), 0);
     }
     slices::clear(log);
     masks::clear(masks);

@@ -20,7 +20,7 @@ pub fn tick(
 {
     let is_valid = record_ranges::valid_record(replica);
     if let Err(e) = refusals::guard(is_valid, replica, log, masks, entry.len(), out.len()) {
-        return calls::refused(replica, e.into());
+        return calls::refused(replica, e.into(), 0);
     }
     if replica.timer.0 != 1 {
         return rounds::count_down(replica);

@@ -3,20 +3,20 @@
 #![tactic(auto)]
 
 ghost use Rattle.std.specs.Prelude.{◌≡◌};
-ghost use Rattle.apollo.specs.Refused.{number};
 ghost use Rattle.calls.specs.Refused.{refused_answer};
 
-use apollo::{Answer, Refused, Replica};
+use apollo::{Answer, Replica};
 
-// The answer of a refusal; C reads the leader 255. Each answer is a struct of its own in C, so equivocation, read and fetch have theirs.
-pub fn refused(r: Replica, e: Refused) -> Answer
-    ensures { result ≡ refused_answer r (number e.refusal) e.place }
+// The answer of a refusal, by its number and with the leader 255, as C reads them. Each answer is a struct of its own in C, so equivocation,
+// read and fetch have theirs.
+pub fn refused(r: Replica, number: u8, place: u32) -> Answer
+    ensures { result ≡ refused_answer r number place }
 {
     Answer {
-        number: e.refusal.into(),
+        number,
         frames: 0,
         leader: 255,
-        place: e.place,
+        place,
         replica: r,
     }
 }

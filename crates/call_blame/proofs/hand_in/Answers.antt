@@ -8,7 +8,8 @@ pub returns-in-Err : goal.returns-in-Err
 returns-in-Err c =
     let a = c.args in
     set_refused a.most a.replica a.log.now a.masks.now a.entry.now a.out.now a.frames.now _
-    (refused_verdict _ _ c.of_blames.ensures _ c.in-Err.is) _ (number_some c.in-Err.e.refusal) c.refused.ensures
+    (refused_verdict _ _ c.of_blames.ensures _ c.in-Err.is) _ (number_some c.in-Err.e.refusal)
+    (rw c.into.ensures at c.refused.ensures)
 
 pub add_blames-requires : goal.add_blames-requires
 add_blames-requires c =

@@ -9,7 +9,7 @@ pub returns-in-Err : goal.returns-in-Err
 returns-in-Err c =
     let a = c.args in
     branch_refused a.replica a.log.now a.masks.now a.entry.now a.out.now a.frames.now _ (sym (ap judged_of c.in-Err.is) ∙ c.of_branch.ensures)
-    _ (number_some c.in-Err.e.refusal) c.refused.ensures
+    _ (number_some c.in-Err.e.refusal) (rw c.into.ensures at c.refused.ensures)
 
 pub adopt-q-requires : goal.adopt-q-requires
 adopt-q-requires c =
