@@ -79,9 +79,9 @@ impl From<Replica> for Setup {
 #[repr(C)]
 #[derive(Clone, Copy)]
 pub struct Answer {
-    pub number: u8, // 0 taken, else the refusal
+    pub number: u8, // 0 taken, else the refusal, as C reads it; so below
     pub frames: u8, // frames put out
-    pub leader: u8, // leader of the new R
+    pub leader: u8, // leader of the new R, 255 for none: C has no Option
     pub place: u32,
     pub replica: Replica, // record
 }

@@ -11,8 +11,8 @@ ghost use Rattle.branch_rounds.specs.Keeps.{keeps_frame, keeps_all};
 use apollo::Setup;
 use apollo::size::FRAME;
 
-// The first round that the frames skip, the first of them on round a, and that is not certified. It ends both walks, left by a label, as
-// document 01 asks.
+// The first round that the frames skip, the first of them on round a, and that is not certified. It ends both walks: loops that are
+// left by a label, as document 01 asks, where `find` would do.
 pub fn first_uncertified(s: Setup, masks: &[u16], a: u32, frames: &[u8]) -> Option<u32>
     ensures { result ≡ found (Branch.first_uncertified s masks.now a (frames_of frames.now)) }
 {

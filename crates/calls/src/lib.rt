@@ -7,8 +7,8 @@ ghost use Rattle.calls.specs.Refused.{refused_answer};
 
 use apollo::{Answer, Replica};
 
-// The answer of a refusal, by its number and with the leader 255, as C reads them. Each answer is a struct of its own in C, so equivocation,
-// read and fetch have theirs.
+// The answer of a refusal, by its number and with the leader 255, as C reads them. Each answer is a struct of its own in C, so
+// equivocation, read and fetch have theirs.
 pub fn refused(r: Replica, number: u8, place: u32) -> Answer
     ensures { result ≡ refused_answer r number place }
 {

@@ -1,5 +1,5 @@
-// Frames written in place, to the front of a buffer as C lends it: the block and the blame that a replica makes. An array of 512 bytes cut
-// out of it would ask for the same room where it is cut.
+// Frames written in place, to the front of a buffer as C lends it: the block and the blame that a replica makes. Each contract asks for the
+// room and speaks of all of the buffer, as those of the callers do: with an array cut out of it they would have to.
 #![tactic(auto)]
 
 ghost use Rattle.std.specs.Prelude.{◌≡◌, ◌+◌, ◌-◌, ◌≤◌, ◌∷◌, ◌++◌, length, take, drop};

@@ -18,7 +18,8 @@ use apollo::{Kind, Refusal, Refused, Setup};
 use frame_checks::Checked;
 
 // The frames judged one by one, lowest first: each from the frame before it, which for the first is that parent or none, itself, and
-// whether its check is right. A place is a u32, as C has it: so here and in both that call this the frames are no more than it counts.
+// whether its check is right, which three contracts ask: a struct of both would be opened where a form is judged, of bytes of any length. A
+// place is a u32, as C has it: so here and in both that call this the frames are no more than it counts.
 fn judge_by<F: Fn(Option<&[u8]>, &[u8], bool) -> Result<(), Refusal>>(
     parent: Option<&[u8]>,
     frames: &[u8],

@@ -22,7 +22,8 @@ fn is_readable(x: &[u8], h: u32) -> bool
 }
 
 // The round of the lowest such slot up to the committed round. That the log has the slots up to a round is asked here of the committed one,
-// twice for fetch of T, and by `tip` and `slots::store` of theirs: a type of a log and a round would be made and opened in each.
+// twice for fetch of T, and by `tip` and `slots::store` of theirs: a type of a log and a round would be made and opened in each. `last_low`
+// differs in the test and in the answer for none: with the test as a parameter the clause would not name the definition.
 pub fn lowest(log: &[u8], h: u32, committed: u32) -> Option<u32>
     requires { frame_size * committed ≤ length log.now }
     ensures { result ≡ found (Read.lowest log.now h 0 committed) }
@@ -43,7 +44,7 @@ fn is_tall(x: &[u8], h: u32) -> bool
 }
 
 // The last round before the first frame that fetch copies. A search of its own, and not the walk that copies: there each slot passed over
-// costs more, and 16 frames from the middle of a log took 7 to 12 hundredths longer.
+// costs more, and 16 frames from the middle of a log took 7 to 12 % longer.
 fn last_low(log: &[u8], h: u32, last_round: u32) -> u32
     requires { frame_size * last_round ≤ length log.now }
     ensures { result ≡ last_low log.now h 0 last_round }
@@ -55,8 +56,9 @@ fn last_low(log: &[u8], h: u32, last_round: u32) -> u32
         .map_or(last_round, |r| r as u32)
 }
 
-// The chain frames of height above h are copied to out, in rising round, as many as fit; how many. The slots come as chunks, so that
-// the compiler knows how long a copy is. They don't go into `out.chunks_exact_mut`: the library says nothing of a slice after it.
+// The chain frames of height above h are copied to out, in rising round, as many as fit; how many, which is counted for the answer. The
+// slots come as chunks, so that the compiler knows how long a copy is. They don't go into `out.chunks_exact_mut`: the library says nothing
+// of a slice after it.
 pub fn fetch_frames(log: &[u8], h: u32, last_round: u32, out: &mut [u8]) -> usize
     requires { frame_size * last_round ≤ length log.now }
     ensures count { result ≡ min (length (above h (Log.chain log.now last_round))) (length out.old / frame_size) }

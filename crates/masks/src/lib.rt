@@ -1,5 +1,5 @@
-// Masks of 16 bits, a bit for each replica: their bits, as the blame masks and the marks have them; of the blame masks certified (shown)
-// rounds, and blames added; all masks zeroed. There is one for each slot of the log, in a buffer of their own, as C lends them.
+// Masks of 16 bits, a bit for each replica, as the blame masks and the marks have them. The blame masks, one a round, stand in a buffer of
+// their own beside the log, as C lends them: certified (shown) rounds, blames added, all zeroed.
 #![tactic(auto)]
 
 ghost use Rattle.std.specs.Prelude.{◌≡◌, ◌%◌, ◌^◌, ◌<◌, ltb, length};
