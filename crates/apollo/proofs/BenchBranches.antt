@@ -27,7 +27,7 @@ use Rattle.apollo.specs.Calls.{branch_call}
 use Rattle.apollo.specs.BenchSheet.{turn, Callable, ParentIn, Item9, Item10, Held, number, place, new_round}
 use Rattle.apollo.proofs.Tests.{both, cond_true, cond_false, same_of, different}
 use Rattle.apollo.proofs.Validity.{Valid, valid}
-use Rattle.apollo.proofs.Slots.{slot_length, length_store, store_same, store_other, length_clear, clear_low, clear_high, take_slots, slot_take}
+use Rattle.apollo.proofs.Slots.{filled_genesis, slot_length, length_store, store_same, store_other, length_clear, clear_low, clear_high, take_slots, slot_take}
 use Rattle.apollo.proofs.BlockRun.{block_length, blocks_parts, blocks_of, blocks_none, blocks_one}
 use Rattle.apollo.proofs.Judging.{fresh_branch, attaches}
 use Rattle.apollo.proofs.BenchCommit.{slots_filled, committed_2, mask_1, mask_3}
@@ -188,10 +188,6 @@ pub committed_10 : {s : State} {out : List ℕ} → Item10 s out → s.replica.c
 committed_10 {s} h =
     ap (λ (r : Replica). r.committed_round.0) h.renewed ∙ committed_2 s.replica s.log h.f h.awaited h.chain
 
-empty_unfilled : filled genesis ≡ false
-unfolding genesis zeros
-empty_unfilled = refl
-
 module _ {s : State} {out : List ℕ} (h : Item10 s out) (entry : List ℕ) (l : length entry ≤ 400) where
   size_10 : 2048 ≤ length s.log
   size_10 =
@@ -223,7 +219,7 @@ module _ {s : State} {out : List ℕ} (h : Item10 s out) (entry : List ℕ) (l :
         let same_slot : slot new 2 ≡ slot log 2 =
         sym (slot_take new 2 2 (omega arith) (omega (arith, grown_length log x 1 (omega arith) (omega arith) b))) ∙ ap (λ y. slot y 2) e2
         ∙ slot_take log 2 2 (omega arith) (omega arith) in
-        true≢false (sym (slots_filled log h.chain).1 ∙ ap filled (sym same_slot ∙ cleared) ∙ empty_unfilled) in
+        true≢false (sym (slots_filled log h.chain).1 ∙ ap filled (sym same_slot ∙ cleared) ∙ filled_genesis) in
         ap number (at_10 ∙ reverts entry out s x [] 1 none clash)
 
     short_10 : certified (setup_of s.replica) s.masks 2 ≡ false → branch_call s x entry out ≡ refused s out 13 2

@@ -13,7 +13,7 @@ use borrow.Author.Tests.{le-ltb, eq-eqb, ne_eqb, eqb-true, eqb-false}
 use Rattle.sha256.specs.Fips.{sha256}
 use Rattle.apollo.specs.Size.{frame_size}
 use Rattle.apollo.specs.declared.Replica.{Replica}
-use Rattle.apollo.specs.Bytes.{number4, zeros, same}
+use Rattle.apollo.specs.Bytes.{zeros, same}
 use Rattle.apollo.specs.Rotation.{in_turn, padded}
 use Rattle.apollo.specs.Setup.{replicas, leader, setup, setup_of, valid_limits}
 use Rattle.apollo.specs.Frame.{kind, signer, round, height, parent, digest, linked, sealed, blame_head, make_block, make_blame}
@@ -31,7 +31,7 @@ use Rattle.apollo.proofs.Single.{blame_one}
 use Rattle.apollo.proofs.Tests.{both, cond_true, cond_false, same_of}
 use Rattle.apollo.proofs.Rotation.{turn_rotation, padded_valid, turn_seat}
 use Rattle.apollo.proofs.Validity.{Valid, setup_none, valid, valid_of}
-use Rattle.apollo.proofs.Slots.{length_zeros, length_store, store_same, store_other, length_clear, clear_low, take_slots}
+use Rattle.apollo.proofs.Slots.{length_zeros, height_genesis, length_store, store_same, store_other, length_clear, clear_low, take_slots}
 use Rattle.apollo.proofs.Judging.{passes, fresh_branch, attaches}
 use Rattle.apollo.proofs.BlockRun.{blocks_one}
 use Rattle.apollo.proofs.Made.{block_length, block_made, block_round, block_height, block_kind, block_parent, blame_length, blame_round, blame_form_lem, blame_checked}
@@ -103,10 +103,6 @@ genesis_length : length genesis ≡ frame_size
 unfolding genesis
 genesis_length = length_zeros frame_size
 
-genesis_height : height genesis ≡ 0
-unfolding genesis number4 zeros
-genesis_height = refl
-
 -- block k of the chain, by the leader of round k at height k on the one before; block 0 is the genesis
 unfoldable pub blk : ℕ → List ℕ
 blk zero = genesis
@@ -126,7 +122,7 @@ linked_from k low s =
     children (k % 3) (k + 1) (k + 1) (blk k) s.0 led (omega arith) (omega arith) (omega arith) (omega arith) (omega arith)
 
 pub sized : (k : ℕ) → k ≤ 6 → Sized k
-sized zero l = (unfold blk in genesis_length, unfold blk in genesis_height)
+sized zero l = (unfold blk in genesis_length, unfold blk in height_genesis)
 sized (suc k) l =
     let c : Child (k + 1) (k + 1) (blk k) (blk (suc k)) = linked_from k (omega arith) (sized k (omega arith)) in
     let h : height (blk (suc k)) ≡ k + 1 = c.high in

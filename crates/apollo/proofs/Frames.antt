@@ -24,6 +24,11 @@ unfolding frames
 frames_whole zero bytes l = tt
 frames_whole (suc n) bytes l = (length-take-le frame_size bytes (omega arith), frames_whole n (drop frame_size bytes) (simp length-drop (omega arith)))
 
+pub whole_take : (n : ℕ) (xs : List (List ℕ)) → Whole xs → Whole (take n xs)
+whole_take zero xs w = tt
+whole_take (suc n) [] w = tt
+whole_take (suc n) (x ∷ xs) w = (w.0, whole_take n xs w.1)
+
 -- 1 to `most` whole frames, of its test, and back
 pub record WholeFrames (most : ℕ) (bytes : List ℕ) : Type 0 where
   pub even : length bytes % frame_size ≡ 0

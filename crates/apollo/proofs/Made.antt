@@ -27,11 +27,11 @@ sealed_checked x l =
     let a : take 32 (sha256 x) ≡ sha256 x = take_all 32 (sha256 x) (omega (arith, digest_length x)) in
     same_of (ap (take 32) d ∙ a ∙ ap sha256 (sym t))
 
-sealed_length : (x : List ℕ) → length x ≡ check_at → length (sealed sha256 x) ≡ frame_size
+pub sealed_length : (x : List ℕ) → length x ≡ check_at → length (sealed sha256 x) ≡ frame_size
 unfolding sealed
 sealed_length x l = length-append x (sha256 x) ∙ omega (arith, digest_length x)
 
-blame_head_length : (i r : ℕ) → length (blame_head i r) ≡ check_at
+pub blame_head_length : (i r : ℕ) → length (blame_head i r) ≡ check_at
 unfolding blame_head
 blame_head_length i r = simp length_zeros refl
 
@@ -83,7 +83,7 @@ blame_form_lem s i r below one last small =
     (blame_blank i r)
 
 module _ (i r h : ℕ) (up entry : List ℕ) (wide : length up ≡ 32) (fits : length entry ≤ 400) where
-  block_head_length : length (block_head i r h up entry) ≡ check_at
+  pub block_head_length : length (block_head i r h up entry) ≡ check_at
   unfolding block_head
   block_head_length = simp (length-append, length_zeros, wide) (omega arith)
 

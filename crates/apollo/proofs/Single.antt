@@ -1,5 +1,5 @@
 -- A blame is a set of one. Assumes nothing.
-use Prim.Native.Nat.{ℕ, zero, suc}
+use Prim.Native.Nat.{ℕ}
 use mathlib.Core.Path.{◌≡◌, refl, sym, ap, ◌∙◌}
 use mathlib.Core.List.{List, [], ◌∷◌}
 use mathlib.Core.Bool.{Bool, true, false, ◌&&◌, ◌||◌, not, cond}
@@ -19,20 +19,15 @@ use Rattle.apollo.specs.Blame.{one_set, any_fresh, add_blames, hearing_all, hear
 use Rattle.apollo.specs.Calls.{blame_call, blames_call}
 use Rattle.apollo.specs.Single.{one_blame, SetOfOne}
 use Rattle.apollo.proofs.Tests.{both, cond_true}
+use Rattle.apollo.proofs.Masks.{bit_zero}
 use Rattle.apollo.proofs.Frames.{WholeFrames, whole_true, whole_one, frames_one}
-
--- no bit of 0 is set
-pub bit_none : (i : ℕ) → bit i 0 ≡ false
-unfolding bit
-bit_none zero = refl
-bit_none (suc i) = bit_none i
 
 -- one frame is of its own round, and no signer is twice
 one_set_lem : (x : List ℕ) → one_set (round x) 0 (x ∷ []) ≡ true
 unfolding one_set
 one_set_lem x =
     both (eqb (round x) (round x) && not (bit (signer x) 0)) true
-    (both (eqb (round x) (round x)) (not (bit (signer x) 0)) (eq-eqb (round x) (round x) refl) (ap not (bit_none (signer x)))) refl
+    (both (eqb (round x) (round x)) (not (bit (signer x) 0)) (eq-eqb (round x) (round x) refl) (ap not (bit_zero (signer x)))) refl
 
 module _ (s : State) (out : List ℕ) where
   -- 7 and 8 of one frame, by its two tests

@@ -9,8 +9,9 @@ use lib.Seq.{drop-append-le, take-append-le, drop-append-add, drop_at, take_at, 
 use lib.Dec.{leb}
 use borrow.Author.Tests.{leb-true, leb-false}
 use Rattle.apollo.specs.Size.{frame_size}
-use Rattle.apollo.specs.Bytes.{part, zeros}
-use Rattle.apollo.specs.Log.{genesis, slot, store, clear_above}
+use Rattle.apollo.specs.Bytes.{part, zeros, number4}
+use Rattle.apollo.specs.Frame.{height}
+use Rattle.apollo.specs.Log.{genesis, slot, filled, store, clear_above}
 
 pub length_zeros : (n : ℕ) → length (zeros n) ≡ n
 unfolding zeros
@@ -41,6 +42,14 @@ part_zeros m k n h =
     ap (λ ys. zeros k ++ ys) (zeros_add n (m - k - n)) ∙ zeros_add k (n + (m - k - n)) ∙ ap zeros e in
     ap (λ ys. take n (drop k ys)) (sym s) ∙ ap (take n) (drop_at (zeros k) _ k (length_zeros k))
     ∙ take_at (zeros n) _ n (length_zeros n)
+
+pub filled_genesis : filled genesis ≡ false
+unfolding genesis zeros
+filled_genesis = refl
+
+pub height_genesis : height genesis ≡ 0
+unfolding genesis number4 zeros
+height_genesis = refl
 
 pub slot_length : (log : List ℕ) (q : ℕ) → frame_size * q ≤ length log → length (slot log q) ≡ frame_size
 unfolding slot genesis

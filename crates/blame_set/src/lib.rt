@@ -20,10 +20,7 @@ use apollo::{Kind, Refusal, Refused, Replica};
 fn joins(x: &[u8], r: u32, before: u16) -> bool
     ensures { result ≡ (eqb (Frame.round x.now) r && not (Masks.bit (Frame.signer x.now) before)) }
 {
-    if frame::round(x) != r {
-        return false;
-    }
-    !masks::has_bit(before, frame::signer(x))
+    frame::round(x) == r && !masks::has_bit(before, frame::signer(x))
 }
 
 // The mask with the signer of frame x.

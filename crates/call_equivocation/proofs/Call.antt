@@ -1,7 +1,7 @@
 -- Equivocation as the code answers it: two frames judged one after the other, then together, then the record. Assumes nothing.
 use mathlib.Core.Path.{◌≡◌, sym, ap, ◌∙◌}
 use mathlib.Core.Logic.{◌≢◌}
-use mathlib.Core.Bool.{Bool, true, false, not, cond, true≢false}
+use mathlib.Core.Bool.{Bool, true, false, cond, true≢false}
 use mathlib.Core.List.{List, [], ◌∷◌}
 use Prim.Native.Nat.{ℕ, ◌<◌}
 use native.Mathlib.Omega.{arith}
@@ -12,9 +12,8 @@ use Rattle.sha256.specs.Fips.{sha256}
 use Rattle.apollo.specs.declared.Replica.{Replica}
 use Rattle.apollo.specs.declared.Setup.{Setup}
 use Rattle.apollo.specs.declared.Marked.{Marked}
-use Rattle.apollo.specs.Bytes.{same}
 use Rattle.apollo.specs.Setup.{setup_of, leader}
-use Rattle.apollo.specs.Frame.{round, digest, frames_of, block_form, first_frame}
+use Rattle.apollo.specs.Frame.{round, frames_of, block_form, first_frame}
 use Rattle.apollo.specs.Replica.{with_mark, valid_record}
 use Rattle.apollo.specs.Judging.{Verdict, verdict, no_refusal, judged_each}
 use Rattle.apollo.specs.Equivocation.{marked, second, conflicting}
@@ -25,16 +24,6 @@ use Rattle.apollo.proofs.Rotation.{leader_low}
 use Rattle.apollo.proofs.Equivocation.{judged, Case, invalid_record, not_pair, faulty_frame, not_conflicting, leader_marked, by_case, case_is}
 use Rattle.apollo.proofs.Validity.{record_turns}
 use Rattle.call_equivocation.specs.Judge.{judged_two, judged_pair}
-
--- together
-module _ (x y : List ℕ) (p q : ℕ) (d : p ≡ round x) (e : q ≡ round y) where
-  pub two_rounds : p ≢ q → false ≡ conflicting x y
-  unfolding conflicting
-  two_rounds n = rw (← d, ← e, ne_eqb p q n)
-
-  pub one_round : p ≡ q → (b : Bool) → b ≡ same (digest x) (digest y) → not b ≡ conflicting x y
-  unfolding conflicting
-  one_round z b f = rw (← d, ← e, eq-eqb p q z, f)
 
 module _ (s : Setup) (bytes : List ℕ) (two : length bytes ≡ 1024) (v : Verdict)
     (d : v ≡ judged_each sha256 (block_form s) 0 (frames_of bytes)) where

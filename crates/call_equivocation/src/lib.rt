@@ -24,13 +24,12 @@ fn refused(e: Refused, r: Replica) -> Marked
 }
 
 // Two frames of one round with different digests.
+#[tactic(auto, unfolding(apollo::specs::Equivocation::conflicting))]
 fn is_conflicting(x: &[u8], y: &[u8]) -> bool
     ensures { result ≡ conflicting x.now y.now }
 {
-    if frame::round(x) != frame::round(y) {
-        return false;
-    }
-    !slices::same_bytes(slices::part(x, CHECK, 32), slices::part(y, CHECK, 32))
+    frame::round(x) == frame::round(y)
+        && !slices::same_bytes(slices::part(x, CHECK, 32), slices::part(y, CHECK, 32))
 }
 
 // 7 and 8 of both, then 18.

@@ -1,5 +1,5 @@
 -- Read as the code answers it. Assumes nothing.
-use mathlib.Core.Path.{◌≡◌, refl, sym, ◌∙◌}
+use mathlib.Core.Path.{◌≡◌, refl, sym, subst, ◌∙◌}
 use mathlib.Core.Bool.{Bool, true, false, ◌&&◌, not, cond}
 use mathlib.Core.List.{List}
 use Prim.Native.Nat.{ℕ, zero, suc, ◌+◌, ◌-◌, ◌*◌, ◌≤◌}
@@ -11,6 +11,7 @@ use Rattle.std.specs.Prelude.{Ok, Err}
 use Rattle.std.specs.Option.{ok_or}
 use Rattle.apollo.specs.Size.{frame_size}
 use Rattle.apollo.specs.declared.Replica.{Replica}
+use Rattle.apollo.specs.declared.Part.{Part}
 use Rattle.apollo.specs.Bytes.{part}
 use Rattle.apollo.specs.Frame.{entry_length, height}
 use Rattle.apollo.specs.Log.{slot, filled}
@@ -19,7 +20,7 @@ use Rattle.apollo.specs.Replica.{valid_replica}
 use Rattle.apollo.specs.Read.{ReadOutcome, part_of, readable, lowest, read_call}
 use Rattle.apollo.proofs.Tests.{and_second, by_cond}
 use Rattle.apollo.proofs.Validity.{Valid, valid}
-use Rattle.call_read.specs.Answers.{no_part, entry_part}
+use Rattle.call_read.specs.Answers.{no_part, entry_part, told}
 
 module _ (r : Replica) (log : List ℕ) (h : ℕ) (v : Bool) (e : v ≡ valid_replica r log) where
   pub read_invalid : v ≡ false → no_part 2 ≡ (read_call r log h).answer
@@ -37,9 +38,12 @@ module _ (r : Replica) (log : List ℕ) (h : ℕ) (v : Bool) (e : v ≡ valid_re
     unfolding read_call
     read_absent z = rw (← e, t, ← d, eq-eqb q 0 z)
 
-    pub read_found : (q ≡ 0 → ⊥) → entry_part log q ≡ (read_call r log h).answer
+    pub read_found : (q ≡ 0 → ⊥) → told (Ok (entry_part log q)) ≡ (read_call r log h).answer
     unfolding read_call
-    read_found n = rw (← e, t, ← d, ne_eqb q 0 n)
+    read_found n =
+        let s : ℕ = frame_size * (q - 1) + 44 in
+        let l : s + entry_length (slot log q) - s ≡ entry_length (slot log q) = omega arith in
+        rw (← e, t, ← d, ne_eqb q 0 n, l)
 
 -- the round looked for, by what `ok_or` makes of it
 module _ {E : Type 0} (a : E) where
@@ -82,7 +86,7 @@ unfolding readable
 entry_low x h e = leb-true (entry_length x) 400 (and_second (filled x && eqb (height x) h) (leb (entry_length x) 400) e)
 
 -- the part lies in the log, whole
-pub part_fits : (r : Replica) (log : List ℕ) (h : ℕ) → (read_call r log h).answer.start + (read_call r log h).answer.length ≤ length log
+part_fits : (r : Replica) (log : List ℕ) (h : ℕ) → (read_call r log h).answer.start + (read_call r log h).answer.length ≤ length log
 unfolding read_call
 part_fits r log h =
     let Fits : ReadOutcome → Type 0 = λ o. o.answer.start + o.answer.length ≤ length log in
@@ -96,3 +100,10 @@ part_fits r log h =
     let g : frame_size * (q - 1) + 44 + entry_length (slot log q) ≤ length log =
     omega (arith, found.0, within, entry_low (slot log q) h found.1) in
     g))
+
+-- and so its end
+pub ends_low : (r : Replica) (log : List ℕ) (h a b : ℕ) → record { number = 0; start = a; length = b - a } ≡ (read_call r log h).answer
+    → a ≤ b → b ≤ length log
+ends_low r log h a b e l =
+    let f : a + (b - a) ≤ length log = subst (λ (p : Part). p.start + p.length ≤ length log) (sym e) (part_fits r log h) in
+    omega (arith, f)

@@ -2,6 +2,7 @@
 use Rattle.std.specs.Prelude.{ℕ, ◌+◌, ◌-◌, ◌*◌, List, [], Result, Ok, Err}
 use Rattle.std.specs.Borrow.{Bor}
 use Rattle.apollo.specs.Size.{frame_size}
+use Rattle.std.specs.declared.ops.Range.{Range}
 use Rattle.apollo.specs.declared.Part.{Part}
 use Rattle.apollo.specs.declared.refusal.Refusal.{Refusal}
 use Rattle.apollo.specs.Refused.{number}
@@ -13,8 +14,8 @@ abbrev pub no_part : (number : ℕ) → Part
 no_part number = record { number = number; start = 0; length = 0 }
 
 -- what the code's result tells
-abbrev pub told : Result Part Refusal → Part
-told (Ok p) = p
+abbrev pub told : Result (Range ℕ) Refusal → Part
+told (Ok p) = record { number = 0; start = p.start; length = p.end - p.start }
 told (Err e) = no_part (number e)
 
 -- the bytes that the code's result shows, "empty" when refused
@@ -23,5 +24,6 @@ shown (Ok x) = x.now
 shown (Err e) = []
 
 -- the entry in slot r
-abbrev pub entry_part : (log : List ℕ) (r : ℕ) → Part
-entry_part log r = record { number = 0; start = frame_size * (r - 1) + 44; length = entry_length (slot log r) }
+abbrev pub entry_part : (log : List ℕ) (r : ℕ) → Range ℕ
+entry_part log r =
+    record { start = frame_size * (r - 1) + 44; end = frame_size * (r - 1) + 44 + entry_length (slot log r) }

@@ -1,4 +1,4 @@
--- Laws of the frames that are made: their lengths, and a frame written piece by piece. Assumes nothing.
+-- Laws of the frames that are made: a frame written piece by piece. Assumes nothing.
 use mathlib.Core.Path.{◌≡◌, refl, ap, ap₂, ◌∙◌}
 use mathlib.Core.List.{List, ◌∷◌, ◌++◌, append_assoc}
 use Prim.Native.Nat.{ℕ, ◌+◌, ◌-◌, ◌≤◌}
@@ -6,36 +6,12 @@ use native.Mathlib.Omega.{arith}
 use lib.ListN.{length, take, drop, length-append}
 use lib.Seq.{take_at}
 use Rattle.sha256.specs.Fips.{sha256}
-use Rattle.sha256.proofs.Hash.{digest_length}
 use Rattle.apollo.specs.Size.{check_at, frame_size}
 use Rattle.apollo.specs.Bytes.{bytes2, bytes4, zeros}
 use Rattle.apollo.specs.Frame.{block_head, blame_head, sealed, make_block, make_blame}
 use Rattle.frame_writing.specs.Put.{Written}
-use Rattle.apollo.proofs.Slots.{length_zeros}
+use Rattle.apollo.proofs.Made.{sealed_length, blame_head_length, block_head_length}
 use Rattle.frame_writing.proofs.Writes.{Begun, begun_start, begun_more}
-
-length_block_head : (id r h : ℕ) (parent entry : List ℕ) → length parent ≡ 32 → length entry ≤ 400
-    → length (block_head id r h parent entry) ≡ check_at
-unfolding block_head
-length_block_head id r h parent entry p e = simp (length-append, length_zeros) (omega arith)
-
-length_blame_head : (id r : ℕ) → length (blame_head id r) ≡ check_at
-unfolding blame_head
-length_blame_head id r = simp (length-append, length_zeros)
-
-length_sealed : (x : List ℕ) → length x ≡ check_at → length (sealed sha256 x) ≡ frame_size
-unfolding sealed
-length_sealed x e = length-append x (sha256 x) ∙ ap₂ (λ a b. a + b) e (digest_length x)
-
--- For all later use: a frame that is made has 512 bytes.
-pub length_block : (id r h : ℕ) (parent entry : List ℕ) → length parent ≡ 32 → length entry ≤ 400
-    → length (make_block sha256 id r h parent entry) ≡ frame_size
-unfolding make_block
-length_block id r h parent entry p e = length_sealed _ (length_block_head id r h parent entry p e)
-
-pub length_blame : (id r : ℕ) → length (make_blame sha256 id r) ≡ frame_size
-unfolding make_blame
-length_blame id r = length_sealed _ (length_blame_head id r)
 
 -- the bytes before the check are written, then the check
 written_frame : (x out₀ out out' : List ℕ) → length x ≡ check_at → Begun out₀ x out → Written out check_at (sha256 (take check_at out)) out'
@@ -44,7 +20,7 @@ unfolding sealed
 written_frame x out₀ out out' l b w =
     let t : take check_at out ≡ x = ap (take check_at) b.bytes ∙ take_at x (drop (length x) out₀) check_at l in
     let g : Begun out₀ (x ++ sha256 (take check_at out)) out' = begun_more check_at l b w in
-    let n : length (x ++ sha256 x) ≡ frame_size = length-append x (sha256 x) ∙ ap₂ (λ p q. p + q) l (digest_length x) in
+    let n : length (x ++ sha256 x) ≡ frame_size = unfold sealed in sealed_length x l in
     g.bytes ∙ rw (t, n)
 
 -- the pieces of a block, and of a blame
@@ -66,7 +42,7 @@ written_block id r h parent entry start out₀ out₁ out₂ out₃ out₄ out�
     let b₄ : Begun out₀ (((start ++ parent) ++ entry) ++ z) out₄ = begun_more (44 + length entry) l₃ b₃ w₄ in
     let x : ((start ++ parent) ++ entry) ++ z ≡ block_head id r h parent entry =
     simp append_assoc (rw (s, q)) in
-    written_frame (block_head id r h parent entry) out₀ out₄ out₅ (length_block_head id r h parent entry p e) (rw x at b₄) w₅
+    written_frame (block_head id r h parent entry) out₀ out₄ out₅ (block_head_length id r h parent entry p e) (rw x at b₄) w₅
 
 pub written_blame : (id r : ℕ) (start out₀ out₁ out₂ out₃ : List ℕ)
     → start ≡ 2 ∷ id ∷ 0 ∷ 0 ∷ bytes4 r → Written out₀ 0 start out₁ → Written out₁ 8 (zeros 472) out₂
@@ -75,4 +51,4 @@ unfolding make_blame blame_head
 written_blame id r start out₀ out₁ out₂ out₃ s w₁ w₂ w₃ =
     let b : Begun out₀ (start ++ zeros 472) out₂ = begun_more 8 (ap length s) (begun_more 0 refl (begun_start out₀) w₁) w₂ in
     let x : start ++ zeros 472 ≡ blame_head id r = rw s in
-    written_frame (blame_head id r) out₀ out₂ out₃ (length_blame_head id r) (rw x at b) w₃
+    written_frame (blame_head id r) out₀ out₂ out₃ (blame_head_length id r) (rw x at b) w₃

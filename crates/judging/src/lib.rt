@@ -56,10 +56,7 @@ pub fn judge_each(kind: Kind, s: Setup, frames: &[u8]) -> Result<(), Refused>
 fn is_child(p: &[u8], x: &[u8]) -> bool
     ensures { result ≡ BlockRun.child_of p.now x.now }
 {
-    if !frame::linked(p, x) {
-        return false;
-    }
-    frame::round(p) < frame::round(x)
+    frame::linked(p, x) && frame::round(p) < frame::round(x)
 }
 
 // 7, 8 and 9 of frame x behind frame p, or with any parent. `checked`: the check of x is right.

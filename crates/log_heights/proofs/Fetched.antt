@@ -27,23 +27,18 @@ use Rattle.apollo.specs.Frame.{height}
 use Rattle.apollo.specs.Log.{slot, filled, store, chain}
 use Rattle.apollo.specs.Fetch.{above}
 use Rattle.apollo.proofs.Fetch.{above_append}
+use Rattle.apollo.proofs.Frames.{Whole, whole_take}
 use Rattle.std.specs.Option.{MatchOption}
 use Rattle.log_heights.specs.Fetch.{is_tall, last_low}
 use Rattle.log_heights.proofs.Search.{slots, length_slots, YieldsList-from_rest, First}
 use Rattle.log_heights.proofs.Walked.{next_item, all_items}
 
--- whole frames
-Whole : List (List ℕ) → Type 0
-Whole [] = Unit {0}
-Whole (x ∷ xs) = (length x ≡ frame_size) × Whole xs
-
 whole_slots : (log : List ℕ) (lo n : ℕ) → frame_size * (lo + n) ≤ length log → Whole (slots log lo n)
-unfolding Whole slot
+unfolding slot
 whole_slots log lo zero h = tt
 whole_slots log lo (suc n) h = (rw add-one (simp (length-take, length-drop) (omega arith)), whole_slots log (lo + 1) n (omega arith))
 
 whole_filter : (p : List ℕ → Bool) (xs : List (List ℕ)) → Whole xs → Whole (filter p xs)
-unfolding Whole
 whole_filter p [] w = tt
 whole_filter p (x ∷ xs) w = by (p x) (whole_filter p xs w.1)
   where
@@ -51,14 +46,7 @@ whole_filter p (x ∷ xs) w = by (p x) (whole_filter p xs w.1)
     by true f = (w.0, f)
     by false f = f
 
-whole_take : (n : ℕ) (xs : List (List ℕ)) → Whole xs → Whole (take n xs)
-unfolding Whole
-whole_take zero xs w = tt
-whole_take (suc n) [] w = tt
-whole_take (suc n) (x ∷ xs) w = (w.0, whole_take n xs w.1)
-
 whole_at : (xs : List (List ℕ)) (x : List ℕ) (ys : List (List ℕ)) → Whole (xs ++ (x ∷ ys)) → length x ≡ frame_size
-unfolding Whole
 whole_at [] x ys w = w.0
 whole_at (z ∷ xs) x ys w = whole_at xs x ys w.1
 

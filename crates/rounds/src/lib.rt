@@ -69,10 +69,7 @@ pub fn enter_round(r: Replica, log: &mut [u8], entry: &[u8], out: &mut [u8]) -> 
 fn certifies(r: Replica, masks: &[u16], round: u32) -> bool
     ensures { result ≡ eqb round r.round.0 && Masks.certified (setup_of r) masks.now round }
 {
-    if round != r.round.0 {
-        return false;
-    }
-    masks::certified(r.into(), masks, round)
+    round == r.round.0 && masks::certified(r.into(), masks, round)
 }
 
 // After blames for a round: if that is R and now certified, R grows by 1 and is entered.
@@ -119,9 +116,5 @@ pub fn hear(
 pub fn count_down(r: Replica) -> Answer
     ensures { result ≡ told (with_timer r (r.timer.0 - 1)) 0 }
 {
-    let timer = r.timer.0;
-    if timer == 0 {
-        return taken(r, 0);
-    }
-    taken(record::with_timer(r, timer - 1), 0)
+    taken(record::with_timer(r, r.timer.0.saturating_sub(1)), 0)
 }

@@ -6,17 +6,13 @@ use lib.ListN.{length, take, drop, length-take, length-drop}
 use lib.Seq.{drop_at, take_at}
 use Rattle.apollo.specs.Size.{frame_size}
 use Rattle.apollo.specs.Bytes.{number4, zeros}
-use Rattle.apollo.specs.Frame.{round, height, digest, frames}
+use Rattle.apollo.specs.Frame.{round, digest, frames}
 use Rattle.apollo.specs.Log.{genesis}
-pub use Rattle.apollo.proofs.Slots.{slot_length}
+pub use Rattle.apollo.proofs.Slots.{slot_length, height_genesis}
 pub use Rattle.apollo.proofs.Frames.{Whole, frames_whole}
 
 pub digest_width : (x : List ℕ) → length x ≡ frame_size → length (digest x) ≡ 32
 digest_width x e = simp (length-take, length-drop, e) refl
-
-pub height_genesis : height genesis ≡ 0
-unfolding genesis number4 zeros
-height_genesis = refl
 
 pub round_genesis : round genesis ≡ 0
 unfolding genesis number4 zeros

@@ -9,20 +9,16 @@ use lib.ListN.{length, take, drop_of_length-le}
 use lib.Dec.{leb}
 use borrow.Author.Tests.{leb-true, leb-false}
 use Rattle.apollo.specs.Size.{frame_size}
-use Rattle.apollo.specs.Bytes.{part, zeros}
-use Rattle.apollo.specs.Log.{genesis, slot, filled, highest, chain}
+use Rattle.apollo.specs.Bytes.{part}
+use Rattle.apollo.specs.Log.{slot, filled, highest, chain}
 use Rattle.apollo.specs.Committed.{Begins}
 use Rattle.theorem_agreement.proofs.Tests.{clash, by_cond}
-pub use Rattle.apollo.proofs.Slots.{length_zeros, part_left, part_right, part_take, part_drop, part_zeros, length_store, store_same, store_other, length_clear, clear_low, clear_high, take_slots}
+pub use Rattle.apollo.proofs.Slots.{length_zeros, filled_genesis, part_left, part_right, part_take, part_drop, part_zeros, length_store, store_same, store_other, length_clear, clear_low, clear_high, take_slots}
 
 pub slot_beyond : (log : List ℕ) (T q : ℕ) → length log ≡ frame_size * T → T < q → slot log q ≡ []
 unfolding slot
 slot_beyond log T zero e l = absurd (omega arith)
 slot_beyond log T (suc k) e l = ap (take frame_size) (drop_of_length-le log {i = frame_size * k} (omega arith))
-
-pub filled_genesis : filled genesis ≡ false
-unfolding genesis zeros
-filled_genesis = refl
 
 pub filled_nil : filled [] ≡ false
 filled_nil = refl

@@ -1,5 +1,5 @@
 -- Fetches one after another, and one fetch with one branch. Assumes what the statements say, and nothing else.
-use Prim.Native.Nat.{ℕ, zero, suc, ◌+◌, ◌*◌, ◌≤◌}
+use Prim.Native.Nat.{ℕ, ◌+◌, ◌*◌, ◌≤◌}
 use mathlib.Core.Path.{◌≡◌, refl, sym, ap, ap₂, ◌∙◌, subst}
 use mathlib.Core.Logic.{inr}
 use mathlib.Core.Option.{some}
@@ -16,7 +16,7 @@ use Rattle.apollo.specs.Replica.{valid_replica}
 use Rattle.apollo.specs.Fetch.{FetchOutcome, above, fetch_count, fetch_call}
 use Rattle.apollo.proofs.Fetch.{above_append}
 use Rattle.apollo.specs.Calls.{branch_call}
-use Rattle.apollo.proofs.Frames.{Whole}
+use Rattle.apollo.proofs.Frames.{Whole, whole_take}
 use Rattle.apollo.proofs.BlockRun.{blocks_whole}
 use Rattle.theorem_agreement.specs.Run.{Event, start, run}
 use Rattle.theorem_agreement.proofs.Tests.{by_cond}
@@ -49,11 +49,6 @@ flatten_length : (xs : List (List ℕ)) → Whole xs → length (flatten xs) ≡
 unfolding flatten
 flatten_length [] w = refl
 flatten_length (x ∷ xs) w = length-append x (flatten xs) ∙ omega (arith, w.0, flatten_length xs w.1)
-
-whole_take : (n : ℕ) (xs : List (List ℕ)) → Whole xs → Whole (take n xs)
-whole_take zero xs w = tt
-whole_take (suc n) [] w = tt
-whole_take (suc n) (x ∷ xs) w = (w.0, whole_take n xs w.1)
 
 -- the frames that a fetch wrote
 module _ (n : ℕ) (xs : List (List ℕ)) (rest : List ℕ) (w : Whole xs) (l : n ≤ length xs) where

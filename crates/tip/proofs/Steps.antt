@@ -13,7 +13,7 @@ use Rattle.apollo.specs.Frame.{round, height, digest, make_block}
 use Rattle.apollo.specs.Log.{genesis, slot, store}
 use Rattle.apollo.specs.Replica.{with_round, with_tip}
 use Rattle.apollo.specs.Enter.{tipped, holding, own_block, proposing, state}
-use Rattle.frame_writing.proofs.Make.{length_block}
+use Rattle.apollo.proofs.Made.{block_length}
 use Rattle.tip.specs.Ready.{Ready}
 
 -- the tip and R are set one after the other
@@ -41,7 +41,7 @@ proposal r log entry out g out' x log' q eo ex el eq masks =
     let p : List ℕ = digest (slot log r.tip_round.0) in
     let B : List ℕ = make_block sha256 r.id r.round.0 (r.tip_height.0 + 1) p entry in
     let n : length B ≡ frame_size =
-    length_block r.id r.round.0 (r.tip_height.0 + 1) p entry (digest_size log r.tip_round.0 (omega arith)) g.entry_room in
+    block_length r.id r.round.0 (r.tip_height.0 + 1) p entry (digest_size log r.tip_round.0 (omega arith)) g.entry_room in
     let b : x ≡ B = ex ∙ ap (take frame_size) eo ∙ take_at B (drop frame_size out) frame_size n in
     (eo, rw (eq, el, b))
 

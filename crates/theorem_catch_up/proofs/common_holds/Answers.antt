@@ -1,4 +1,4 @@
--- `theorem_catch_up::common_holds` meets its contract. By the law.
+-- `theorem_catch_up::common_holds` meets its contract. By the law, as a term: a search `using` it fails.
 use Rattle.theorem_catch_up.proofs.CatchUp.{common}
 use Rattle.theorem_catch_up.proofs.common_holds.Goals as goal
 
