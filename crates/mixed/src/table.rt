@@ -1,16 +1,20 @@
 // The replicas, and the calls that they get.
+use apollo::size::FRAME;
 use apollo::{Answer, Height, Replica};
-use mixed_lines::input::{Call, Change, Place, Seat, Size, Sizes, Task};
+use mixed_lines::input::{Call, Change, LOG, MASKS, OUT, Place, Seat, Size, Sizes, Task};
 use mixed_lines::print;
 use std::array;
 use text::Stop;
 
-// A replica, with its log of 9 slots and its masks. That of rehearse lends its whole log and masks to calls of its own record alone.
+// What a call finds in its out buffer.
+const UNTOUCHED: [u8; OUT] = [165; OUT];
+
+// A replica, with its log and its masks. That of rehearse lends its whole log and masks to calls of its own record alone.
 #[derive(Drop)]
 struct Card {
     record: Replica,
-    log: [u8; 4608],
-    masks: [u16; 9],
+    log: [u8; LOG],
+    masks: [u16; MASKS],
 }
 
 // What a call is lent: parts of a replica's log and masks, and of the out buffer.
@@ -44,22 +48,17 @@ impl Lent<'_> {
     }
 }
 
-// What a call finds in its out buffer.
-fn blank() -> [u8; 6144] {
-    [165; 6144]
-}
-
 impl Card {
     // A replica of a record, with a log and masks of zeros.
     fn of(record: Replica) -> Self {
         Card {
             record,
-            log: [0; 4608],
-            masks: [0; 9],
+            log: [0; LOG],
+            masks: [0; MASKS],
         }
     }
 
-    fn store(&mut self, place: Place, slot: &[u8; 512]) {
+    fn store(&mut self, place: Place, slot: &[u8; FRAME]) {
         slots::store(&mut self.log, place.index as u32 + 1, slot);
     }
 
@@ -78,9 +77,10 @@ impl Card {
         entry: &[u8],
         change: Change<'_>,
     ) -> Result<(), Stop> {
-        let mut out = blank();
-        let log = &mut self.log[..];
-        let masks = &mut self.masks[..];
+        let mut out = UNTOUCHED;
+        // Both by a name: `&mut self.log[..n]` beside a part of the masks has no proof, nor have names by a pattern.
+        let log = &mut self.log;
+        let masks = &mut self.masks;
         let lent = Lent {
             log: &mut log[..sizes.log.n],
             masks: &mut masks[..sizes.masks.n],
@@ -109,7 +109,7 @@ impl Card {
         &self,
         rt: &impl Print,
         r: Replica,
-        log: Size<4608>,
+        log: Size<LOG>,
         height: Height,
     ) -> Result<(), Stop> {
         let log = &self.log[..log.n];
@@ -121,12 +121,12 @@ impl Card {
         &self,
         rt: &impl Print,
         r: Replica,
-        log: Size<4608>,
-        out: Size<6144>,
+        log: Size<LOG>,
+        out: Size<OUT>,
         height: Height,
     ) -> Result<(), Stop> {
         let log = &self.log[..log.n];
-        let mut buffer = blank();
+        let mut buffer = UNTOUCHED;
         let out = &mut buffer[..out.n];
         let x = call_fetch::fetch(r, log, height, out);
         print::fetched(rt, x, log, out)

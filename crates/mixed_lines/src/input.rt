@@ -2,22 +2,31 @@
 ghost use Rattle.std.specs.Prelude.{◌≤◌, ◌<◌};
 
 use crate::words::Words;
+use apollo::size::FRAME;
 use apollo::{Height, Replica, Round, Ticks};
 use arrayvec::ArrayVec;
 
-// One of the five replicas.
+// A replica's masks, one for each round.
+pub const MASKS: usize = 9;
+
+// The bytes of its log, a slot for each round.
+pub const LOG: usize = MASKS * FRAME;
+
+// The bytes of the out buffer.
+pub const OUT: usize = 12 * FRAME;
+
+// One of N, counted from 0.
 #[derive(Clone, Copy)]
-pub struct Seat {
+pub struct Index<const N: usize> {
     pub index: usize,
-    ghost at_the_table: { index < 5 },
+    ghost below: { index < N },
 }
 
+// One of the five replicas.
+pub type Seat = Index<5>;
+
 // The slot of a round, or its mask: the first is that of round 1.
-#[derive(Clone, Copy)]
-pub struct Place {
-    pub index: usize,
-    ghost in_the_log: { index < 9 },
-}
+pub type Place = Index<MASKS>;
 
 // How much a call is lent of a buffer that has so much.
 #[derive(Clone, Copy)]
@@ -29,9 +38,9 @@ pub struct Size<const MOST: usize> {
 // How many bytes of the log, masks and bytes of the out buffer a call is lent.
 #[derive(Clone, Copy)]
 pub struct Sizes {
-    pub log: Size<4608>,
-    pub masks: Size<9>,
-    pub out: Size<6144>,
+    pub log: Size<LOG>,
+    pub masks: Size<MASKS>,
+    pub out: Size<OUT>,
 }
 
 // A call of a replica, with what it is lent.
@@ -39,8 +48,8 @@ pub struct Sizes {
 pub enum Call<'a> {
     Change(Sizes, &'a [u8], Change<'a>), // with an entry
     Equivocation(&'a [u8]),
-    Read(Size<4608>, Height),
-    Fetch(Size<4608>, Size<6144>, Height),
+    Read(Size<LOG>, Height),
+    Fetch(Size<LOG>, Size<OUT>, Height),
 }
 
 // A call that may change the log and the masks, with the frames that are handed in.
@@ -68,7 +77,7 @@ pub struct Opening<'a> {
 pub enum Task<'a> {
     Clear, // all records, logs and masks
     Begin(Seat, Replica), // a record, and a log and masks of zeros
-    Store(Seat, Place, &'a [u8; 512]), // the bytes of a slot
+    Store(Seat, Place, &'a [u8; FRAME]), // the bytes of a slot
     Mask(Seat, Place, u16),
     Give(Replica), // the record that the next call gets
     Digest(&'a [u8]),
@@ -85,15 +94,15 @@ pub struct Bytes {
 impl Seat {
     fn of(words: &mut Words<'_>) -> Option<Self> {
         let index = words.size(4)?;
-        Some(Seat { index })
+        Some(Index { index })
     }
 }
 
 impl Place {
     // That of a round from 1 to 9.
     fn of(words: &mut Words<'_>) -> Option<Self> {
-        let index = words.size(9)?.checked_sub(1)?;
-        Some(Place { index })
+        let index = words.size(MASKS)?.checked_sub(1)?;
+        Some(Index { index })
     }
 }
 
@@ -128,7 +137,7 @@ fn record(words: &mut Words<'_>) -> Option<Replica> {
         tip_height: Height(words.number()?),
         committed_round: Round(words.number()?),
         committed_height: Height(words.number()?),
-        rotation: *words.bytes(&mut seats)?.first_chunk()?,
+        rotation: *words.bytes(&mut seats)?.as_array()?,
         equivocators: words.number()?,
     })
 }
@@ -146,35 +155,40 @@ impl<'a> Opening<'a> {
 }
 
 impl<'a> Call<'a> {
+    // A call that hands frames in, with an entry before them.
+    fn hearing<F: FnOnce(&'a [u8]) -> Change<'a>>(
+        words: &mut Words<'_>,
+        bytes: &'a mut Bytes,
+        change: F,
+    ) -> Option<Self>
+        requires { F.IsAlwaysCallable change }
+    {
+        let sizes = Sizes::of(words)?;
+        let entry = words.bytes(&mut bytes.others)?;
+        let frames = words.bytes(&mut bytes.frames)?;
+        Some(Call::Change(sizes, entry, change(frames)))
+    }
+
     // The words after the letter and the replica. A letter stands in one place, here or in `parse`, so no type names it.
     fn of(letter: &str, words: &mut Words<'_>, bytes: &'a mut Bytes) -> Option<Self> {
-        let Bytes { frames, others } = bytes;
         Some(match letter {
             "o" => {
-                let opening = Opening::of(words, frames)?;
+                let opening = Opening::of(words, &mut bytes.frames)?;
                 Call::Change(
                     Sizes::of(words)?,
-                    words.bytes(others)?,
+                    words.bytes(&mut bytes.others)?,
                     Change::Open(opening),
                 )
             }
-            "b" => Call::Change(
+            "b" => Call::hearing(words, bytes, Change::Branch)?,
+            "v" => Call::hearing(words, bytes, Change::Blame)?,
+            "a" => Call::hearing(words, bytes, Change::Blames)?,
+            "t" => Call::Change(
                 Sizes::of(words)?,
-                words.bytes(others)?,
-                Change::Branch(words.bytes(frames)?),
+                words.bytes(&mut bytes.others)?,
+                Change::Tick,
             ),
-            "v" => Call::Change(
-                Sizes::of(words)?,
-                words.bytes(others)?,
-                Change::Blame(words.bytes(frames)?),
-            ),
-            "a" => Call::Change(
-                Sizes::of(words)?,
-                words.bytes(others)?,
-                Change::Blames(words.bytes(frames)?),
-            ),
-            "t" => Call::Change(Sizes::of(words)?, words.bytes(others)?, Change::Tick),
-            "e" => Call::Equivocation(words.bytes(frames)?),
+            "e" => Call::Equivocation(words.bytes(&mut bytes.frames)?),
             "q" => Call::Read(Size::of(words)?, Height(words.number()?)),
             "f" => Call::Fetch(Size::of(words)?, Size::of(words)?, Height(words.number()?)),
             _ => return None,

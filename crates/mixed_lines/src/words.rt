@@ -96,7 +96,8 @@ fn byte(pair: &[u8]) -> Option<u8> {
     }
 }
 
-// By hand, since `hex` decodes capital letters too, which no line may have.
+// By hand: that a letter behind f is no digit is a fact of this function (see must-fail). By `hex`, behind a test for capital
+// letters, which no line may have, it would be one of the library's.
 fn hex_digit(b: u8) -> Option<u8>
     ensures { IfSome result (λ d. d < 16) }
 {

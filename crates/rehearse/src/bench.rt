@@ -7,16 +7,22 @@ use apollo::size::{FRAME, OUT};
 use apollo::{Answer, Kind, Replica, Round, Ticks};
 use std::alloc::{AllocError, Global};
 use std::collections::VecDeque;
-use text::{Line, Stop};
+use text::Stop;
 
-// A replica, with its log of 6 slots, its masks and the frames that others sent it, the oldest first. That of mixed has no queue, and
+// A replica's masks, one for each round.
+const MASKS: usize = 6;
+
+// The bytes of its log, a slot for each round.
+const LOG: usize = MASKS * FRAME;
+
+// A replica, with its log, its masks and the frames that others sent it, the oldest first. That of mixed has no queue, and
 // lends calls parts of its log and masks.
 #[derive(Drop)]
 struct Card {
     id: u8,
     record: Replica,
-    log: [u8; 3072],
-    masks: [u16; 6],
+    log: [u8; LOG],
+    masks: [u16; MASKS],
     queue: VecDeque<[u8; FRAME]>,
 }
 
@@ -26,8 +32,8 @@ impl Card {
         Card {
             id,
             record: record::zero_replica(),
-            log: [0; 3072],
-            masks: [0; 6],
+            log: [0; LOG],
+            masks: [0; MASKS],
             queue: VecDeque::new(alloc),
         }
     }
@@ -79,19 +85,14 @@ impl Card {
         }
     }
 
-    // Prints replica, the answer's number, R, tip round, committed round: 39 bytes at most.
+    // Prints replica, the answer's number, R, tip round, committed round: 39 bytes at most, which are written at once.
     fn show(&self, rt: &impl Print, number: u8) -> Result<(), Stop> {
         let r = &self.record;
-        let ns = [
-            u64::from(self.id),
-            u64::from(number),
-            u64::from(r.round.0),
-            u64::from(r.tip_round.0),
-            u64::from(r.committed_round.0),
-        ];
-        let mut line = Line::<64>::new();
-        line.put_row(&ns, b"\n");
-        line.print(rt)
+        println!(rt;
+            "{} {number} {} {} {}",
+            self.id, r.round.0, r.tip_round.0, r.committed_round.0
+        )
+        .map_err(Stop::Output)
     }
 }
 

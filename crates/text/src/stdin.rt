@@ -8,7 +8,7 @@ use std::alloc::AllocError;
 use std::io::{Error, Read};
 
 // What was read last: of these bytes, those from `at` up to `end` are still to come. A piece of its own, since std's BufReader
-// promises nothing of a reader whose bytes are not known, as `Next` does.
+// promises no byte of a reader whose bytes are not known, as `Next` does.
 #[derive(Drop)]
 pub struct Piece {
     pub bytes: [u8; 4096],

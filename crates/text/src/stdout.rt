@@ -22,7 +22,8 @@ impl From<AllocError> for Stop {
     }
 }
 
-// A line of at most N bytes. A piece that does not fit is left out.
+// A line of at most N bytes. A piece that does not fit is left out: what is there then, the clause of `write!` leaves open, and `println!`
+// has no clause, so a line is put together by pieces.
 #[derive(Drop)]
 pub struct Line<const N: usize> {
     pub bytes: ArrayVec<u8, N>,
