@@ -140,15 +140,11 @@ fn extended(w14: u32, w9: u32, w1: u32, w0: u32) -> u32
         .wrapping_add(w0)
 }
 
-// By `u32::from_be_bytes` four digests take 1 % longer.
 fn word_at(b: &[u8; 64], i: usize) -> u32
     requires { i + 4 ≤ 64 }
     ensures { result ≡ Fips.word_at b.now i }
 {
-    b[i] as u32 * 0x100_0000
-        + b[i + 1] as u32 * 0x1_0000
-        + b[i + 2] as u32 * 0x100
-        + b[i + 3] as u32
+    u32::from_be_bytes([b[i], b[i + 1], b[i + 2], b[i + 3]])
 }
 
 #[tactic(auto, unfolding(crate::specs::Fips::t1))]
