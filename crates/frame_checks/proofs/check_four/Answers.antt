@@ -49,5 +49,6 @@ returns c =
     from_fn_is _ _ (λ k. same (digest (message x k)) (get_or ds k [])) 4 (λ k y q b h. search rules) _
     (map (λ (y : Bor (List ℕ)). checked sha256 y.now) x)
     (length-map x _ ∙ n)
-    (λ k d b. get_or-map (λ (y : Bor (List ℕ)). checked sha256 y.now) x k (record { ref_ptr = (0, 0); now = [] }) d (omega (arith, n)) ∙ lane _ _ (at k b))
+    (λ k d b. get_or-map (λ (y : Bor (List ℕ)). checked sha256 y.now) x k (record { ref_ptr = (0, 0); now = [] }) d (omega (arith, n))
+    ∙ lane _ _ (at k b))
     c.from_fn.ensures.items

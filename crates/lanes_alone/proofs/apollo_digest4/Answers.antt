@@ -26,8 +26,11 @@ made b m r l n p0 p1 p2 p3 e =
     rw (eq-eqb (length b) 2048 l, ← q)
 
 -- the bytes of a frame before its check
-front : (b : List ℕ) (fs : List (List ℕ)) → fs ≡ first_chunks 512 4 b → (k : ℕ) → k < 4 → take 480 (get_or fs k []) ≡ part b (512 * k) 480
-front b fs e k h = ap (λ (l : List (List ℕ)). take 480 (get_or l k [])) e ∙ ap (take 480) (cut k h) ∙ take-take 480 512 (drop (512 * k) b) (omega arith)
+front : (b : List ℕ) (fs : List (List ℕ)) → fs ≡ first_chunks 512 4 b → (k : ℕ) → k < 4
+    → take 480 (get_or fs k []) ≡ part b (512 * k) 480
+front b fs e k h =
+    ap (λ (l : List (List ℕ)). take 480 (get_or l k [])) e ∙ ap (take 480) (cut k h)
+    ∙ take-take 480 512 (drop (512 * k) b) (omega arith)
   where
     cut : (k : ℕ) → k < 4 → get_or (first_chunks 512 4 b) k [] ≡ take 512 (drop (512 * k) b)
     cut zero h = refl
