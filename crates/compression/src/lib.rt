@@ -140,15 +140,11 @@ fn extended(w14: u32, w9: u32, w1: u32, w0: u32) -> u32
         .wrapping_add(w0)
 }
 
-// By `u32::from_be_bytes` four digests take 1 % longer.
 fn word_at(b: &[u8; 64], i: usize) -> u32
     requires { i + 4 ≤ 64 }
     ensures { result ≡ Fips.word_at b.now i }
 {
-    b[i] as u32 * 0x100_0000
-        + b[i + 1] as u32 * 0x1_0000
-        + b[i + 2] as u32 * 0x100
-        + b[i + 3] as u32
+    u32::from_be_bytes([b[i], b[i + 1], b[i + 2], b[i + 3]])
 }
 
 #[tactic(auto, unfolding(crate::specs::Fips::t1))]
@@ -230,7 +226,7 @@ impl<const L: usize> Lanes<L> {
         }
     }
 
-    // The words of lane l. Who reads or writes a lane asks `l < L`: a type in its place would be made and opened at each call.
+    // The words of lane l. Each function that is given l asks `l < L`, which the walks over `0..L` show: a type says it no shorter.
     pub fn lane(&self, l: usize) -> State
         requires { l < L }
         ensures { result ≡ state_at self.now l }
@@ -284,6 +280,8 @@ fn put_word<const L: usize>(row: &mut [u32; L], l: usize, x: u32)
 }
 
 // A word t of the schedule of lane l from 16 on, with i = t % 16: it takes the place of word t - 16.
+// w and l go together through five functions: a struct of both would be made for each lane, with w by `&mut` in three and by `&` in two.
+// Four contracts ask a row below 16, for w has sixteen: literals and the walk of load_rows show it, and a type says it no shorter.
 fn extend<const L: usize>(w: &mut [[u32; L]; 16], i: usize, l: usize) -> u32
     requires { (i < 16) × (l < L) }
     ensures turns { (b : List ℕ) (t : ℕ) → 16 ≤ t → t < 64 → t % 16 ≡ i
@@ -319,6 +317,7 @@ fn extend_round<const L: usize>(
 }
 
 // The sixteen rounds of lane l from 16 n on. A `for` is not unrolled, and four digests take three times as long.
+// Not one function with first_rounds over a step: this step writes w, so of an `FnMut` a contract would name sixteen calls in a row.
 fn next_rounds<const L: usize>(s: State, w: &mut [[u32; L]; 16], n: usize, l: usize) -> State
     requires { (1 ≤ n) × (n < 4) × (l < L) }
     ensures turns { (h : State) (b : List ℕ) → Turned h (Fips.schedule b 64) (16 * n) s (words_at w.old l)
@@ -343,7 +342,8 @@ fn next_rounds<const L: usize>(s: State, w: &mut [[u32; L]; 16], n: usize, l: us
     extend_round(v, w, n, 15, l)
 }
 
-// The sixteen rounds of every lane from 16 n on. Not by each_lane, whose step is an `Fn`: this one writes w.
+// The sixteen rounds of every lane from 16 n on. This step writes w, and each_lane's is an `Fn`: of an `FnMut` its contract, that of lane m
+// from m and its words alone, could not speak, for each call begins where the one before it left w.
 fn next_lanes<const L: usize>(v: &mut Lanes<L>, w: &mut [[u32; L]; 16], n: usize)
     requires { (1 ≤ n) × (n < 4) }
     ensures { (h : ℕ → State) (b : ℕ → List ℕ) → AllTurned h b (16 * n) v.old w.old
@@ -364,7 +364,8 @@ fn held_round<const L: usize>(s: State, w: &[[u32; L]; 16], t: usize, l: usize) 
     round(s, K[t], w[t][l])
 }
 
-// Rounds 0 to 15 of lane l, written out like next_rounds.
+// Rounds 0 to 15 of lane l, written out like next_rounds. With the whole schedule made before, one list serves for all, and four digests
+// take 2.4 times as long.
 fn first_rounds<const L: usize>(s: State, w: &[[u32; L]; 16], l: usize) -> State
     requires { l < L }
     ensures { (b : List ℕ) → Window (Fips.schedule b 64) (words_at w.now l) 16
@@ -388,7 +389,7 @@ fn first_rounds<const L: usize>(s: State, w: &[[u32; L]; 16], l: usize) -> State
     held_round(v, w, 15, l)
 }
 
-// Word t of each lane's block.
+// Word t of each lane's block. By an index into b: the invariant of a walk over a zip with `iter_mut` has no name for the row.
 fn load_row<const L: usize>(row: &mut [u32; L], b: &[&[u8; 64]], t: usize)
     requires { (length b.now ≡ L) × (t < 16) }
     ensures { (m : ℕ) → m < L → slice_index row.new m ≡ Fips.word_at (bytes_at b.now m) (4 * t) }
@@ -408,7 +409,8 @@ fn load_rows<const L: usize>(w: &mut [[u32; L]; 16], b: &[&[u8; 64]])
     }
 }
 
-// A block of each lane is compressed into its hash value. An array of L references, in place of the slice, has no proof yet.
+// A block of each lane is compressed into its hash value. The borrow checker does not cover an array of references whose length is L.
+// `L ≤ 1024` is any bound by which the rows, 64 L bytes, are no larger than a value may be.
 pub fn compress<const L: usize>(h: &mut Lanes<L>, b: &[&[u8; 64]])
     requires { (length b.now ≡ L) × (L ≤ 1024) }
     ensures { Compressed (bytes_at b.now) h.old h.new }

@@ -2,7 +2,6 @@
 use Rattle.std.proofs.Common.{◌≡◌, refl, sym, ap, ◌∙◌, Bool, false, List, [], ◌∷◌, ℕ, zero, suc, ◌<◌, ◌≤◌, length, get_or, map, take, drop, arith}
 use borrow.Author.Tests.{lt-ltb, le-ltb}
 use Rattle.std.specs.Simd.{first_chunks}
-use Rattle.std.specs.Borrow.{Bor}
 use Rattle.sha256.specs.Fips.{sha256}
 use Rattle.apollo.specs.Size.{frame_size}
 use Rattle.apollo.specs.Frame.{frames, checked}
@@ -52,22 +51,6 @@ module _ (a : List Bool) (fs : List (List ℕ)) (b : Bool) (bs : List Bool) (x :
 
   pub known_next : Known bs xs
   known_next k l m = (rw (d, e) at right) (suc k) (omega arith) (omega arith)
-
--- frame k of x, as the code reads it
-abbrev pub frame_at : List (Bor (List ℕ)) → ℕ → List ℕ
-frame_at x k = (get_or x k (record { ref_ptr = (0, 0); now = [] })).now
-
--- the checks of four frames
-pub four_checks : (x : List (Bor (List ℕ))) {p q r s : Bool} → length x ≡ 4 → p ≡ checked sha256 (frame_at x 0)
-    → q ≡ checked sha256 (frame_at x 1)
-    → r ≡ checked sha256 (frame_at x 2) → s ≡ checked sha256 (frame_at x 3)
-    → p ∷ q ∷ r ∷ s ∷ [] ≡ map (λ (y : Bor (List ℕ)). checked sha256 y.now) x
-four_checks (a ∷ b ∷ c ∷ d ∷ []) l e0 e1 e2 e3 = rw (e0, e1, e2, e3)
-four_checks [] l e0 e1 e2 e3 = absurd (omega arith)
-four_checks (a ∷ []) l e0 e1 e2 e3 = absurd (omega arith)
-four_checks (a ∷ b ∷ []) l e0 e1 e2 e3 = absurd (omega arith)
-four_checks (a ∷ b ∷ c ∷ []) l e0 e1 e2 e3 = absurd (omega arith)
-four_checks (a ∷ b ∷ c ∷ d ∷ e ∷ x) l e0 e1 e2 e3 = absurd (omega arith)
 
 -- for callers: what a frame that is given says of those that were left, and that none is given
 pub given_first : (xs ys : List (List ℕ)) (x : List ℕ) (b : Bool) → map with_check xs ≡ (x, b) ∷ map with_check ys

@@ -17,19 +17,8 @@ use std::array::IntoIter;
 fn check_four(x: [&[u8; FRAME]; 4]) -> [bool; 4]
     ensures { result ≡ map (λ x. Frame.checked sha256 x.now) x.entry }
 {
-    let d = lanes::digest4([
-        &x[0][..CHECK],
-        &x[1][..CHECK],
-        &x[2][..CHECK],
-        &x[3][..CHECK],
-    ])
-    .0;
-    [
-        frame_forms::has_check(x[0], d[0]),
-        frame_forms::has_check(x[1], d[1]),
-        frame_forms::has_check(x[2], d[2]),
-        frame_forms::has_check(x[3], d[3]),
-    ]
+    let d = lanes::digest4(x.map(|frame| &frame[..CHECK])).0;
+    std::array::from_fn(|i| frame_forms::has_check(x[i], d[i]))
 }
 
 // The first four frames: whether each is there and its check is right. Of three frames the first stands in the fourth lane too.

@@ -1,10 +1,9 @@
 -- Laws of the padded message of 480 bytes, and of the digests of the lanes. Assumes nothing.
-use Rattle.std.proofs.Common.{◌≡◌, ℕ, zero, suc, ◌+◌, ◌-◌, ◌*◌, ◌%◌, ◌^◌, ◌<◌, List, [], ◌∷◌, ◌++◌, length, get_or, map, take, drop, set, arith, ap, ap₂, ◌∙◌, sym, length-drop}
+use Rattle.std.proofs.Common.{◌≡◌, ℕ, ◌+◌, ◌-◌, ◌*◌, ◌%◌, ◌^◌, ◌<◌, List, [], ◌∷◌, ◌++◌, length, get_or, map, take, drop, set, arith, ap, ap₂, ◌∙◌, sym, length-drop}
 use lib.ListN.{replicate}
 use lib.Seq.{take_all, take-append-add, drop-append-le}
 use native.Mathlib.Nat.{suc-add, zero-add}
 use Rattle.std.specs.Borrow.{Bor}
-use Rattle.std.specs.List.{All}
 use Rattle.compression.specs.declared.State.{State}
 use Rattle.compression.specs.declared.Lanes.{Lanes}
 use Rattle.compression.specs.Lanes.{state_at, Compressed}
@@ -33,18 +32,6 @@ last_end s xs l e =
     let r : take 64 (xs ++ tail 480) ≡ xs ++ take 32 (tail 480) = rw q at (take-append-add xs (tail 480) 32) in
     ap (λ (x : List ℕ). set x 62 15) (at (replicate 32 0) 0 0x80) ∙ at (set (replicate 32 0) 0 0x80) 30 15
     ∙ sym (ap (take 64) (drop-append-le 448 s (tail (length s)) (omega arith)) ∙ ap₂ (λ (ys : List ℕ) (k : ℕ). take 64 (ys ++ tail k)) (sym w) l ∙ r)
-
--- what holds of each of four
-each_of_four : (P : ℕ → Type 0) → P 0 → P 1 → P 2 → P 3 → (k : ℕ) → k < 4 → P k
-each_of_four P a b c d zero h = a
-each_of_four P a b c d (suc zero) h = b
-each_of_four P a b c d (suc (suc zero)) h = c
-each_of_four P a b c d (suc (suc (suc zero))) h = d
-each_of_four P a b c d (suc (suc (suc (suc k)))) h = absurd (omega arith)
-
--- for callers: what holds of each of four messages
-pub all_of_four : (P : Bor (List ℕ) → Type 0) {a b c d : Bor (List ℕ)} → P a → P b → P c → P d → All P (a ∷ b ∷ c ∷ d ∷ [])
-all_of_four P {a} {b} {c} {d} p q r s k e h = each_of_four (λ j. P (get_or (a ∷ b ∷ c ∷ d ∷ []) j e)) p q r s k h
 
 -- a message of the length of digest4's
 abbrev pub Long : Bor (List ℕ) → Type 0

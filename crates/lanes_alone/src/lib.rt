@@ -4,6 +4,7 @@
 ghost use Rattle.std.specs.Prelude.{◌≡◌};
 ghost use Rattle.lanes_alone.specs.Digests.{digests};
 
+use apollo::size::{CHECK, FRAME};
 use lanes::Four;
 
 // The digests of four frames of 512 bytes, end to end; zeros for a buffer of another length.
@@ -11,13 +12,11 @@ use lanes::Four;
 pub extern "C" fn apollo_digest4(frames: &[u8]) -> Four
     ensures { result ≡ digests frames.now }
 {
-    if frames.len() != 2048 {
-        return Four([[0; 32]; 4]);
+    let (whole, rest) = frames.as_chunks::<FRAME>();
+    match whole {
+        [a, b, c, d] if rest.is_empty() => {
+            lanes::digest4([a, b, c, d].map(|frame| &frame[..CHECK]))
+        }
+        _ => Four([[0; 32]; 4]),
     }
-    lanes::digest4([
-        &frames[..480],
-        &frames[512..992],
-        &frames[1024..1504],
-        &frames[1536..2016],
-    ])
 }

@@ -1,14 +1,15 @@
--- A rotation put into 15 seats, seat by seat. Assumes nothing.
-use Prim.Native.Nat.{ℕ, suc, ◌+◌, ◌-◌, ◌≤◌, ◌<◌}
+-- The 15 seats of a rotation, one by one. Assumes nothing.
+use Prim.Native.Nat.{ℕ, ◌+◌, ◌-◌, ◌≤◌, ◌<◌}
 use mathlib.Core.Path.{◌≡◌, refl, sym, ap, ◌∙◌}
-use mathlib.Core.List.{List, [], ◌∷◌, ◌++◌, append-nil}
+use mathlib.Core.List.{List, ◌++◌}
 use mathlib.Core.Bool.{Bool, true, false}
-use native.Mathlib.Numerals.{add-one}
 use native.Mathlib.Omega.{arith}
 use lib.Dec.{ltb}
-use lib.ListN.{length, get_or, take, set, replicate, length-append, get_or-replicate, get_or-append, get_or-eq_default}
-use lib.Seq.{take-suc, set_at, length-take-le, append_snoc, get_or-append-add}
+use lib.ListN.{length, get_or, length-append, get_or-replicate, get_or-append, get_or-eq_default}
+use lib.Seq.{length-take-le, get_or-append-add}
 use borrow.Author.Tests.{ltb-true, ltb-false}
+use Rattle.std.proofs.lemmas.List.{get_or-take}
+use Rattle.std.proofs.lemmas.Grind.{get_or_default_zero}
 use Rattle.apollo.specs.Bytes.{zeros}
 use Rattle.apollo.specs.Rotation.{padded}
 use Rattle.apollo.proofs.Slots.{length_zeros}
@@ -32,25 +33,10 @@ module _ (xs : List ℕ) where
           ap (λ k. get_or long k 0) q ∙ get_or-append-add xs (zeros 15) (i - length xs) 0
           ∙ get_or-replicate 15 (i - length xs) 0 0 (omega arith) ∙ sym (get_or-eq_default xs 0 h)
 
-  -- the first i seats are there, the others are zero
-  abbrev pub Filled : List ℕ → (i : ℕ) → Type 0
-  Filled ys i = ys ≡ take i long ++ zeros (15 - i)
+  pub seat : (i d : ℕ) → i < 15 → get_or (padded xs) i d ≡ get_or xs i 0
+  unfolding padded
+  seat i d h = get_or-take 15 long i d h ∙ get_or_default_zero long i d (omega (arith, long_length)) ∙ long_at i h
 
-  pub fill_one : (ys : List ℕ) (i v : ℕ) → i < 15 → Filled ys i → v ≡ get_or xs i 0 → Filled (set ys i v) (i + 1)
-  unfolding zeros
-  fill_one ys i v l e d =
-      let size : length (take i long) ≡ i = length-take-le i long (omega (arith, long_length)) in
-      let q : 15 - i ≡ suc (15 - (i + 1)) = omega arith in
-      let next : take (i + 1) long ≡ take i long ++ (v ∷ []) =
-      ap (λ k. take k long) (add-one i) ∙ take-suc long i 0 (omega (arith, long_length))
-      ∙ ap (λ k. take i long ++ (k ∷ [])) (long_at i l ∙ sym d) in
-      ap (λ (zs : List ℕ). set zs i v) (e ∙ ap (λ k. take i long ++ replicate k 0) q)
-      ∙ set_at (take i long) 0 (replicate (15 - (i + 1)) 0) v i size
-      ∙ sym (append_snoc (take i long) v (replicate (15 - (i + 1)) 0))
-      ∙ ap (λ (zs : List ℕ). zs ++ replicate (15 - (i + 1)) 0) (sym next)
-
-  pub fill_end : (ys : List ℕ) (i : ℕ) → i ≤ 15 → 15 ≤ i → Filled ys i → ys ≡ padded xs
-  unfolding padded zeros
-  fill_end ys i l h e =
-      let q : i ≡ 15 = omega arith in
-      e ∙ ap (λ k. take k long ++ replicate (15 - k) 0) q ∙ append-nil (take 15 long)
+  pub seats : length (padded xs) ≡ 15
+  unfolding padded
+  seats = length-take-le 15 long long_length

@@ -59,13 +59,8 @@ pub fn valid_rotation(seats: [u8; 15], n: usize) -> bool
 }
 
 // A rotation as a record holds it: 15 seats, zero past its end; of a longer one, which 17 refuses, the first 15.
-// One by one: a copy of n bytes is a call of memcpy, and of the C library the archive needs memset alone.
 pub fn padded(rotation: &[u8]) -> [u8; 15]
     ensures { result ≡ padded rotation.now }
 {
-    let mut seats = [0; 15];
-    for i in 0..15 {
-        seats[i] = slices::byte(rotation, i);
-    }
-    seats
+    std::array::from_fn(|i| slices::byte(rotation, i))
 }

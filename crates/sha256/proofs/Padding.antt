@@ -1,23 +1,21 @@
 -- Laws of the padded message. Assumes nothing.
-use mathlib.Core.Path.{◌≡◌, sym, ap, ap₂, ◌∙◌}
-use mathlib.Core.List.{List, [], ◌++◌}
-use Prim.Native.Nat.{ℕ, suc, ◌+◌, ◌-◌, ◌*◌, ◌/◌, ◌%◌, ◌^◌, ◌≤◌, ◌<◌}
+use mathlib.Core.Path.{◌≡◌, refl, sym, ap, ◌∙◌}
+use mathlib.Core.List.{List, [], ◌∷◌, ◌++◌}
+use Prim.Native.Nat.{ℕ, zero, suc, ◌+◌, ◌-◌, ◌*◌, ◌/◌, ◌%◌, ◌^◌, ◌≤◌, ◌<◌}
 use native.Mathlib.Omega.{arith}
-use lib.ListN.{length, get_or, take, drop, replicate, length-append, length-drop, length-replicate, get_or-replicate, get_or-append, get_or-eq_default}
+use lib.ListN.{length, get_or, drop, replicate, length-append, length-drop, length-replicate, get_or-replicate, get_or-append, get_or-eq_default}
 use lib.Seq.{get_or-append-add, get_or-append_seam, take-append-le, drop-append-le}
 use Rattle.std.specs.Int.{w32, w64, to_be_bytes}
 use Rattle.std.specs.List.{flat_map}
-use Rattle.std.proofs.lemmas.List.{flat_map_more, take_more, get_or-take, get_or-drop}
+use Rattle.std.proofs.lemmas.List.{get_or-take, get_or-drop}
 use Rattle.std.proofs.lemmas.Grind.{get_or_default_zero}
-use Rattle.std.proofs.lemmas.Slice.{take-put_mid}
-use borrow.Rule.Slice.PartMut.{put_mid}
 use Rattle.sha256.specs.Fips.{padded, zeros, bytes4, bytes8, block}
 
--- the zero bytes are as few as bring the whole to 56 modulo 64
-pub zeros_fill : (l : ℕ) → (l + 1 + zeros l) % 64 ≡ 56
+-- `zeros` is the standard's number (5.1.1): it fills up to 56 bytes modulo 64, and no smaller one does
+zeros_fill : (l : ℕ) → (l + 1 + zeros l) % 64 ≡ 56
 zeros_fill l = omega arith
 
-pub zeros_few : (l z : ℕ) → (l + 1 + z) % 64 ≡ 56 → zeros l ≤ z
+zeros_few : (l z : ℕ) → (l + 1 + z) % 64 ≡ 56 → zeros l ≤ z
 zeros_few l z h = omega arith
 
 pub length_padded : (m : List ℕ) → length (padded m) ≡ length m + 9 + zeros (length m)
@@ -78,17 +76,17 @@ block_front m k h =
     let g : 64 * k ≤ length m = omega arith in
     rw (drop-append-le (64 * k) m _ g) (sym (take-append-le 64 (drop (64 * k) m) _ l))
 
--- the bytes of one word more
-pub words_more : (d ys ws : List ℕ) (i : ℕ) → length d ≡ 32 → length ws ≡ 8 → i < 8 → take (4 * i) d ≡ flat_map bytes4 (take i ws)
-    → ys ≡ to_be_bytes w32 (get_or ws i 0)
-    → take (4 * (i + 1)) (put_mid (4 * i) (4 * i + 4 - 4 * i) d ys) ≡ flat_map bytes4 (take (i + 1) ws)
-words_more d ys ws i l w h o e =
-    let x : ℕ = get_or ws i 0 in
-    let b : x % 256 ≡ x / 1 % 256 = omega arith in
-    let q : ys ≡ bytes4 x = e ∙ rw b in
-    let n : length ys ≡ 4 = ap length q in
-    take-put_mid (4 * i) (4 * i + 4 - 4 * i) d ys (4 * (i + 1)) (omega arith) (omega arith)
-    ∙ ap₂ (λ (xs zs : List ℕ). xs ++ zs) o q ∙ flat_map_more bytes4 [] (take i ws) x ∙ ap (flat_map bytes4) (sym (take_more ws i 0 (omega arith)))
+-- a byte of some words
+pub word_byte : (ws : List ℕ) (i d : ℕ) → i < 4 * length ws → get_or (flat_map bytes4 ws) i d ≡ get_or (to_be_bytes w32 (get_or ws (i / 4) 0)) (i % 4) 0
+word_byte [] i d h = absurd (omega arith)
+word_byte (w ∷ ws) zero d h = omega arith
+word_byte (w ∷ ws) (suc zero) d h = refl
+word_byte (w ∷ ws) (suc (suc zero)) d h = refl
+word_byte (w ∷ ws) (suc (suc (suc zero))) d h = omega arith
+word_byte (w ∷ ws) (suc (suc (suc (suc i)))) d h =
+    let q : suc (suc (suc (suc i))) / 4 ≡ suc (i / 4) = omega arith in
+    let r : suc (suc (suc (suc i))) % 4 ≡ i % 4 = omega arith in
+    word_byte ws i d (omega arith) ∙ rw (q, r) refl
 
 -- a byte of a block
 pub block_byte : (p : List ℕ) (k i d : ℕ) → 64 * k + 64 ≤ length p → i < 64 → get_or (block p k) i d ≡ get_or p (64 * k + i) 0

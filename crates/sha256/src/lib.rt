@@ -6,16 +6,12 @@ ghost use Rattle.sha256.specs.Fips as Fips;
 
 use compression::State;
 
-// The bytes of the eight words. Four digests take 1 % longer by `map` and `as_flattened`, and 0.5 % by `from_fn`, byte by byte.
+// The bytes of the eight words.
 pub fn bytes_of(s: State) -> [u8; 32]
     ensures { result ≡ Fips.bytes_of s }
 {
     let words = [s.a, s.b, s.c, s.d, s.e, s.f, s.g, s.h];
-    let mut d = [0u8; 32];
-    for (i, word) in words.iter().enumerate() {
-        d[4 * i..4 * i + 4].copy_from_slice(&word.to_be_bytes());
-    }
-    d
+    std::array::from_fn(|i| words[i / 4].to_be_bytes()[i % 4])
 }
 
 // Byte i of the padded message.

@@ -1,19 +1,15 @@
--- `rotation::padded` meets its contract. By one seat more, and the end.
-use Rattle.std.proofs.Common.{refl, arith}
-use Rattle.apollo.specs.Bytes.{zeros}
-use Rattle.rotation.proofs.Fill.{fill_one, fill_end}
+-- `rotation::padded` meets its contract. Seat by seat. Assumes nothing.
+use Rattle.std.proofs.Common.{get_or, rules}
+use Rattle.std.proofs.iter.Serving.{serving}
+use Rattle.sha256.proofs.FromFn.{from_fn_is}
+use Rattle.apollo.specs.Rotation.{padded}
+use Rattle.rotation.proofs.Fill.{seat, seats}
 use Rattle.rotation.proofs.padded.Goals as goal
 
-pub loop-i-init : goal.loop-i-init
-unfolding zeros
-loop-i-init c = (omega arith, refl)
-
-pub loop-i-preserved : goal.loop-i-preserved
-loop-i-preserved c =
-    let l = c.loop-i in
-    (omega arith, fill_one c.args.rotation.now l.seats l.i c.byte.result (omega arith) l.invariant.1 c.byte.ensures)
+pub from_fn-requires : goal.from_fn-requires
+from_fn-requires c = grind serving
 
 pub returns : goal.returns
 returns c =
-    let l = c.loop-i in
-    fill_end c.args.rotation.now l.seats l.i l.invariant.0 (omega arith) l.invariant.1
+    let xs = c.args.rotation.now in
+    from_fn_is _ _ (λ i. get_or xs i 0) 15 (λ i y q b h. search rules) _ (padded xs) (seats xs) (seat xs) c.from_fn.ensures.items

@@ -1,12 +1,18 @@
--- `sha256::bytes_of` meets its contract. Word by word. Assumes nothing.
-use Rattle.std.proofs.Common.{◌∙◌, refl, arith, rules}
-use Rattle.std.proofs.lemmas.Slice.{overwrites}
-use Rattle.sha256.proofs.Padding.{words_more}
+-- `sha256::bytes_of` meets its contract. Byte by byte. Assumes nothing.
+use Rattle.std.proofs.Common.{ℕ, ◌/◌, ◌%◌, List, [], ◌∷◌, get_or, refl, arith, rules}
+use Rattle.std.proofs.iter.Serving.{serving}
+use Rattle.std.specs.Int.{w32, to_be_bytes}
+use Rattle.sha256.specs.Fips.{bytes_of}
+use Rattle.sha256.proofs.Padding.{word_byte}
+use Rattle.sha256.proofs.FromFn.{from_fn_is}
 use Rattle.sha256.proofs.bytes_of.Goals as goal
 
-pub loop-i-preserved : goal.loop-i-preserved
-loop-i-preserved c = (
-  search (rules, overwrites),
-  words_more c.loop-i.d c.copy_from_slice.new.self _ c.loop-i.i c.loop-i.invariant.0 refl (omega arith) c.loop-i.invariant.1
-      (c.copy_from_slice.ensures.after ∙ c.to_be_bytes.ensures),
-)
+pub from_fn-requires : goal.from_fn-requires
+from_fn-requires c = grind serving
+
+pub returns : goal.returns
+returns c =
+    let s = c.args.s in
+    let words : List ℕ = s.a ∷ s.b ∷ s.c ∷ s.d ∷ s.e ∷ s.f ∷ s.g ∷ s.h ∷ [] in
+    from_fn_is _ _ (λ i. get_or (to_be_bytes w32 (get_or words (i / 4) 0)) (i % 4) 0) 32 (λ i y q b h. search rules) _
+    (bytes_of s) refl (λ i d b. word_byte words i d (omega arith)) c.from_fn.ensures.items
