@@ -62,7 +62,8 @@ pub fn read_part(replica: Replica, log: &[u8], height: Height) -> Part
     }
 }
 
-// The part p of the log: its bytes, in the place where they lie. By its two ends: a range in a variable is no index here.
+// The part p of the log: its bytes, in the place where they lie, which the clause of `slices::part` leaves open. By its two ends: a range
+// in a variable is no index here.
 fn cut<'a>(log: &'a [u8], p: Range<usize>) -> &'a [u8]
     requires { (p.start ≤ p.end) × (p.end ≤ length log.now) }
     ensures bytes { result.now ≡ Bytes.part log.now p.start (p.end - p.start) }

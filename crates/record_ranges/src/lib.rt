@@ -16,7 +16,8 @@ pub fn valid_own(r: Replica) -> bool
     (u32::from(r.id) < 2 * u32::from(r.f) + 1) & (1..=60000).contains(&r.timeout.0)
 }
 
-// There is one slot a round.
+// There is one slot a round. Apart from `valid_record`, and so beside it where both are asked: a function of both is handed a copy of the
+// record, and a tick took 41 ns in place of 28.
 pub fn valid_log(r: Replica, log: &[u8]) -> bool
     ensures { result ≡ valid_log r log.now }
 {
