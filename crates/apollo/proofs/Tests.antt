@@ -28,6 +28,10 @@ pub and_assoc : (a b c : Bool) → a && (b && c) ≡ a && b && c
 and_assoc true b c = refl
 and_assoc false b c = refl
 
+pub and_no : (b : Bool) → b && false ≡ false
+and_no true = refl
+and_no false = refl
+
 pub both : (a b : Bool) → a ≡ true → b ≡ true → (a && b) ≡ true
 both true b e d = d
 both false b e d = e

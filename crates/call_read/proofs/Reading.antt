@@ -86,7 +86,7 @@ unfolding readable
 entry_low x h e = leb-true (entry_length x) 400 (and_second (filled x && eqb (height x) h) (leb (entry_length x) 400) e)
 
 -- the part lies in the log, whole
-part_fits : (r : Replica) (log : List ℕ) (h : ℕ) → (read_call r log h).answer.start + (read_call r log h).answer.length ≤ length log
+pub part_fits : (r : Replica) (log : List ℕ) (h : ℕ) → (read_call r log h).answer.start + (read_call r log h).answer.length ≤ length log
 unfolding read_call
 part_fits r log h =
     let Fits : ReadOutcome → Type 0 = λ o. o.answer.start + o.answer.length ≤ length log in

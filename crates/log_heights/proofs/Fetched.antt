@@ -70,7 +70,7 @@ flatten_append (x ∷ xs) ys = rw (flatten_append xs ys) (sym (append_assoc x (f
 
 module _ (log : List ℕ) (h : ℕ) where
   -- the frames that fetch copies up to round r
-  abbrev up_to : (r : ℕ) → List (List ℕ)
+  abbrev pub up_to : (r : ℕ) → List (List ℕ)
   up_to r = above h (chain log r)
 
   up_more : (r : ℕ) → up_to (suc r) ≡ up_to r ++ cond (is_tall (slot log (suc r)) h) (slot log (suc r) ∷ []) []

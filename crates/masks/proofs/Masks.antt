@@ -18,12 +18,16 @@ use Rattle.apollo.specs.declared.Setup.{Setup}
 below_pow : (m n : ℕ) → m < 2 ^ 16 → 16 ≤ n → m < 2 ^ n
 below_pow m n h g = lt_of_lt_of_le h (pow_mono g)
 
+-- nothing is dropped from a mask reduced to 16 bits or more
+pub reduced_whole : (m n : ℕ) → m < 2 ^ 16 → 16 ≤ n → m ≡ m % 2 ^ n
+reduced_whole m n h g = sym (mod-eq_of_lt (below_pow m n h g))
+
 -- a mask reduced to n bits, by the end of their range in a word of 32 bits; nothing is dropped where it is past the word
 pub reduced_low : (m n : ℕ) → n < 32 → m % (1 * 2 ^ n % 2 ^ 32) ≡ m % 2 ^ n
 reduced_low m n h = ap (λ k. m % k) (one_shl n 32 h)
 
-pub reduced_whole : (m n : ℕ) → m < 2 ^ 16 → 32 ≤ n → m ≡ m % 2 ^ n
-reduced_whole m n h g = sym (mod-eq_of_lt (below_pow m n h (omega arith)))
+pub reduced_past : (m n : ℕ) → m < 2 ^ 16 → 32 ≤ n → m ≡ m % 2 ^ n
+reduced_past m n h g = reduced_whole m n h (omega arith)
 
 -- a mask is below 2 ^ n where none is left of it above n bits; a mask of 16 bits is where n is 16 or more
 pub fits_low : (m n : ℕ) → eqb (m / 2 ^ n) 0 ≡ ltb m (2 ^ n)

@@ -19,7 +19,7 @@ fn mask(masks: &[u16], r: u32) -> u16
 }
 
 // A mask reduced to n bits.
-#[tactic(auto, using(crate::proofs::Masks::reduced_low, crate::proofs::Masks::reduced_whole))]
+#[tactic(auto, using(crate::proofs::Masks::reduced_low, crate::proofs::Masks::reduced_past))]
 fn reduced(m: u16, n: u32) -> u32
     ensures { result ≡ m % 2 ^ n }
 {

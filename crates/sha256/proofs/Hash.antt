@@ -1,13 +1,13 @@
 -- Laws of the hash value over the blocks of a padded message, and of the digest. Assumes nothing.
 use mathlib.Core.Path.{◌≡◌, refl, ap, ap₂, ◌∙◌}
-use mathlib.Core.List.{List}
-use Prim.Native.Nat.{ℕ, zero, suc, ◌+◌, ◌*◌, ◌/◌, ◌≤◌}
+use mathlib.Core.List.{List, [], ◌∷◌, ◌++◌}
+use Prim.Native.Nat.{ℕ, zero, suc, ◌+◌, ◌*◌, ◌/◌, ◌≤◌, ◌<◌}
 use native.Mathlib.Numerals.{add-one}
 use native.Mathlib.Omega.{arith}
-use lib.ListN.{length}
+use lib.ListN.{length, get_or}
 use lib.Seq.{take_all}
 use Rattle.compression.specs.declared.State.{State}
-use Rattle.sha256.specs.Fips.{zeros, padded, block, H0, compress, hash, bytes_of, sha256}
+use Rattle.sha256.specs.Fips.{bytes4, zeros, padded, block, H0, compress, hash, bytes_of, sha256}
 use Rattle.sha256.proofs.Padding.{length_padded, block_front}
 
 -- the blocks that lie whole in the message
@@ -37,7 +37,39 @@ digest_end m r h k n p l g e q =
     let d : length (padded m) / 64 ≡ k = omega (arith, length_padded m) in
     rw d (q ∙ ap bytes_of e)
 
--- for callers: a digest has 32 elements
+-- For all later use: a digest has 32 elements, and each is a byte.
 pub digest_length : (m : List ℕ) → length (sha256 m) ≡ 32
 unfolding sha256
 digest_length m = refl
+
+pub record Bytes (xs : List ℕ) : Type 0 where
+  pub small : (i : ℕ) → get_or xs i 0 < 256
+
+both : {xs ys : List ℕ} → Bytes xs → Bytes ys → Bytes (xs ++ ys)
+both {xs} {ys} p q = record { small = at xs p.small }
+  where
+    at : (zs : List ℕ) → ((i : ℕ) → get_or zs i 0 < 256) → (i : ℕ) → get_or (zs ++ ys) i 0 < 256
+    at [] f i = q.small i
+    at (z ∷ zs) f zero = f 0
+    at (z ∷ zs) f (suc i) = at zs (λ j. f (suc j)) i
+
+word_bytes : (x : ℕ) → Bytes (bytes4 x)
+word_bytes x = record { small = at }
+  where
+    at : (i : ℕ) → get_or (bytes4 x) i 0 < 256
+    at zero = omega arith
+    at (suc zero) = omega arith
+    at (suc (suc zero)) = omega arith
+    at (suc (suc (suc zero))) = omega arith
+    at (suc (suc (suc (suc i)))) = omega arith
+
+state_bytes : (s : State) → Bytes (bytes_of s)
+state_bytes s =
+    let w : (x : ℕ) → Bytes (bytes4 x) = word_bytes in
+    both
+    (both (both (both (both (both (both (w s.a) (w s.b)) (w s.c)) (w s.d)) (w s.e)) (w s.f)) (w s.g))
+    (w s.h)
+
+pub digest_bytes : (m : List ℕ) → Bytes (sha256 m)
+unfolding sha256
+digest_bytes m = state_bytes _

@@ -12,10 +12,10 @@ use Rattle.std.proofs.lemmas.Grind.{get_or_default_zero}
 use Rattle.sha256.specs.Fips.{padded, zeros, bytes4, bytes8, block}
 
 -- `zeros` is the standard's number (5.1.1): it fills up to 56 bytes modulo 64, and no smaller one does
-zeros_fill : (l : ℕ) → (l + 1 + zeros l) % 64 ≡ 56
+pub zeros_fill : (l : ℕ) → (l + 1 + zeros l) % 64 ≡ 56
 zeros_fill l = omega arith
 
-zeros_few : (l z : ℕ) → (l + 1 + z) % 64 ≡ 56 → zeros l ≤ z
+pub zeros_few : (l z : ℕ) → (l + 1 + z) % 64 ≡ 56 → zeros l ≤ z
 zeros_few l z h = omega arith
 
 pub length_padded : (m : List ℕ) → length (padded m) ≡ length m + 9 + zeros (length m)

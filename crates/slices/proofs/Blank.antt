@@ -27,7 +27,7 @@ module _ (log : List ℕ) (a e : ℕ) where
   pub blank_test : e ≤ a → leb e a ≡ blank log a e
   blank_test h = le-leb e a h ∙ blank_none h
 
-  blank_past : a < e → length log < e → false ≡ blank log a e
+  pub blank_past : a < e → length log < e → false ≡ blank log a e
   blank_past h g =
       let l : length (take (e - a) (drop a log)) < length (zeros (e - a)) =
       simp (length-take, length-drop, length_zeros) (omega arith) in

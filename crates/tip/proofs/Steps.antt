@@ -3,7 +3,7 @@ use mathlib.Core.Path.{◌≡◌, refl, ap, ◌∙◌}
 use mathlib.Core.List.{List, ◌++◌}
 use Prim.Native.Nat.{ℕ, zero, suc, ◌+◌, ◌*◌, ◌≤◌}
 use native.Mathlib.Omega.{arith}
-use lib.ListN.{length, take, drop, length-take, length-drop}
+use lib.ListN.{length, take, drop, replicate, length-take, length-drop}
 use lib.Seq.{take_at}
 use Rattle.sha256.specs.Fips.{sha256}
 use Rattle.apollo.specs.Size.{check_at, frame_size}
@@ -21,7 +21,11 @@ pub tipped_steps : (r : Replica) (t h : ℕ) (a q : Replica) → a ≡ with_tip 
 unfolding tipped
 tipped_steps r t h a q ea eq = rw ea at eq
 
--- the digest of the tip
+-- the digest of the tip: of the genesis, and of a slot
+pub genesis_digest : (log : List ℕ) (t : ℕ) → t ≡ 0 → replicate 32 0 ≡ digest (slot log t)
+unfolding slot genesis zeros
+genesis_digest log t e = rw e
+
 pub slot_digest : (log x y : List ℕ) (t : ℕ) → x ≡ slot log t → y ≡ part x check_at 32 → y ≡ digest (slot log t)
 slot_digest log x y t ex ey = ey ∙ ap digest ex
 
