@@ -93,19 +93,22 @@ pub fn slot_height(log: &[u8], r: u32) -> u32
     frame::height(slot(log, r))
 }
 
-// The highest filled slot up to the limit, from there downwards, and how many slots were read: those passed over, and the one found. By how
-// many are passed over: by `(1..=limit).rev()` a search of few slots took up to 1.6 of the time.
+// The highest filled slot up to the limit, from there downwards, and how many slots were read: each is counted where it is read, since a
+// count from the two rounds would say nothing of that. By how many are passed over: by `(1..=limit).rev()` a search of few slots took up to
+// 1.6 of the time.
 pub fn highest(log: &[u8], limit: u32) -> Found
     ensures { (result.round ≡ Log.highest log.now limit) × (result.slots_read ≡ Log.slots_read log.now limit) }
 {
-    match (0..limit).find(|&passed| is_filled(log, limit - passed)) {
-        Some(passed) => Found {
-            round: limit - passed,
-            slots_read: passed + 1,
-        },
-        None => Found {
-            round: 0,
-            slots_read: limit,
-        },
+    let mut slots_read = 0;
+    for passed in 0..limit {
+        slots_read += 1;
+        let round = limit - passed;
+        if is_filled(log, round) {
+            return Found { round, slots_read };
+        }
+    }
+    Found {
+        round: 0,
+        slots_read,
     }
 }

@@ -1,41 +1,25 @@
--- `slots::highest` meets its contract. By the law of `find` over a range.
-use Rattle.std.proofs.Common.{rules, ◌≡◌, ◌-◌, ◌≤◌, ◌<◌, ℕ, List, Bool, true, false, arith}
-use Rattle.std.proofs.lemmas.Iterator.{first_from_Range, serves_from_Range}
-use Rattle.apollo.specs.Log as Log
-use Rattle.slots.proofs.Search.{none_filled, highest_filled, read_found, read_none}
+-- `slots::highest` meets its contract. By the slot read, the highest if it is filled.
+use Rattle.std.proofs.Common.{rules, ◌≡◌, ◌∙◌, arith}
+use Rattle.slots.proofs.Search.{highest_here, highest_below, highest_none, read_found, read_none}
 use Rattle.slots.proofs.highest.Goals as goal
 
-pub find-requires-clause-callable : goal.find-requires-clause-callable
-find-requires-clause-callable c = serves_from_Range (λ x q e. search rules) (λ x a b. search rules)
+pub loop-passed-init : goal.loop-passed-init
+loop-passed-init c = record { read = search rules; none_above = search rules }
 
--- slot r, that many below the limit, is filled, or not
-abbrev Below : (log : List ℕ) (limit : ℕ) → Bool → ℕ → Type 0
-Below log limit b k = Log.filled (Log.slot log (limit - k)) ≡ b
+pub returns-then-is_filled : goal.returns-then-is_filled
+returns-then-is_filled c =
+    let found = highest_here _ _ (omega arith) c.if-is_filled.ensures ∙ c.loop-passed.invariant.none_above in
+    (found, read_found _ _ _ _ (omega arith) (omega (arith, c.loop-passed.invariant.read)) found)
 
-some : (c : goal.In-Some) → (0 ≤ c.in-Some.passed) × (c.in-Some.passed < c.args.limit)
-    × Below c.args.log.now c.args.limit true c.in-Some.passed
-    × ((k : ℕ) → 0 ≤ k → k < c.in-Some.passed → Below c.args.log.now c.args.limit false k)
-some c =
-    rw c.in-Some.is at
-    (first_from_Range _ _ _ c.find.result (Below c.args.log.now c.args.limit true) (Below c.args.log.now c.args.limit false)
-    c.find.ensures.ran (λ x q e. search rules) (λ x q e. search rules))
+pub loop-passed-preserved : goal.loop-passed-preserved
+loop-passed-preserved c =
+    record {
+      read = omega (arith, c.loop-passed.invariant.read);
+      none_above = highest_below _ _ _ (omega arith) c.if-is_filled.ensures ∙ c.loop-passed.invariant.none_above;
+    }
 
-pub overflow_sub-result : goal.overflow_sub-result
-overflow_sub-result c = let h = some c in omega (arith, h.1)
-
-pub overflow_add-result : goal.overflow_add-result
-overflow_add-result c = let h = some c in omega (arith, h.1)
-
-pub returns-in-Some : goal.returns-in-Some
-returns-in-Some c =
-    let h = some c in
-    let e = highest_filled _ _ _ h.1 h.2 h.3 in
-    (e, read_found _ _ _ _ (omega arith) (omega (arith, h.1)) e)
-
-pub returns-in-None : goal.returns-in-None
-returns-in-None c =
-    let h =
-    first_from_Range _ _ _ c.find.result (Below c.args.log.now c.args.limit true) (Below c.args.log.now c.args.limit false)
-    c.find.ensures.ran (λ x q e. search rules) (λ x q e. search rules) in
-    let e = none_filled _ _ (rw c.in-None.is at h) in
-    (e, read_none _ _ e)
+pub returns : goal.returns
+returns c =
+    let none = highest_none _ _ (omega arith) ∙ c.loop-passed.invariant.none_above in
+    let read : c.loop-passed.slots_read ≡ c.args.limit = omega (arith, c.loop-passed.invariant.read) in
+    (none, read ∙ read_none _ _ none)
