@@ -1,7 +1,7 @@
 -- The bytes of an input, one by one, from the piece that was read last.
-use Rattle.std.specs.Prelude.{◌≡◌, cond, List, [], ◌∷◌, Option, None, Some, ℕ, ◌+◌, ◌<◌, ltb, length, slice_get, take, drop}
+use Rattle.std.specs.Prelude.{◌≡◌, ◌≢◌, All, cond, List, [], ◌∷◌, ◌++◌, Option, None, Some, ℕ, ◌+◌, ◌<◌, ltb, length, slice_get, take, drop}
 use Rattle.std.specs.Option.{option_to_list}
-use Rattle.std.specs.Io.KnownBytes.{prepend_known}
+use Rattle.std.specs.Io.KnownBytes.{prepend_known, Consumes}
 use Rattle.text.specs.declared.stdin.Piece.{Piece}
 use Rattle.text.specs.declared.stdin.End.{End}
 use Rattle.text.specs.declared.stdin.End.TheVariants.{Newline, Input}
@@ -42,3 +42,13 @@ abbrev pub ending : Option End → List ℕ
 ending (Some Newline) = 10 ∷ []
 ending (Some Input) = []
 ending None = []
+
+-- the bytes between an input before and after were a line and what ended it, and of the line its first m bytes were kept. No line came
+-- where nothing ended it
+pub record Cut (m : ℕ) (before after : Option (List ℕ)) (kept : List ℕ) (end : Option End) : Type 0 where
+  pub line : List ℕ
+  pub one : All (λ b. b ≢ 10) line
+  pub first : kept ≡ take m line
+  pub consumed : Consumes before after (line ++ ending end)
+  pub none : end ≡ None → line ≡ []
+  pub last : end ≡ Some Input → line ≢ []

@@ -2,9 +2,11 @@
 #![tactic(auto)]
 
 mod program;
+mod row;
 mod stdin;
 mod stdout;
 
 pub use program::run;
+pub use row::put_row;
 pub use stdin::{End, Piece, Reader, no_command};
-pub use stdout::{Line, Stop, ended};
+pub use stdout::{Line, Stop, ended, print};

@@ -7,5 +7,5 @@ use denote.Param.Always.{always_mut}
 abbrev pub invariant-loop-number : goal.invariant-loop-number
 invariant-loop-number g l =
     (always_mut g.F.FnMut l.initial.obey → always_mut g.F.FnMut l.obey)
-    × Whole g.F.FnMut l.initial.obey (to_come l.initial.reader.piece (g.R.Read.remaining l.initial.reader.from)) l.obey
+    × Whole g.row.N g.F.FnMut l.initial.obey (to_come l.initial.reader.piece (g.R.Read.remaining l.initial.reader.from)) l.obey
     (to_come l.reader.piece (g.R.Read.remaining l.reader.from))

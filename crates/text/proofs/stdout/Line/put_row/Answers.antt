@@ -1,20 +1,13 @@
--- `Line::put_row` meets its contract. By putting the number at i, and by what is put when no number is left. Assumes nothing.
-use Rattle.std.proofs.Common.{◌+◌, drop, sym, ap, ◌∙◌, arith}
-use Rattle.text.specs.Row.{put, put_from, put_row}
-use Rattle.text.proofs.Lines.{from_next, from_end}
+-- `Line::put_row` meets its contract. By what `put_row` does, seen from the bytes that are written. Assumes nothing.
+use Rattle.std.proofs.Common.{ap, ◌∙◌, refl, arith, take}
+use Rattle.text.specs.Row.{Line, written}
+use Rattle.text.specs.Fitted.{bytes_of}
+use Rattle.text.proofs.Fitted.{shows_row}
 use Rattle.text.proofs.stdout.Line.put_row.Goals as goal
 
-pub loop-i-preserved : goal.loop-i-preserved
-loop-i-preserved g c =
-    let l = c.loop-i in
-    let ns = c.args.ns.now in
-    l.invariant
-    ∙ from_next g.row.N l.self.bytes.items l.i ns c.loop-i-test.true
-    ∙ ap (λ w. put_from g.row.N w (l.i + 1) (drop (l.i + 1) ns)) (sym c.put_number.ensures)
-
 pub returns : goal.returns
-unfolding put_row
 returns g c =
-    let l = c.loop-i in
-    c.put.ensures
-    ∙ ap (λ w. put g.row.N w c.args.s.now) (sym (l.invariant ∙ from_end g.row.N l.self.bytes.items l.i c.args.ns.now (omega arith)))
+    let l = c.args.self.now in
+    let from = written l.bytes l.end in
+    ap (λ (w : Line). take w.place w.bytes) c.put_row-self.ensures.written
+    ∙ (shows_row g.row.N from (bytes_of l) c.args.ns.now c.args.s.now record { room = omega arith; text = refl }).text
