@@ -22,13 +22,13 @@ pub none_yet : (m : ℕ) (before : Option (List ℕ)) → Begun m before before 
 none_yet m before =
     record { line = []; one = All-nil (λ b. b ≢ 10); first = sym (take_all m [] (omega arith)); consumed = Consumes-nil before; count = refl }
 
-pub one_more : (m : ℕ) (before mid after : Option (List ℕ)) (kept : List ℕ) (n b : ℕ) → Begun m before mid kept n → b ≢ 10
-    → Consumes mid after (b ∷ []) → Begun m before after (put m kept (b ∷ [])) (n + 1)
-one_more m before mid after kept n b w h f =
+pub one_more : (m : ℕ) (before mid after : Option (List ℕ)) (kept more : List ℕ) (n b : ℕ) → Begun m before mid kept n → b ≢ 10
+    → Consumes mid after (b ∷ []) → more ≡ put m kept (b ∷ []) → Begun m before after more (n + 1)
+one_more m before mid after kept more n b w h f e =
     record {
       line = w.line ++ (b ∷ []);
       one = All-push (λ b. b ≢ 10) w.line b w.one h;
-      first = rw w.first (put_kept m w.line b);
+      first = e ∙ ap (λ k. put m k (b ∷ [])) w.first ∙ put_kept m w.line b;
       consumed = Consumes-trans before mid after w.line (b ∷ []) w.consumed f;
       count = length-append w.line (b ∷ []) ∙ ap (λ k. k + 1) w.count;
     }

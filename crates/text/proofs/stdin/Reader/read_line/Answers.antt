@@ -25,7 +25,8 @@ pub loop-count-init : goal.loop-count-init
 loop-count-init g c = none_yet _ _
 
 pub loop-count-preserved : goal.loop-count-preserved
-loop-count-preserved g c = rw c.put.ensures (one_more _ _ _ _ _ _ c.in-Some.b c.loop-count.invariant c.in-Some.b-test.1 c.in-Some.ensures.bytes)
+loop-count-preserved g c =
+    one_more _ _ _ _ _ _ _ c.in-Some.b c.loop-count.invariant c.in-Some.b-test.1 c.in-Some.ensures.bytes c.put.ensures
 
 pub returns-in-Some-eq10-clause-bytes : goal.returns-in-Some-eq10-clause-bytes
 returns-in-Some-eq10-clause-bytes g c =
