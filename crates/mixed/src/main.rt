@@ -8,21 +8,31 @@ mod table;
 
 use mixed_lines::input;
 use mixed_lines::input::Bytes;
+use mixed_lines::words::Words;
 use std::io::Input;
 use std::process::ExitCode;
 use table::Table;
-use text::{Reader, Stop};
+use text::{End, Reader, Stop};
 
-// Carries out the lines of the input.
-fn run(rt: &(impl Input + AllocGlobal + Print + Eprint)) -> Result<(), Stop> {
+// Carries out the lines of the input. Nothing says that it ends, so they are counted, up to a number that no run uses up.
+fn run(rt: &(impl Input + Print + Eprint)) -> Result<(), Stop> {
     let mut table = Table::blank();
     let mut bytes = Bytes::default();
-    let mut reader = Reader::new(rt.reader());
-    text::run(
-        rt,
-        &mut reader,
-        &mut |line| { Some(table.obey(rt, input::parse(line, &mut bytes)?)) },
-    )
+    let mut words = Words::of(rt, Reader::new(rt.reader()));
+    for number in 1..u64::MAX {
+        let task = input::parse(&mut words, &mut bytes);
+        let Some(end) = words.rest() else {
+            return Ok(());
+        };
+        match task {
+            Some(task) => table.obey(rt, task)?,
+            None => text::no_command(rt, number),
+        }
+        if let End::Input = end {
+            return Ok(());
+        }
+    }
+    Ok(())
 }
 
 fn main(rt: HostRuntime) -> ExitCode {

@@ -58,6 +58,13 @@ impl Card {
         }
     }
 
+    // Such a replica in place of the one before.
+    fn begin(&mut self, record: Replica) {
+        self.record = record;
+        self.log.fill(0);
+        self.masks.fill(0);
+    }
+
     fn store(&mut self, place: Place, slot: &[u8; FRAME]) {
         slots::store(&mut self.log, place.index as u32 + 1, slot);
     }
@@ -114,7 +121,11 @@ impl Card {
     ) -> Result<(), Stop> {
         let log = &self.log[..log.n];
         let part = call_read::read_part(r, log, height);
-        print::entry(rt, part.start, call_read::read(r, log, height), log)
+        let (number, size) = match call_read::read(r, log, height) {
+            Ok(entry) => (0, entry.len()),
+            Err(e) => (e.into(), 0),
+        };
+        print::entry(rt, number, part.start, size, log)
     }
 
     fn fetch(
@@ -159,6 +170,14 @@ impl Table {
         }
     }
 
+    // The same in place of what is there.
+    fn clear(&mut self) {
+        for card in &mut self.cards {
+            card.begin(record::zero_replica());
+        }
+        self.given = None;
+    }
+
     fn call(&mut self, rt: &impl Print, seat: Seat, call: Call<'_>) -> Result<(), Stop> {
         let card = &mut self.cards[seat.index];
         let r = self.given.take().unwrap_or(card.record);
@@ -168,8 +187,8 @@ impl Table {
     // Carries out the task of a line.
     pub fn obey(&mut self, rt: &impl Print, task: Task<'_>) -> Result<(), Stop> {
         match task {
-            Task::Clear => *self = Table::blank(),
-            Task::Begin(seat, record) => self.cards[seat.index] = Card::of(record),
+            Task::Clear => self.clear(),
+            Task::Begin(seat, record) => self.cards[seat.index].begin(record),
             Task::Store(seat, place, slot) => self.cards[seat.index].store(place, slot),
             Task::Mask(seat, place, mask) => self.cards[seat.index].masks[place.index] = mask,
             Task::Give(record) => self.given = Some(record),

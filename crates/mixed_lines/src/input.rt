@@ -1,10 +1,11 @@
 // A line of the input.
-ghost use Rattle.std.specs.Prelude.{◌≤◌, ◌<◌};
+ghost use Rattle.std.specs.Prelude.{◌≤◌, ◌<◌, IsSome, OnSome};
 
 use crate::words::Words;
 use apollo::size::FRAME;
 use apollo::{Height, Replica, Round, Ticks};
 use arrayvec::ArrayVec;
+use std::io::Read;
 
 // A replica's masks, one for each round.
 pub const MASKS: usize = 9;
@@ -85,14 +86,14 @@ pub enum Task<'a> {
 }
 
 // Where the bytes of a line are put: frames or a rotation to open with, and others.
-#[derive(Default, Drop)]
+#[derive(Clone, Default, Drop)]
 pub struct Bytes {
     frames: ArrayVec<u8, 8192>,
     others: ArrayVec<u8, 512>,
 }
 
 impl Seat {
-    fn of(words: &mut Words<'_>) -> Option<Self> {
+    fn of<R: Read, P: Eprint>(words: &mut Words<'_, R, P>) -> Option<Self> {
         let index = words.size(4)?;
         Some(Index { index })
     }
@@ -100,21 +101,21 @@ impl Seat {
 
 impl Place {
     // That of a round from 1 to 9.
-    fn of(words: &mut Words<'_>) -> Option<Self> {
+    fn of<R: Read, P: Eprint>(words: &mut Words<'_, R, P>) -> Option<Self> {
         let index = words.size(MASKS)?.checked_sub(1)?;
         Some(Index { index })
     }
 }
 
 impl<const MOST: usize> Size<MOST> {
-    fn of(words: &mut Words<'_>) -> Option<Self> {
+    fn of<R: Read, P: Eprint>(words: &mut Words<'_, R, P>) -> Option<Self> {
         let n = words.size(MOST)?;
         Some(Size { n })
     }
 }
 
 impl Sizes {
-    fn of(words: &mut Words<'_>) -> Option<Self> {
+    fn of<R: Read, P: Eprint>(words: &mut Words<'_, R, P>) -> Option<Self> {
         Some(Sizes {
             log: Size::of(words)?,
             masks: Size::of(words)?,
@@ -124,7 +125,7 @@ impl Sizes {
 }
 
 // A record: its numbers, its rotation of 15 bytes, its marks.
-fn record(words: &mut Words<'_>) -> Option<Replica> {
+fn record<R: Read, P: Eprint>(words: &mut Words<'_, R, P>) -> Option<Replica> {
     let mut seats = ArrayVec::<u8, 15>::new();
     Some(Replica {
         id: words.number()?,
@@ -143,7 +144,10 @@ fn record(words: &mut Words<'_>) -> Option<Replica> {
 }
 
 impl<'a> Opening<'a> {
-    fn of(words: &mut Words<'_>, frames: &'a mut ArrayVec<u8, 8192>) -> Option<Self> {
+    fn of<R: Read, P: Eprint>(
+        words: &mut Words<'_, R, P>,
+        frames: &'a mut ArrayVec<u8, 8192>,
+    ) -> Option<Self> {
         Some(Opening {
             id: words.number()?,
             f: words.number()?,
@@ -156,8 +160,8 @@ impl<'a> Opening<'a> {
 
 impl<'a> Call<'a> {
     // A call that hands frames in, with an entry before them.
-    fn hearing<F: FnOnce(&'a [u8]) -> Change<'a>>(
-        words: &mut Words<'_>,
+    fn hearing<R: Read, P: Eprint, F: FnOnce(&'a [u8]) -> Change<'a>>(
+        words: &mut Words<'_, R, P>,
         bytes: &'a mut Bytes,
         change: F,
     ) -> Option<Self>
@@ -170,9 +174,13 @@ impl<'a> Call<'a> {
     }
 
     // The words after the letter and the replica. A letter stands in one place, here or in `parse`, so no type names it.
-    fn of(letter: &str, words: &mut Words<'_>, bytes: &'a mut Bytes) -> Option<Self> {
+    fn of<R: Read, P: Eprint>(
+        letter: u8,
+        words: &mut Words<'_, R, P>,
+        bytes: &'a mut Bytes,
+    ) -> Option<Self> {
         Some(match letter {
-            "o" => {
+            b'o' => {
                 let opening = Opening::of(words, &mut bytes.frames)?;
                 Call::Change(
                     Sizes::of(words)?,
@@ -180,41 +188,41 @@ impl<'a> Call<'a> {
                     Change::Open(opening),
                 )
             }
-            "b" => Call::hearing(words, bytes, Change::Branch)?,
-            "v" => Call::hearing(words, bytes, Change::Blame)?,
-            "a" => Call::hearing(words, bytes, Change::Blames)?,
-            "t" => Call::Change(
+            b'b' => Call::hearing(words, bytes, Change::Branch)?,
+            b'v' => Call::hearing(words, bytes, Change::Blame)?,
+            b'a' => Call::hearing(words, bytes, Change::Blames)?,
+            b't' => Call::Change(
                 Sizes::of(words)?,
                 words.bytes(&mut bytes.others)?,
                 Change::Tick,
             ),
-            "e" => Call::Equivocation(words.bytes(&mut bytes.frames)?),
-            "q" => Call::Read(Size::of(words)?, Height(words.number()?)),
-            "f" => Call::Fetch(Size::of(words)?, Size::of(words)?, Height(words.number()?)),
+            b'e' => Call::Equivocation(words.bytes(&mut bytes.frames)?),
+            b'q' => Call::Read(Size::of(words)?, Height(words.number()?)),
+            b'f' => Call::Fetch(Size::of(words)?, Size::of(words)?, Height(words.number()?)),
             _ => return None,
         })
     }
 }
 
-// The task of a line, none if it is none of the list.
-pub fn parse<'a>(line: &[u8], bytes: &'a mut Bytes) -> Option<Task<'a>> {
-    let mut words = Words::of(str::from_utf8(line).ok()?);
-    let task = match words.next()? {
-        "n" => Task::Clear,
-        "w" => Task::Begin(Seat::of(&mut words)?, record(&mut words)?),
-        "s" => Task::Store(
-            Seat::of(&mut words)?,
-            Place::of(&mut words)?,
+// The task of a line, none if it is none of the list: the rest of such a line is still to be read.
+pub fn parse<'a, R: Read, P: Eprint>(
+    words: &mut Words<'_, R, P>,
+    bytes: &'a mut Bytes,
+) -> Option<Task<'a>>
+    ensures { OnSome result (IsSome words.new.end) }
+{
+    let task = match words.letter()? {
+        b'n' => Task::Clear,
+        b'w' => Task::Begin(Seat::of(words)?, record(words)?),
+        b's' => Task::Store(
+            Seat::of(words)?,
+            Place::of(words)?,
             words.bytes(&mut bytes.others)?.as_array()?,
         ),
-        "m" => Task::Mask(
-            Seat::of(&mut words)?,
-            Place::of(&mut words)?,
-            words.number()?,
-        ),
-        "g" => Task::Give(record(&mut words)?),
-        "h" => Task::Digest(words.bytes(&mut bytes.others)?),
-        letter => Task::Call(Seat::of(&mut words)?, Call::of(letter, &mut words, bytes)?),
+        b'm' => Task::Mask(Seat::of(words)?, Place::of(words)?, words.number()?),
+        b'g' => Task::Give(record(words)?),
+        b'h' => Task::Digest(words.bytes(&mut bytes.others)?),
+        letter => Task::Call(Seat::of(words)?, Call::of(letter, words, bytes)?),
     };
     words.end()?;
     Some(task)

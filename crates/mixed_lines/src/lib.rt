@@ -4,4 +4,4 @@
 
 pub mod input;
 pub mod print;
-mod words;
+pub mod words;

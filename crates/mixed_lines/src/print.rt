@@ -1,21 +1,19 @@
 // The lines of the results.
-use apollo::{Answer, Fetched, Marked, Refusal, Replica};
+use apollo::{Answer, Fetched, Marked, Replica};
 use text::{Line, Stop};
 
-// Puts bytes in hex, one by one: for all at once, `hex` wants room of just twice their number, which is not known here.
-fn put_hex<const N: usize>(line: &mut Line<N>, bytes: &[u8]) {
-    for b in bytes {
-        let mut digits = [0; 2];
-        let _ = hex::encode_to_slice([*b], &mut digits);
-        line.put(&digits);
-    }
+// Bytes in hex, two digits each, of which there are N.
+fn digits<const N: usize>(bytes: &[u8]) -> [u8; N] {
+    let mut digits = [b'0'; N];
+    let _ = hex::encode_to_slice(bytes, &mut digits);
+    digits
 }
 
 // Prints numbers and a digest.
 fn row(rt: &impl Print, ns: &[u64], digest: [u8; 32]) -> Result<(), Stop> {
     let mut line = Line::<256>::new();
     line.put_row(ns, b" ");
-    put_hex(&mut line, &digest);
+    line.put(&digits::<64>(&digest));
     line.put(b"\n");
     line.print(rt)
 }
@@ -23,7 +21,7 @@ fn row(rt: &impl Print, ns: &[u64], digest: [u8; 32]) -> Result<(), Stop> {
 // Prints the digest of some bytes.
 pub fn digest(rt: &impl Print, bytes: &[u8]) -> Result<(), Stop> {
     let mut line = Line::<65>::new();
-    put_hex(&mut line, &sha256::digest(bytes));
+    line.put(&digits::<64>(&sha256::digest(bytes)));
     line.put(b"\n");
     line.print(rt)
 }
@@ -36,7 +34,7 @@ fn lent_digest(log: &[u8], masks: &[u16], out: &[u8]) -> [u8; 32] {
         image.put(&mask.to_be_bytes());
     }
     image.put(out);
-    sha256::digest(image.bytes.as_slice())
+    sha256::digest(image.written())
 }
 
 // Puts a record: its numbers, its rotation in hex, its marks.
@@ -54,7 +52,7 @@ fn put_record(line: &mut Line<256>, r: &Replica) {
         u64::from(r.committed_height.0),
     ];
     line.put_row(&own, b" ");
-    put_hex(line, &r.rotation);
+    line.put(&digits::<30>(&r.rotation));
     line.put(b" ");
     line.put_row(&[u64::from(r.equivocators)], b"");
 }
@@ -77,7 +75,7 @@ pub fn answer(
     line.put_row(&ns, b" ");
     put_record(&mut line, &x.replica);
     line.put(b" ");
-    put_hex(&mut line, &lent_digest(log, masks, out));
+    line.put(&digits::<64>(&lent_digest(log, masks, out)));
     line.put(b"\n");
     line.print(rt)
 }
@@ -91,17 +89,14 @@ pub fn marked(rt: &impl Print, x: Marked) -> Result<(), Stop> {
     line.print(rt)
 }
 
-// Prints the answer of a read, which has no byte where it is refused, and the digest of the lent log.
+// Prints the answer of a read and the digest of the lent log.
 pub fn entry(
     rt: &impl Print,
+    number: u8,
     start: usize,
-    entry: Result<&[u8], Refusal>,
+    size: usize,
     log: &[u8],
 ) -> Result<(), Stop> {
-    let (number, size) = match entry {
-        Ok(bytes) => (0, bytes.len()),
-        Err(e) => (e.into(), 0),
-    };
     row(
         rt,
         &[u64::from(number), start as u64, size as u64],

@@ -1,0 +1,2 @@
+-- What the words of a line take of the input.
+pub mod Taken
