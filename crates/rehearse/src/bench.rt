@@ -1,13 +1,14 @@
 // The replicas at the bench.
 ghost use Rattle.std.specs.Prelude.{◌≡◌};
 ghost use Rattle.apollo.specs.Rotation.{in_turn};
+ghost use Rattle.text.specs.Fitted.{bytes_of};
+ghost use Rattle.rehearse.specs.Shown.{shown};
 
 use crate::command::{Command, Step};
+use crate::sent::Sent;
 use apollo::size::{FRAME, OUT};
 use apollo::{Answer, Kind, Replica, Round, Ticks};
-use std::alloc::{AllocError, Global};
-use std::collections::VecDeque;
-use text::Stop;
+use text::{Line, Stop};
 
 // A replica's masks, one for each round.
 const MASKS: usize = 6;
@@ -15,26 +16,26 @@ const MASKS: usize = 6;
 // The bytes of its log, a slot for each round.
 const LOG: usize = MASKS * FRAME;
 
-// A replica, with its log, its masks and the frames that others sent it, the oldest first. That of mixed has no queue, and
-// lends calls parts of its log and masks.
+// A replica, with its log, its masks and how many of the frames that were sent it is past. That of mixed hears no other, and lends calls
+// parts of its log and masks.
 #[derive(Drop)]
 struct Card {
     id: u8,
     record: Replica,
     log: [u8; LOG],
     masks: [u16; MASKS],
-    queue: VecDeque<[u8; FRAME]>,
+    past: usize,
 }
 
 impl Card {
     // A record of zeros: the replica is not opened yet.
-    fn closed(alloc: Global, id: u8) -> Self {
+    fn closed(id: u8) -> Self {
         Card {
             id,
             record: record::zero_replica(),
             log: [0; LOG],
             masks: [0; MASKS],
-            queue: VecDeque::new(alloc),
+            past: 0,
         }
     }
 
@@ -75,24 +76,32 @@ impl Card {
     }
 
     // The answer to a step; none where there is nothing to hand the replica.
-    fn answer(&mut self, step: Step, out: &mut [u8; OUT]) -> Option<Answer> {
+    fn answer(&mut self, step: Step, sent: &Sent, out: &mut [u8; OUT]) -> Option<Answer> {
         match step {
             Step::Tick => Some(self.tick(out)),
             Step::Deliver => {
-                let x = self.queue.pop_front()?;
-                Some(self.hear(&x, out))
+                let (x, past) = sent.oldest(self.past, self.id)?;
+                self.past = past;
+                Some(self.hear(x, out))
             }
         }
     }
 
-    // Prints replica, the answer's number, R, tip round, committed round: 39 bytes at most, which are written at once.
-    fn show(&self, rt: &impl Print, number: u8) -> Result<(), Stop> {
+    // Replica, the answer's number, R, tip round, committed round: 39 bytes at most.
+    fn row(&self, number: u8) -> Line<64>
+        ensures { bytes_of result ≡ shown self.now.id number self.now.record }
+    {
         let r = &self.record;
-        println!(rt;
-            "{} {number} {} {} {}",
-            self.id, r.round.0, r.tip_round.0, r.committed_round.0
-        )
-        .map_err(Stop::Output)
+        let ns = [
+            u64::from(self.id),
+            u64::from(number),
+            u64::from(r.round.0),
+            u64::from(r.tip_round.0),
+            u64::from(r.committed_round.0),
+        ];
+        let mut line = Line::<64>::new();
+        line.put_row(&ns, b"\n");
+        line
     }
 }
 
@@ -104,49 +113,39 @@ fn in_turn() -> [u8; 3]
     [0, 1, 2]
 }
 
-// The three replicas.
+// The three replicas, and the frames that they sent.
 #[derive(Drop)]
 pub struct Bench {
     cards: [Card; 3],
+    sent: Sent,
 }
 
 impl Bench {
-    // The replicas are opened in their order, by index, since what one sends goes to the queues of all.
-    pub fn open(alloc: Global) -> Result<Self, AllocError> {
+    // The replicas are opened in their order, by index, since what one sends is there for all.
+    pub fn open() -> Self {
         let mut bench = Bench {
-            cards: [0, 1, 2].map(|id| Card::closed(alloc, id)),
+            cards: [0, 1, 2].map(Card::closed),
+            sent: Sent::none(),
         };
         for replica in 0..3 {
             let card = &mut bench.cards[replica];
             let mut out = [0; OUT];
             let x = card.open(&mut out);
             card.record = x.replica;
-            bench.send(&out, x.frames)?;
+            bench.sent.send(&out, x.frames);
         }
-        Ok(bench)
+        bench
     }
 
-    // The first frames of an out buffer are sent: each goes to all but its signer.
-    fn send(&mut self, out: &[u8; OUT], count: u8) -> Result<(), AllocError> {
-        for x in out.as_chunks::<FRAME>().0.iter().take(usize::from(count)) {
-            for card in self.cards.iter_mut() {
-                if frame::signer(x) != card.id {
-                    card.queue.push_back(*x)?;
-                }
-            }
-        }
-        Ok(())
-    }
-
-    // A step of a replica is carried out, and its answer printed.
+    // A step of a replica is carried out, and its answer printed at once.
     pub fn obey(&mut self, rt: &impl Print, command: Command) -> Result<(), Stop> {
         let card = &mut self.cards[command.replica];
         let mut out = [0; OUT];
-        let Some(x) = card.answer(command.step, &mut out) else {
+        let Some(x) = card.answer(command.step, &self.sent, &mut out) else {
             return Ok(());
         };
         card.record = x.replica;
-        self.send(&out, x.frames)?;
-        self.cards[command.replica].show(rt, x.number)
+        self.sent.send(&out, x.frames);
+        self.cards[command.replica].row(x.number).print(rt)
     }
 }

@@ -5,20 +5,22 @@
 
 mod bench;
 mod command;
+mod sent;
 
 use bench::Bench;
 use command::Command;
 use std::io::Input;
 use std::process::ExitCode;
-use text::{Reader, Stop};
+use text::{Line, Reader, Stop};
 
-// Carries out the lines of the input.
-fn run(rt: &(impl Input + AllocGlobal + Print + Eprint)) -> Result<(), Stop> {
-    let mut bench = Bench::open(rt.alloc())?;
+// Carries out the lines of the input. Of each the first five bytes are kept: no command has more than four, with its carriage return.
+fn run(rt: &(impl Input + Print + Eprint)) -> Result<(), Stop> {
+    let mut bench = Bench::open();
     let mut reader = Reader::new(rt.reader());
     text::run(
         rt,
         &mut reader,
+        &mut Line::<5>::new(),
         &mut |line| { Some(bench.obey(rt, Command::parse(line)?)) },
     )
 }
