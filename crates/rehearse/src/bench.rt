@@ -89,7 +89,7 @@ impl Card {
 
     // Replica, the answer's number, R, tip round, committed round: 39 bytes at most.
     fn row(&self, number: u8) -> Line<64>
-        ensures { bytes_of result ≡ shown self.now.id number self.now.record }
+        ensures { bytes_of result ≡ shown self.now.id number self.now.«record» }
     {
         let r = &self.record;
         let ns = [
