@@ -184,12 +184,13 @@ module _ (log : List ℕ) (h : ℕ) where
             omega (arith, ap length e.1, taken_most, length-append f (x.now ∷ e.0), length-map xs (λ x. x.now)),
           )
 
-      pub taken_all : up_to lo ≡ [] → (k : ℕ) → k ≡ length xs → steps t None u
-          → (k ≡ min (length (above h (chain log c))) n) × (map (λ x. x.now) xs ≡ take k (above h (chain log c)))
-      taken_all z k q p =
+      pub taken_all : (d : ℕ) → c ≡ d → up_to lo ≡ [] → (k : ℕ) → k ≡ length xs → steps t None u
+          → (k ≡ min (length (above h (chain log d))) n) × (map (λ x. x.now) xs ≡ take k (above h (chain log d)))
+      taken_all d f z k q p =
           let e : take n (above h (chain log c)) ≡ map (λ x. x.now) xs = sym (taken_is lo c n l z) ∙ all_items xs t u all y p in
           let m : k ≡ min n (length (above h (chain log c))) =
           q ∙ sym (length-map xs (λ x. x.now)) ∙ ap length (sym e) ∙ length-take n (above h (chain log c)) in
+          rw (← f)
           (omega (arith, m), sym e ∙ sym (take_min n (above h (chain log c))) ∙ ap (λ (j : ℕ). take j (above h (chain log c))) (sym m))
 
 -- the frames xs at the front of o
@@ -221,11 +222,11 @@ module _ (o : List ℕ) (xs : List (Bor (List ℕ))) (k : ℕ) (e : k ≡ length
   long : k ≡ length (map (λ x. x.now) xs)
   long = e ∙ sym (length-map xs (λ x. x.now))
 
-  pub front_more : (x : Bor (List ℕ)) (y : List ℕ) → length x.now ≡ frame_size → y ≡ store out (k + 1) x.now
+  pub front_more : (x : Bor (List ℕ)) (m : ℕ) (y : List ℕ) → length x.now ≡ frame_size → y ≡ store out m x.now → m ≡ k + 1
       → Front o (map (λ x. x.now) (xs ++ (x ∷ []))) y
-  front_more x y l f =
+  front_more x m y l f d =
       let s : store out (k + 1) x.now ≡ store out (length (map (λ x. x.now) xs) + 1) x.now = ap (λ (n : ℕ). store out (n + 1) x.now) long in
-      rw (map-append (λ x. x.now) xs (x ∷ []), f, s) (front_next o (map (λ x. x.now) xs) out x.now c l)
+      rw (map-append (λ x. x.now) xs (x ∷ []), f, d, s) (front_next o (map (λ x. x.now) xs) out x.now c l)
 
   pub front_all : (ys : List (List ℕ)) → map (λ x. x.now) xs ≡ ys → out ≡ flatten ys ++ drop (frame_size * k) o
   front_all ys f = rw (← f, long) c.1

@@ -6,9 +6,7 @@ use mathlib.Core.List.{List}
 use Prim.Native.Nat.{ℕ, ◌-◌, ◌≤◌, ◌<◌}
 use native.Mathlib.Omega.{arith}
 use denote.Bor.{Bor}
-use lib.Dec.{leb}
 use lib.ListN.{length, take, drop, length-take, length-drop}
-use borrow.Author.Tests.{le-leb}
 use Rattle.std.specs.declared.option.Option.{Option}
 use Rattle.std.specs.declared.option.Option.TheVariants.{Some, None}
 use Rattle.std.specs.Option.{MatchOption}
@@ -24,8 +22,8 @@ module _ (log : List ℕ) (a e : ℕ) where
       let z : e - a ≡ 0 = omega arith in
       rw z
 
-  pub blank_test : e ≤ a → leb e a ≡ blank log a e
-  blank_test h = le-leb e a h ∙ blank_none h
+  pub blank_test : (r : Bool) → e ≤ a → r ≡ true → r ≡ blank log a e
+  blank_test r h t = t ∙ blank_none h
 
   pub blank_past : a < e → length log < e → false ≡ blank log a e
   blank_past h g =

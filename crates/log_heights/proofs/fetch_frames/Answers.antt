@@ -18,9 +18,9 @@ pub overflow_add-count : goal.overflow_add-count
 overflow_add-count c =
     let w = last_low_lem _ _ _ _ c.last_low.ensures in
     let e =
-    taken_next c.args.log.now c.args.h _ c.args.last_round _ w.0 c.requires c.loop-x.yielded c.loop-x.x-iterator c.next.new.self
+    taken_next c.args.log.now c.args.h _ _ _ w.0 (omega arith) c.loop-x.yielded c.loop-x.x-iterator c.next.new.self
     c.loop-x.yielded_by
-    (tall_yields c.args.log.now c.args.h _ c.args.last_round _ w.0 c.requires _ _ _ _ c.chunks_exact.ensures.rest
+    (tall_yields c.args.log.now c.args.h _ _ _ w.0 (omega arith) _ _ _ _ c.chunks_exact.ensures.rest
     c.chunks_exact.ensures.size _ c.filter.ensures.source c.filter.ensures.closure c.take-x-items.ensures.source
     c.take-x-items.ensures.count
     c.into_iter-x-iterator.ensures.into_iter_gives (λ x b q e. search rules)) c.in-Some.x c.in-Some.ensures.steps in
@@ -30,9 +30,9 @@ pub store-requires : goal.store-requires
 store-requires c =
     let w = last_low_lem _ _ _ _ c.last_low.ensures in
     let e =
-    taken_next c.args.log.now c.args.h _ c.args.last_round _ w.0 c.requires c.loop-x.yielded c.loop-x.x-iterator c.next.new.self
+    taken_next c.args.log.now c.args.h _ _ _ w.0 (omega arith) c.loop-x.yielded c.loop-x.x-iterator c.next.new.self
     c.loop-x.yielded_by
-    (tall_yields c.args.log.now c.args.h _ c.args.last_round _ w.0 c.requires _ _ _ _ c.chunks_exact.ensures.rest
+    (tall_yields c.args.log.now c.args.h _ _ _ w.0 (omega arith) _ _ _ _ c.chunks_exact.ensures.rest
     c.chunks_exact.ensures.size _ c.filter.ensures.source c.filter.ensures.closure c.take-x-items.ensures.source
     c.take-x-items.ensures.count
     c.into_iter-x-iterator.ensures.into_iter_gives (λ x b q e. search rules)) c.in-Some.x c.in-Some.ensures.steps in
@@ -42,9 +42,9 @@ pub loop-x-preserved : goal.loop-x-preserved
 loop-x-preserved c =
     let w = last_low_lem _ _ _ _ c.last_low.ensures in
     let e =
-    taken_next c.args.log.now c.args.h _ c.args.last_round _ w.0 c.requires c.loop-x.yielded c.loop-x.x-iterator c.next.new.self
+    taken_next c.args.log.now c.args.h _ _ _ w.0 (omega arith) c.loop-x.yielded c.loop-x.x-iterator c.next.new.self
     c.loop-x.yielded_by
-    (tall_yields c.args.log.now c.args.h _ c.args.last_round _ w.0 c.requires _ _ _ _ c.chunks_exact.ensures.rest
+    (tall_yields c.args.log.now c.args.h _ _ _ w.0 (omega arith) _ _ _ _ c.chunks_exact.ensures.rest
     c.chunks_exact.ensures.size _ c.filter.ensures.source c.filter.ensures.closure c.take-x-items.ensures.source
     c.take-x-items.ensures.count
     c.into_iter-x-iterator.ensures.into_iter_gives (λ x b q e. search rules)) c.in-Some.x c.in-Some.ensures.steps in
@@ -52,29 +52,29 @@ loop-x-preserved c =
     record {
       count = omega (arith, v.count, length-append c.loop-x.yielded (c.in-Some.x ∷ []));
       room = omega (arith, v.room, c.in-Some.ensures.steps.1);
-      front = front_more _ _ _ v.count _ v.front _ _ e.0 c.store.ensures;
+      front = front_more _ _ _ v.count _ v.front _ _ _ e.0 c.store.ensures (omega arith);
     }
 
 pub returns-clause-count : goal.returns-clause-count
 returns-clause-count c =
     let w = last_low_lem _ _ _ _ c.last_low.ensures in
     let e =
-    taken_all c.args.log.now c.args.h _ c.args.last_round _ w.0 c.requires c.loop-x.yielded c.loop-x.x-iterator c.next.new.self
+    taken_all c.args.log.now c.args.h _ _ _ w.0 (omega arith) c.loop-x.yielded c.loop-x.x-iterator c.next.new.self
     c.loop-x.yielded_by
-    (tall_yields c.args.log.now c.args.h _ c.args.last_round _ w.0 c.requires _ _ _ _ c.chunks_exact.ensures.rest
+    (tall_yields c.args.log.now c.args.h _ _ _ w.0 (omega arith) _ _ _ _ c.chunks_exact.ensures.rest
     c.chunks_exact.ensures.size _ c.filter.ensures.source c.filter.ensures.closure c.take-x-items.ensures.source
     c.take-x-items.ensures.count
-    c.into_iter-x-iterator.ensures.into_iter_gives (λ x b q e. search rules)) w.1 _ c.loop-x.invariant.count c.in-None.ensures.steps in
+    c.into_iter-x-iterator.ensures.into_iter_gives (λ x b q e. search rules)) _ (omega arith) w.1 _ c.loop-x.invariant.count c.in-None.ensures.steps in
     e.0
 
 pub returns-clause-frames : goal.returns-clause-frames
 returns-clause-frames c =
     let w = last_low_lem _ _ _ _ c.last_low.ensures in
     let e =
-    taken_all c.args.log.now c.args.h _ c.args.last_round _ w.0 c.requires c.loop-x.yielded c.loop-x.x-iterator c.next.new.self
+    taken_all c.args.log.now c.args.h _ _ _ w.0 (omega arith) c.loop-x.yielded c.loop-x.x-iterator c.next.new.self
     c.loop-x.yielded_by
-    (tall_yields c.args.log.now c.args.h _ c.args.last_round _ w.0 c.requires _ _ _ _ c.chunks_exact.ensures.rest
+    (tall_yields c.args.log.now c.args.h _ _ _ w.0 (omega arith) _ _ _ _ c.chunks_exact.ensures.rest
     c.chunks_exact.ensures.size _ c.filter.ensures.source c.filter.ensures.closure c.take-x-items.ensures.source
     c.take-x-items.ensures.count
-    c.into_iter-x-iterator.ensures.into_iter_gives (λ x b q e. search rules)) w.1 _ c.loop-x.invariant.count c.in-None.ensures.steps in
+    c.into_iter-x-iterator.ensures.into_iter_gives (λ x b q e. search rules)) _ (omega arith) w.1 _ c.loop-x.invariant.count c.in-None.ensures.steps in
     front_all _ _ _ c.loop-x.invariant.count _ c.loop-x.invariant.front _ e.1

@@ -1,5 +1,5 @@
 -- `slices::copy`: the first i bytes are copied.
-use Rattle.std.proofs.Common.{length, ◌≡◌, ◌++◌, drop, take}
+use Rattle.std.proofs.Common.{◌≡◌, ◌++◌, drop, take}
 use Rattle.slices.proofs.copy.Given as goal
 
 abbrev pub invariant-loop-i : goal.invariant-loop-i
