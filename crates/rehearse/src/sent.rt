@@ -19,7 +19,7 @@ impl Sent {
         }
     }
 
-    fn add(&mut self, x: &[u8; FRAME]) {
+    fn push(&mut self, x: &[u8; FRAME]) {
         if let Some(slot) = self.frames.get_mut(self.count) {
             *slot = *x;
             self.count += 1;
@@ -29,7 +29,7 @@ impl Sent {
     // The first frames of an out buffer are sent.
     pub fn send(&mut self, out: &[u8; OUT], count: u8) {
         for x in out.as_chunks::<FRAME>().0.iter().take(usize::from(count)) {
-            self.add(x);
+            self.push(x);
         }
     }
 
