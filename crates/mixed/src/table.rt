@@ -170,14 +170,6 @@ impl Table {
         }
     }
 
-    // The same in place of what is there.
-    fn clear(&mut self) {
-        for card in &mut self.cards {
-            card.begin(record::zero_replica());
-        }
-        self.given = None;
-    }
-
     fn call(&mut self, rt: &impl Print, seat: Seat, call: Call<'_>) -> Result<(), Stop> {
         let card = &mut self.cards[seat.index];
         let r = self.given.take().unwrap_or(card.record);
@@ -187,7 +179,7 @@ impl Table {
     // Carries out the task of a line.
     pub fn obey(&mut self, rt: &impl Print, task: Task<'_>) -> Result<(), Stop> {
         match task {
-            Task::Clear => self.clear(),
+            Task::Clear => *self = Table::blank(),
             Task::Begin(seat, record) => self.cards[seat.index].begin(record),
             Task::Store(seat, place, slot) => self.cards[seat.index].store(place, slot),
             Task::Mask(seat, place, mask) => self.cards[seat.index].masks[place.index] = mask,
