@@ -1,9 +1,11 @@
 // The call equivocation: two blocks that one leader signed for one round. Takes any record, and frames of any length and content.
 #![tactic(auto)]
 
-ghost use Rattle.std.specs.Prelude.{◌≡◌, length};
+ghost use Rattle.std.specs.Prelude.{◌≡◌, List, [], ◌∷◌, length};
+ghost use Rattle.sha256.specs.Fips.{sha256};
 ghost use Rattle.apollo.specs.Size.{pair_size};
-ghost use Rattle.apollo.specs.Frame.{first_frame};
+ghost use Rattle.apollo.specs.Frame.{first_frame, block_form};
+ghost use Rattle.apollo.specs.Judging.{judged_each};
 ghost use Rattle.apollo.specs.Equivocation.{marked, second, conflicting};
 ghost use Rattle.apollo.specs.Calls.{equivocation_call};
 ghost use Rattle.apollo.specs.Refused.{number, verdict_of};
@@ -32,16 +34,23 @@ fn is_conflicting(x: &[u8], y: &[u8]) -> bool
         && !slices::same_bytes(slices::part(x, CHECK, 32), slices::part(y, CHECK, 32))
 }
 
-// 7 and 8 of both, then 18.
+// 7 and 8 of a frame, which are told at that place.
+fn fault_at(s: Setup, x: &[u8], place: u32) -> Result<(), Refused>
+    ensures { verdict_of result ≡ judged_each sha256 (block_form s) place (x.now ∷ []) }
+{
+    frame_forms::fault(Kind::Block, s, x).map_err(|refusal| Refused { refusal, place })
+}
+
+// 7 and 8 of both, then 18. Each by itself: two calls of `frame_forms::fault` take less than the walk of `judging::judge_each` does.
 fn judge_two(s: Setup, frames: &[u8]) -> Result<(), Refused>
     requires { length frames.now ≡ pair_size }
     ensures { verdict_of result ≡ judged_two s (first_frame frames.now) (second frames.now) }
 {
-    judging::judge_each(Kind::Block, s, frames)?;
-    if !is_conflicting(
-        slices::part(frames, 0, FRAME),
-        slices::part(frames, FRAME, FRAME),
-    ) {
+    let first = slices::part(frames, 0, FRAME);
+    let second = slices::part(frames, FRAME, FRAME);
+    fault_at(s, first, 0)?;
+    fault_at(s, second, 1)?;
+    if !is_conflicting(first, second) {
         return Err(Refusal::NotEquivocation.into());
     }
     Ok(())

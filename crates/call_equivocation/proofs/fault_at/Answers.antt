@@ -1,0 +1,8 @@
+-- `call_equivocation::fault_at` meets its contract: a refusal at that place, or none.
+use Rattle.std.proofs.Common.{rules}
+use Rattle.call_equivocation.proofs.Call.{one_told}
+use Rattle.call_equivocation.proofs.fault_at.Goals as goal
+
+pub returns : goal.returns
+returns c =
+    one_told c.args.s c.args.x.now c.args.place c.fault.result _ _ c.fault.ensures c.map_err.ensures.cases (λ e f p. search rules)
