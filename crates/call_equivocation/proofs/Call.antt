@@ -8,24 +8,24 @@ use native.Mathlib.Omega.{arith}
 use lib.Dec.{eqb}
 use lib.ListN.{length}
 use borrow.Author.Tests.{eq-eqb, ne_eqb}
+use Rattle.std.specs.Prelude.{Result, Ok, Err}
+use Rattle.std.specs.Result.{MatchResult, IsErrAnd}
+use Rattle.std.proofs.lemmas.Result.{err_from_is_err_and}
 use Rattle.sha256.specs.Fips.{sha256}
 use Rattle.apollo.specs.declared.Replica.{Replica}
+use Rattle.apollo.specs.declared.refusal.Refusal.{Refusal}
+use Rattle.apollo.specs.declared.refusal.Refused.{Refused}
 use Rattle.apollo.specs.declared.Setup.{Setup}
 use Rattle.apollo.specs.declared.Marked.{Marked}
 use Rattle.apollo.specs.Setup.{setup_of, leader}
 use Rattle.apollo.specs.Frame.{round, block_form, first_frame}
 use Rattle.apollo.specs.Replica.{with_mark, valid_record}
-use Rattle.std.specs.Prelude.{Result, Ok, Err}
-use Rattle.apollo.specs.declared.refusal.Refusal.{Refusal}
-use Rattle.apollo.specs.declared.refusal.Refused.{Refused}
-use Rattle.apollo.specs.Refused.{number, refusal_of, verdict_of}
-use Rattle.std.specs.Result.{MatchResult, IsErrAnd}
-use Rattle.std.proofs.lemmas.Result.{err_from_is_err_and}
-use Rattle.apollo.proofs.Numbers.{number_some}
 use Rattle.apollo.specs.Judging.{Verdict, verdict, no_refusal, fault, judged_each}
+use Rattle.apollo.specs.Refused.{number, refusal_of, verdict_of}
 use Rattle.apollo.specs.Equivocation.{marked, second, conflicting}
 use Rattle.apollo.specs.Calls.{equivocation_call}
 use Rattle.apollo.proofs.Tests.{cond_true, cond_false}
+use Rattle.apollo.proofs.Numbers.{number_some}
 use Rattle.apollo.proofs.Rotation.{leader_low}
 use Rattle.apollo.proofs.Equivocation.{judged, Case, invalid_record, not_pair, faulty_frame, not_conflicting, leader_marked, by_case, case_is}
 use Rattle.apollo.proofs.Validity.{record_turns}
