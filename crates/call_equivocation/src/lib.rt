@@ -34,14 +34,17 @@ fn is_conflicting(x: &[u8], y: &[u8]) -> bool
         && !slices::same_bytes(slices::part(x, CHECK, 32), slices::part(y, CHECK, 32))
 }
 
-// 7 and 8 of a frame, which are told at that place.
+// 7 and 8 of a frame, which are told at that place. Put into both places where it is called, as `frame_forms::fault_known` is: a frame's
+// length is known there, and its judging takes less.
+#[inline(always)]
 fn fault_at(s: Setup, x: &[u8], place: u32) -> Result<(), Refused>
     ensures { verdict_of result ≡ judged_each sha256 (block_form s) place (x.now ∷ []) }
 {
-    frame_forms::fault(Kind::Block, s, x).map_err(|refusal| Refused { refusal, place })
+    let told = frame_forms::fault_known(Kind::Block, s, x, frame_forms::checked(x));
+    told.map_err(|refusal| Refused { refusal, place })
 }
 
-// 7 and 8 of both, then 18. Each by itself: two calls of `frame_forms::fault` take less than the walk of `judging::judge_each` does.
+// 7 and 8 of both, then 18.
 fn judge_two(s: Setup, frames: &[u8]) -> Result<(), Refused>
     requires { length frames.now ≡ pair_size }
     ensures { verdict_of result ≡ judged_two s (first_frame frames.now) (second frames.now) }

@@ -89,6 +89,7 @@ fn has_form(kind: Kind, s: Setup, x: &[u8]) -> bool
 }
 
 // 7 and 8 of a frame that is to have the form of that kind. `checked`: its check is right.
+#[inline(always)]
 #[tactic(auto, unfolding(apollo::specs::Judging::fault))]
 pub fn fault_known(kind: Kind, s: Setup, x: &[u8], checked: bool) -> Result<(), Refusal>
     requires { checked ≡ Frame.checked sha256 x.now }
