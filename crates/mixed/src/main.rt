@@ -4,6 +4,8 @@
 // implementation: cd tests && cargo run --release -- emit ../crates/mixed/stdin ../crates/mixed/stdout 1 2000
 #![tactic(auto)]
 
+ghost use Rattle.std.specs.Prelude.{◌≢◌, Err};
+
 mod table;
 
 use mixed_lines::input;
@@ -15,12 +17,14 @@ use table::Table;
 use text::{End, Reader, Stop};
 
 // Carries out the lines of the input. Nothing says that it ends, so they are counted, up to a number that no run uses up.
-fn run(rt: &(impl Input + Print + Eprint)) -> Result<(), Stop> {
+fn run(rt: &(impl Input + Print + Eprint)) -> Result<(), Stop>
+    ensures { result ≢ Err Stop.OutOfMemory }
+{
     let mut table = Table::blank();
     let mut bytes = Bytes::default();
     let mut words = Words::of(rt, Reader::new(rt.reader()));
     for number in 1..u64::MAX {
-        let task = input::parse(&mut words, &mut bytes);
+        let task = input::parse_words(&mut words, &mut bytes);
         let Some(end) = words.rest() else {
             return Ok(());
         };

@@ -1,4 +1,6 @@
 // The replicas, and the calls that they get.
+ghost use Rattle.std.specs.Prelude.{◌≢◌, Err};
+
 use apollo::size::FRAME;
 use apollo::{Answer, Height, Replica};
 use mixed_lines::input::{Call, Change, LOG, MASKS, OUT, Place, Seat, Size, Sizes, Task};
@@ -83,7 +85,9 @@ impl Card {
         sizes: Sizes,
         entry: &[u8],
         change: Change<'_>,
-    ) -> Result<(), Stop> {
+    ) -> Result<(), Stop>
+        ensures { result ≢ Err Stop.OutOfMemory }
+    {
         let mut out = UNTOUCHED;
         // Both by a name: `&mut self.log[..n]` beside a part of the masks has no proof, nor have names by a pattern.
         let log = &mut self.log;
@@ -105,20 +109,18 @@ impl Card {
         Ok(())
     }
 
-    fn accuse(&mut self, rt: &impl Print, r: Replica, frames: &[u8]) -> Result<(), Stop> {
+    fn accuse(&mut self, rt: &impl Print, r: Replica, frames: &[u8]) -> Result<(), Stop>
+        ensures { result ≢ Err Stop.OutOfMemory }
+    {
         let x = call_equivocation::equivocation(r, frames);
         self.keep(x.number, x.replica);
         print::marked(rt, x)
     }
 
     // Both forms of read, which have to agree.
-    fn read(
-        &self,
-        rt: &impl Print,
-        r: Replica,
-        log: Size<LOG>,
-        height: Height,
-    ) -> Result<(), Stop> {
+    fn read(&self, rt: &impl Print, r: Replica, log: Size<LOG>, height: Height) -> Result<(), Stop>
+        ensures { result ≢ Err Stop.OutOfMemory }
+    {
         let log = &self.log[..log.n];
         let part = call_read::read_part(r, log, height);
         let (number, size) = match call_read::read(r, log, height) {
@@ -135,7 +137,9 @@ impl Card {
         log: Size<LOG>,
         out: Size<OUT>,
         height: Height,
-    ) -> Result<(), Stop> {
+    ) -> Result<(), Stop>
+        ensures { result ≢ Err Stop.OutOfMemory }
+    {
         let log = &self.log[..log.n];
         let mut buffer = UNTOUCHED;
         let out = &mut buffer[..out.n];
@@ -144,7 +148,9 @@ impl Card {
     }
 
     // A call that gets the record r.
-    fn call(&mut self, rt: &impl Print, r: Replica, call: Call<'_>) -> Result<(), Stop> {
+    fn call(&mut self, rt: &impl Print, r: Replica, call: Call<'_>) -> Result<(), Stop>
+        ensures { result ≢ Err Stop.OutOfMemory }
+    {
         match call {
             Call::Change(sizes, entry, change) => self.change(rt, r, sizes, entry, change),
             Call::Equivocation(frames) => self.accuse(rt, r, frames),
@@ -170,14 +176,18 @@ impl Table {
         }
     }
 
-    fn call(&mut self, rt: &impl Print, seat: Seat, call: Call<'_>) -> Result<(), Stop> {
+    fn call(&mut self, rt: &impl Print, seat: Seat, call: Call<'_>) -> Result<(), Stop>
+        ensures { result ≢ Err Stop.OutOfMemory }
+    {
         let card = &mut self.cards[seat.index];
         let r = self.given.take().unwrap_or(card.record);
         card.call(rt, r, call)
     }
 
     // Carries out the task of a line.
-    pub fn obey(&mut self, rt: &impl Print, task: Task<'_>) -> Result<(), Stop> {
+    pub fn obey(&mut self, rt: &impl Print, task: Task<'_>) -> Result<(), Stop>
+        ensures { result ≢ Err Stop.OutOfMemory }
+    {
         match task {
             Task::Clear => *self = Table::blank(),
             Task::Begin(seat, record) => self.cards[seat.index].begin(record),

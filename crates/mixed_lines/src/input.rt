@@ -1,11 +1,13 @@
 // A line of the input.
-ghost use Rattle.std.specs.Prelude.{◌≤◌, ◌<◌, IsSome, OnSome};
+ghost use Rattle.std.specs.Prelude.{◌≢◌, ◌≤◌, ◌<◌, All, IsSome, OnSome};
 
 use crate::words::Words;
 use apollo::size::FRAME;
 use apollo::{Height, Replica, Round, Ticks};
 use arrayvec::ArrayVec;
-use std::io::Read;
+use std::fmt::Display;
+use std::io::{Read, Result};
+use text::Reader;
 
 // A replica's masks, one for each round.
 pub const MASKS: usize = 9;
@@ -173,7 +175,7 @@ impl<'a> Call<'a> {
         Some(Call::Change(sizes, entry, change(frames)))
     }
 
-    // The words after the letter and the replica. A letter stands in one place, here or in `parse`, so no type names it.
+    // The words after the letter and the replica. A letter stands in one place, here or in `parse_words`, so no type names it.
     fn of<R: Read, P: Eprint>(
         letter: u8,
         words: &mut Words<'_, R, P>,
@@ -204,8 +206,31 @@ impl<'a> Call<'a> {
     }
 }
 
-// The task of a line, none if it is none of the list: the rest of such a line is still to be read.
-pub fn parse<'a, R: Read, P: Eprint>(
+// Takes what is told of a reader that never fails.
+struct Silence;
+
+impl Eprint for Silence {
+    fn eprint<D: Display + Drop>(&self, _: D) -> Result<()> {
+        Ok(())
+    }
+
+    fn eprintln<D: Display + Drop>(&self, _: D) -> Result<()> {
+        Ok(())
+    }
+}
+
+// The task of a line, none if it is none of the list. A line has no newline in it.
+pub fn parse<'a>(line: &[u8], bytes: &'a mut Bytes) -> Option<Task<'a>>
+    ensures { OnSome result (All (λ b. b ≢ 10) line.now) }
+{
+    if line.contains(&b'\n') {
+        return None;
+    }
+    parse_words(&mut Words::of(&Silence, Reader::new(line)), bytes)
+}
+
+// The task of the line that the words are of, none if it is none of the list: the rest of such a line is still to be read.
+pub fn parse_words<'a, R: Read, P: Eprint>(
     words: &mut Words<'_, R, P>,
     bytes: &'a mut Bytes,
 ) -> Option<Task<'a>>

@@ -4,4 +4,6 @@
 
 pub mod input;
 pub mod print;
+#[cfg(test)]
+mod tests;
 pub mod words;

@@ -1,4 +1,6 @@
 // The lines of the results.
+ghost use Rattle.std.specs.Prelude.{◌≢◌, Err};
+
 use apollo::{Answer, Fetched, Marked, Replica};
 use text::{Line, Stop};
 
@@ -10,7 +12,9 @@ fn digits<const N: usize>(bytes: &[u8]) -> [u8; N] {
 }
 
 // Prints numbers and a digest.
-fn row(rt: &impl Print, ns: &[u64], digest: [u8; 32]) -> Result<(), Stop> {
+fn row(rt: &impl Print, ns: &[u64], digest: [u8; 32]) -> Result<(), Stop>
+    ensures { result ≢ Err Stop.OutOfMemory }
+{
     let mut line = Line::<256>::new();
     line.put_row(ns, b" ");
     line.put(&digits::<64>(&digest));
@@ -19,7 +23,9 @@ fn row(rt: &impl Print, ns: &[u64], digest: [u8; 32]) -> Result<(), Stop> {
 }
 
 // Prints the digest of some bytes.
-pub fn digest(rt: &impl Print, bytes: &[u8]) -> Result<(), Stop> {
+pub fn digest(rt: &impl Print, bytes: &[u8]) -> Result<(), Stop>
+    ensures { result ≢ Err Stop.OutOfMemory }
+{
     let mut line = Line::<65>::new();
     line.put(&digits::<64>(&sha256::digest(bytes)));
     line.put(b"\n");
@@ -58,13 +64,9 @@ fn put_record(line: &mut Line<256>, r: &Replica) {
 }
 
 // Prints an answer, and the digest of what was lent.
-pub fn answer(
-    rt: &impl Print,
-    x: Answer,
-    log: &[u8],
-    masks: &[u16],
-    out: &[u8],
-) -> Result<(), Stop> {
+pub fn answer(rt: &impl Print, x: Answer, log: &[u8], masks: &[u16], out: &[u8]) -> Result<(), Stop>
+    ensures { result ≢ Err Stop.OutOfMemory }
+{
     let ns = [
         u64::from(x.number),
         u64::from(x.place),
@@ -81,7 +83,9 @@ pub fn answer(
 }
 
 // Prints the answer of an equivocation, for which no buffer is lent to write to.
-pub fn marked(rt: &impl Print, x: Marked) -> Result<(), Stop> {
+pub fn marked(rt: &impl Print, x: Marked) -> Result<(), Stop>
+    ensures { result ≢ Err Stop.OutOfMemory }
+{
     let mut line = Line::<256>::new();
     line.put_row(&[u64::from(x.number), u64::from(x.place)], b" ");
     put_record(&mut line, &x.replica);
@@ -90,13 +94,9 @@ pub fn marked(rt: &impl Print, x: Marked) -> Result<(), Stop> {
 }
 
 // Prints the answer of a read and the digest of the lent log.
-pub fn entry(
-    rt: &impl Print,
-    number: u8,
-    start: usize,
-    size: usize,
-    log: &[u8],
-) -> Result<(), Stop> {
+pub fn entry(rt: &impl Print, number: u8, start: usize, size: usize, log: &[u8]) -> Result<(), Stop>
+    ensures { result ≢ Err Stop.OutOfMemory }
+{
     row(
         rt,
         &[u64::from(number), start as u64, size as u64],
@@ -105,7 +105,9 @@ pub fn entry(
 }
 
 // Prints the answer of a fetch and the digest of what was lent.
-pub fn fetched(rt: &impl Print, x: Fetched, log: &[u8], out: &[u8]) -> Result<(), Stop> {
+pub fn fetched(rt: &impl Print, x: Fetched, log: &[u8], out: &[u8]) -> Result<(), Stop>
+    ensures { result ≢ Err Stop.OutOfMemory }
+{
     row(
         rt,
         &[u64::from(x.number), x.count as u64],

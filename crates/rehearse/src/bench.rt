@@ -1,5 +1,5 @@
 // The replicas at the bench.
-ghost use Rattle.std.specs.Prelude.{◌≡◌};
+ghost use Rattle.std.specs.Prelude.{◌≡◌, ◌≢◌, Err};
 ghost use Rattle.apollo.specs.Rotation.{in_turn};
 ghost use Rattle.text.specs.Fitted.{bytes_of};
 ghost use Rattle.rehearse.specs.Shown.{shown};
@@ -138,7 +138,9 @@ impl Bench {
     }
 
     // A step of a replica is carried out, and its answer printed at once.
-    pub fn obey(&mut self, rt: &impl Print, command: Command) -> Result<(), Stop> {
+    pub fn obey(&mut self, rt: &impl Print, command: Command) -> Result<(), Stop>
+        ensures { result ≢ Err Stop.OutOfMemory }
+    {
         let card = &mut self.cards[command.replica];
         let mut out = [0; OUT];
         let Some(x) = card.answer(command.step, &self.sent, &mut out) else {

@@ -3,6 +3,8 @@
 // round and the committed round. A line that is neither is told on standard error and passed over.
 #![tactic(auto)]
 
+ghost use Rattle.std.specs.Prelude.{◌≢◌, Err};
+
 mod bench;
 mod command;
 mod sent;
@@ -14,10 +16,12 @@ use std::process::ExitCode;
 use text::{Line, Reader, Stop};
 
 // Carries out the lines of the input. Of each the first five bytes are kept: no command has more than four, with its carriage return.
-fn run(rt: &(impl Input + Print + Eprint)) -> Result<(), Stop> {
+fn run(rt: &(impl Input + Print + Eprint)) -> Result<(), Stop>
+    ensures { result ≢ Err Stop.OutOfMemory }
+{
     let mut bench = Bench::open();
     let mut reader = Reader::new(rt.reader());
-    text::run(
+    text::run_cut(
         rt,
         &mut reader,
         &mut Line::<5>::new(),

@@ -4,3 +4,4 @@ pub mod Fitted
 pub mod Lines
 pub mod Reading
 pub mod Running
+pub mod RunningCut

@@ -6,7 +6,10 @@ mod row;
 mod stdin;
 mod stdout;
 
-pub use program::run;
+pub use program::{run, run_cut};
 pub use row::put_row;
 pub use stdin::{End, Piece, Reader, no_command};
 pub use stdout::{Line, Stop, ended, print};
+
+#[cfg(test)]
+mod tests;

@@ -1,11 +1,12 @@
 // The lines of standard input.
-ghost use Rattle.std.specs.Prelude.{◌≡◌, ◌≢◌, ◌<◌, [], ◌∷◌, take, All};
+ghost use Rattle.std.specs.Prelude.{◌≡◌, ◌≢◌, ◌<◌, [], ◌∷◌, ◌++◌, take, All, IfOk};
 ghost use Rattle.std.specs.Option.{option_to_list};
 ghost use Rattle.std.specs.Io.KnownBytes.{Consumes};
-ghost use Rattle.text.specs.Reading.{taken, behind, unread, Next, to_come, Cut};
+ghost use Rattle.text.specs.Reading.{taken, behind, unread, Next, to_come, ending, Cut};
 ghost use Rattle.text.specs.Fitted.{bytes_of};
 
 use crate::stdout::Line;
+use std::alloc::AllocError;
 use std::io::{Error, Read};
 
 // What was read last: of these bytes, those from `at` up to `end` are still to come. A piece of its own, since std's BufReader
@@ -90,9 +91,33 @@ impl<R: Read> Reader<R> {
         self.piece.take()
     }
 
+    // Reads the next line, without its end, and answers what ended it, or None where the input had no byte left for a line. Nothing
+    // says that the input or a line ends, so the bytes are counted, up to a number that no run uses up.
+    pub fn read_line(
+        &mut self,
+        rt: &impl Eprint,
+        line: &mut Vec<u8>,
+    ) -> Result<Option<End>, AllocError>
+        ensures bytes { IfOk result (λ end. Consumes (to_come self.old.piece (R.remaining self.old.from))
+            (to_come self.new.piece (R.remaining self.new.from)) (line.new.items ++ ending end)) }
+        ensures one { All (λ b. b ≢ 10) line.new.items }
+        ensures none { result ≡ Ok None → line.new.items ≡ [] }
+        ensures last { result ≡ Ok (Some End.Input) → line.new.items ≢ [] }
+    {
+        line.clear();
+        for _ in 0..u64::MAX {
+            match self.next(rt) {
+                None => break,
+                Some(b'\n') => return Ok(Some(End::Newline)),
+                Some(b) => line.push(b)?,
+            }
+        }
+        Ok((!line.is_empty()).then_some(End::Input))
+    }
+
     // Reads the next line, without its end, of which it keeps the first N bytes, and answers what ended it, or None where the input had
     // no byte left for a line. Nothing says that the input or a line ends, so the bytes are counted, up to a number that no run uses up.
-    pub fn read_line<const N: usize>(&mut self, rt: &impl Eprint, line: &mut Line<N>) -> Option<End>
+    pub fn read_cut<const N: usize>(&mut self, rt: &impl Eprint, line: &mut Line<N>) -> Option<End>
         ensures bytes { Cut N (to_come self.old.piece (R.remaining self.old.from)) (to_come self.new.piece (R.remaining self.new.from))
             (bytes_of line.new) result }
         ensures one { All (λ b. b ≢ 10) (bytes_of line.new) }

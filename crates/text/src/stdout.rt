@@ -1,9 +1,11 @@
 // A line of text, put together from pieces and written at once.
-ghost use Rattle.std.specs.Prelude.{◌≡◌, []};
+ghost use Rattle.std.specs.Prelude.{◌≡◌, ◌≢◌, [], Err};
+ghost use Rattle.text.specs.declared.stdout.Stop.TheVariants.{OutOfMemory};
 ghost use Rattle.text.specs.Status.{status};
 ghost use Rattle.text.specs.Fitted.{put, put_number, put_row, bytes_of};
 
 use crate::row;
+use std::alloc::AllocError;
 use std::io::Error;
 use std::process::ExitCode;
 
@@ -11,6 +13,15 @@ use std::process::ExitCode;
 #[derive(Debug, Drop)]
 pub enum Stop {
     Output(Error), // a line could not be written
+    OutOfMemory,
+}
+
+impl From<AllocError> for Stop {
+    ghost from_gives = { λ _ s. s ≡ OutOfMemory };
+
+    fn from(_: AllocError) -> Stop {
+        Self::OutOfMemory
+    }
 }
 
 // A line of at most N bytes, which are written up to `end`. A piece that does not fit is left out: what is there then, the clause of
@@ -53,17 +64,21 @@ impl<const N: usize> Line<N> {
     }
 
     // Writes the line to standard output.
-    pub fn print(&self, rt: &impl Print) -> Result<(), Stop> {
+    pub fn print(&self, rt: &impl Print) -> Result<(), Stop>
+        ensures { result ≢ Err Stop.OutOfMemory }
+    {
         print(rt, self.written())
     }
 }
 
 // Writes a line to standard output.
-pub fn print(rt: &impl Print, line: &[u8]) -> Result<(), Stop> {
+pub fn print(rt: &impl Print, line: &[u8]) -> Result<(), Stop>
+    ensures { result ≢ Err Stop.OutOfMemory }
+{
     rt.write_all(line).map_err(Stop::Output)
 }
 
-// Tells what ended a program, if anything did. None of it is a failure: who takes the output may end it.
+// Tells what ended a program, if anything did. Only a lack of memory is a failure: who takes the output may end it.
 pub fn ended(rt: &impl Eprint, run: Result<(), Stop>) -> ExitCode
     ensures { result.status ≡ status run }
 {
@@ -72,6 +87,10 @@ pub fn ended(rt: &impl Eprint, run: Result<(), Stop>) -> ExitCode
         Err(Stop::Output(e)) => {
             let _ = eprintln!(rt; "standard output: {e}");
             ExitCode::SUCCESS
+        }
+        Err(Stop::OutOfMemory) => {
+            let _ = eprintln!(rt; "out of memory");
+            ExitCode::FAILURE
         }
     }
 }

@@ -4,8 +4,8 @@ use Rattle.text.proofs.Running.{Whole}
 use Rattle.text.proofs.program.run.Given as goal
 use denote.Param.Always.{always_mut}
 
-abbrev pub invariant-loop-number : goal.invariant-loop-number
-invariant-loop-number g l =
+abbrev pub invariant-loop-count : goal.invariant-loop-count
+invariant-loop-count g l =
     (always_mut g.F.FnMut l.initial.obey → always_mut g.F.FnMut l.obey)
-    × Whole g.row.N g.F.FnMut l.initial.obey (to_come l.initial.reader.piece (g.R.Read.remaining l.initial.reader.from)) l.obey
+    × Whole g.F.FnMut l.initial.obey (to_come l.initial.reader.piece (g.R.Read.remaining l.initial.reader.from)) l.obey
     (to_come l.reader.piece (g.R.Read.remaining l.reader.from))

@@ -1,0 +1,11 @@
+-- The loop of `run_cut`: the lines so far were whole, and were carried out.
+use Rattle.text.specs.Reading.{to_come}
+use Rattle.text.proofs.RunningCut.{Whole}
+use Rattle.text.proofs.program.run_cut.Given as goal
+use denote.Param.Always.{always_mut}
+
+abbrev pub invariant-loop-number : goal.invariant-loop-number
+invariant-loop-number g l =
+    (always_mut g.F.FnMut l.initial.obey → always_mut g.F.FnMut l.obey)
+    × Whole g.row.N g.F.FnMut l.initial.obey (to_come l.initial.reader.piece (g.R.Read.remaining l.initial.reader.from)) l.obey
+    (to_come l.reader.piece (g.R.Read.remaining l.reader.from))
