@@ -1,6 +1,6 @@
 -- `call_equivocation::fault_at` meets its contract: a refusal at that place, or none.
 use Rattle.std.proofs.Common.{rules}
-use Rattle.call_equivocation.proofs.Call.{one_told}
+use Rattle.call_equivocation.proofs.Each.{one_told}
 use Rattle.call_equivocation.proofs.fault_at.Goals as goal
 
 pub returns : goal.returns

@@ -2,7 +2,7 @@
 use Rattle.std.proofs.Common.{refl}
 use Rattle.std.proofs.lemmas.Result.{err_from_is_err_and}
 use Rattle.apollo.proofs.Numbers.{number_some, refused_verdict, taken_verdict}
-use Rattle.call_equivocation.proofs.Call.{first_faulty, second_faulty, two_alike, two_conflicting}
+use Rattle.call_equivocation.proofs.Each.{first_faulty, second_faulty, two_alike, two_conflicting}
 use Rattle.call_equivocation.proofs.judge_two.Goals as goal
 
 pub returns-in_err-fault_at : goal.returns-in_err-fault_at
